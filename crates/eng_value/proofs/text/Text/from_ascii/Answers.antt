@@ -1,0 +1,6 @@
+-- ASCII bytes are UTF-8.
+use Rattle.std.proofs.lemmas.Str.{IsUtf8-from_ascii}
+use Rattle.eng_value.proofs.text.Text.from_ascii.Goals as goal
+
+pub unreachable-requires : goal.unreachable-requires
+unreachable-requires c = c.in-Err.ensures.cases.0 (IsUtf8-from_ascii _ c.requires)

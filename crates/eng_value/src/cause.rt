@@ -1,0 +1,59 @@
+// Why a statement is refused.
+ghost use Rattle.std.specs.Prelude.{◌≡◌, ◌++◌, OnOk};
+ghost use Rattle.eng_value.specs.CauseText.{code_of, text_of};
+ghost use Rattle.eng_value.specs.declared.cause.Cause.TheVariants.{Mem};
+
+use crate::Text;
+use std::alloc::AllocError;
+
+/// Why a statement is refused. Each cause has a result code (Result and Error Codes) and a text.
+#[derive(Debug, Drop)]
+pub enum Cause {
+    /// The statement holds a construct that is not built yet.
+    NotYet,
+    /// No memory was found.
+    Mem,
+    /// A row of this table would need a rowid above the largest.
+    Full(Text),
+}
+
+impl Cause {
+    /// The result code.
+    pub fn code(&self) -> u8
+        ensures { result ≡ code_of self.now }
+    {
+        match self {
+            Cause::NotYet => 1,
+            Cause::Mem => 7,
+            Cause::Full(_) => 13,
+        }
+    }
+
+    /// Writes the text behind `out`.
+    pub fn write_text(&self, out: &mut Vec<u8>) -> Result<(), AllocError>
+        ensures { OnOk result (out.new.items ≡ out.old.items ++ text_of self.now) }
+    {
+        match self {
+            Cause::NotYet => out.extend_from_slice(b"not built yet"),
+            Cause::Mem => out.extend_from_slice(b"out of memory"),
+            Cause::Full(table) => append_both(out, b"table is full: ", table.as_bytes()),
+        }
+    }
+}
+
+/// Writes one text and then another behind `out`.
+fn append_both(out: &mut Vec<u8>, first: &[u8], second: &[u8]) -> Result<(), AllocError>
+    ensures { OnOk result (out.new.items ≡ out.old.items ++ (first.now ++ second.now)) }
+{
+    out.extend_from_slice(first)?;
+    out.extend_from_slice(second)?;
+    Ok(())
+}
+
+impl From<AllocError> for Cause {
+    ghost from_gives = { λ _ cause. cause ≡ Mem };
+
+    fn from(_: AllocError) -> Cause {
+        Cause::Mem
+    }
+}

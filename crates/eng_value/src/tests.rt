@@ -1,0 +1,101 @@
+// Each public call with ample memory.
+use super::*;
+use std::alloc::{AllocError, Global};
+use std::cmp::Ordering;
+use std::marker::Brand;
+use std::mem::size_of;
+use std::test::Fail;
+
+fn text(alloc: Global, text: &str) -> Result<Value, AllocError> {
+    Ok(Value::Text(Text::from_str(alloc, text)?))
+}
+
+fn blob(alloc: Global, bytes: &[u8]) -> Result<Value, AllocError> {
+    Ok(Value::Blob(Blob::from_slice(alloc, bytes)?))
+}
+
+// Values in the order that Datatypes In SQLite gives them.
+fn ascending(alloc: Global) -> Result<Vec<Value>, AllocError> {
+    let mut values = Vec::new(alloc);
+    values.push(Value::Null)?;
+    values.push(Value::Integer(i64::MIN))?;
+    values.push(Value::Integer(-1))?;
+    values.push(Value::Integer(0))?;
+    values.push(Value::Integer(MAX_ROWID))?;
+    values.push(text(alloc, "")?)?;
+    values.push(text(alloc, "A")?)?;
+    values.push(text(alloc, "a")?)?;
+    values.push(text(alloc, "ab")?)?;
+    values.push(text(alloc, "é")?)?;
+    values.push(blob(alloc, b"")?)?;
+    values.push(blob(alloc, b"\x00")?)?;
+    values.push(blob(alloc, b"\xff")?)?;
+    Ok(values)
+}
+
+#[test]
+fn values_stand_in_their_order(rt: HostRuntime) -> Result<(), Fail> {
+    let values = ascending(rt.alloc())?;
+    for (i, a) in values.iter().enumerate() {
+        for (j, b) in values.iter().enumerate() {
+            assert_eq!(rt; a.compare(b), i.cmp(&j), "{i} and {j}");
+            assert_eq!(rt; a.clone()?.compare(b), i.cmp(&j), "a copy of {i} and {j}");
+        }
+    }
+    Ok(())
+}
+
+#[test]
+fn causes_have_codes_and_texts(rt: HostRuntime) -> Result<(), Fail> {
+    let alloc = rt.alloc();
+    let full = Cause::Full(Text::from_str(alloc, "T1")?);
+    let causes = vec![in alloc; Cause::NotYet, Cause::from(AllocError), full]?;
+    let wanted = [
+        (1, "not built yet"),
+        (7, "out of memory"),
+        (13, "table is full: T1"),
+    ];
+    for (cause, (code, text)) in causes.iter().zip(wanted) {
+        let mut written = vec![in alloc; b'>']?;
+        cause.write_text(&mut written)?;
+        assert_eq!(rt; cause.code(), code);
+        assert_eq!(rt; &written[1..], text.as_bytes());
+    }
+    Ok(())
+}
+
+#[test]
+fn texts_and_blobs_give_back_what_they_took(rt: HostRuntime) -> Result<(), Fail> {
+    let alloc = rt.alloc();
+    let text = Text::new("né".to_string(alloc)?);
+    assert_eq!(rt; text.as_str(), "né");
+    assert_eq!(rt; text.clone()?.as_bytes(), b"n\xc3\xa9".as_slice());
+    assert_eq!(rt; text.into_string().as_str(), "né");
+    let blob = Blob::new(b"\xff\x00".to_vec(alloc)?);
+    assert_eq!(rt; blob.clone()?.as_slice(), b"\xff\x00".as_slice());
+    assert_eq!(rt; blob.into_vec().as_slice(), b"\xff\x00".as_slice());
+    Ok(())
+}
+
+#[test]
+fn rows_keep_their_order(rt: HostRuntime) -> Result<(), Fail> {
+    let alloc = rt.alloc();
+    let mut row = Row::new(vec![in alloc; Value::Integer(1)]?);
+    row.push(Value::Null)?;
+    assert_eq!(rt; row.as_slice().len(), 2);
+    let mut rows = Rows::empty(alloc);
+    rows.push(Row::empty(alloc))?;
+    rows.push(row)?;
+    assert_eq!(rt; rows.as_slice().len(), 2);
+    let mut lengths = Vec::new(alloc);
+    for row in Rows::new(rows.into_vec()).into_vec() {
+        lengths.push(row.into_vec().len())?;
+    }
+    assert_eq!(rt; lengths.as_slice(), [0, 2].as_slice());
+    Ok(())
+}
+
+#[test]
+fn steps_take_no_bytes(rt: HostRuntime) {
+    assert_eq!(rt; size_of::<Steps<Brand>>(), 0);
+}

@@ -1,0 +1,38 @@
+-- What was read, and what was written of what is due.
+use Rattle.std.specs.Prelude.{◌≡◌, ℕ, ◌+◌, List, ◌++◌, ⊤, length, Some, None}
+use Rattle.std.specs.declared.option.Option.{Option}
+use Rattle.std.specs.Io.KnownBytes.{Appends, IsAtEnd}
+use Rattle.eng_value.specs.HostMeanings.{HostMeanings}
+use Rattle.eng_value.specs.declared.limits.TheConstants.{MAX_SCRIPT_BYTES}
+use Rattle.sql_meaning.specs.declared.ending.Ending.{Ending}
+use Rattle.sql_meaning.specs.declared.ending.Ending.TheVariants.{End, ReadFault, TooLong}
+use Rattle.sql_meaning.specs.Script.{script_lines, script_status}
+
+-- a source that tells had these bytes in front of what it has left
+abbrev pub IsRead : Option (List ℕ) → Option (List ℕ) → List ℕ → Type 0
+IsRead None left bytes = ⊥
+IsRead (Some xs) None bytes = ⊥
+IsRead (Some xs) (Some ys) bytes = xs ≡ bytes ++ ys
+
+-- what was written since, and then the rest, is all that is due
+abbrev pub Along : Option (List ℕ) → Option (List ℕ) → List ℕ → List ℕ → Type 0
+Along old new rest all = (part : List ℕ) × Appends old new part × (part ++ rest ≡ all)
+
+-- a front of what is due was written
+abbrev pub CutShort : Option (List ℕ) → Option (List ℕ) → List ℕ → Type 0
+CutShort old new all = (rest : List ℕ) × Along old new rest all
+
+-- the bytes may have this ending, with `left` behind them: the end only where nothing is left, a byte past the limit only where it was read
+abbrev pub MayEnd : List ℕ → Option (List ℕ) → Ending → Type 0
+MayEnd bytes left End = IsAtEnd left
+MayEnd bytes left ReadFault = ⊤
+MayEnd bytes left TooLong = length bytes ≡ MAX_SCRIPT_BYTES + 1
+
+-- all that is due for these bytes was written, and the status is theirs
+pub record IsScript (hosts : HostMeanings) (bytes : List ℕ) (ending : Ending) (old new : Option (List ℕ)) (status : ℕ) : Type 0 where
+  pub lines : Appends old new (script_lines hosts bytes ending)
+  pub result : status ≡ script_status hosts bytes ending
+
+-- a front of what is due for these bytes was written
+abbrev pub IsFrontOfScript : HostMeanings → List ℕ → Option (List ℕ) → Option (List ℕ) → Option (List ℕ) → Type 0
+IsFrontOfScript hosts bytes left old new = (ending : Ending) × MayEnd bytes left ending × CutShort old new (script_lines hosts bytes ending)

@@ -1,0 +1,113 @@
+// The tokens of a statement's text.
+use eng_value::Text;
+
+/// A reserved word that the grammar wants.
+#[derive(Clone, Copy, Debug, PartialEq, Eq)]
+pub enum Keyword {
+    Create,
+    Table,
+    Insert,
+    Into,
+    Values,
+    Select,
+    From,
+    Where,
+    /// A reserved word that stands in no statement yet.
+    Other,
+}
+
+/// A token.
+#[derive(Debug, Drop)]
+pub enum Token {
+    Keyword(Keyword),
+    /// A word that is not reserved, as written.
+    Name(Text),
+    /// A whole number of 1 to 18 digits.
+    Number(i64),
+    /// What stands inside a `'..'`.
+    Text(Text),
+    Open,
+    Close,
+    Comma,
+    Greater,
+    /// A stretch of bytes that stands in no statement.
+    Illegal,
+}
+
+/// The words that are no names (this dialect's own list). They count without regard to the case of ASCII letters.
+pub const RESERVED_WORDS: [&str; 74] = [
+    "ALL",
+    "AND",
+    "AS",
+    "AUTOINCREMENT",
+    "BETWEEN",
+    "CASE",
+    "CAST",
+    "CHECK",
+    "COLLATE",
+    "COMMIT",
+    "CONSTRAINT",
+    "CREATE",
+    "CROSS",
+    "DEFAULT",
+    "DELETE",
+    "DISTINCT",
+    "DROP",
+    "ELSE",
+    "END",
+    "ESCAPE",
+    "EXCEPT",
+    "EXISTS",
+    "FALSE",
+    "FILTER",
+    "FROM",
+    "FULL",
+    "GLOB",
+    "GROUP",
+    "HAVING",
+    "IF",
+    "IN",
+    "INDEX",
+    "INNER",
+    "INSERT",
+    "INTERSECT",
+    "INTO",
+    "IS",
+    "ISNULL",
+    "JOIN",
+    "LEFT",
+    "LIKE",
+    "LIMIT",
+    "NATURAL",
+    "NOT",
+    "NOTNULL",
+    "NULL",
+    "ON",
+    "OR",
+    "ORDER",
+    "OUTER",
+    "OVER",
+    "PRIMARY",
+    "RAISE",
+    "RECURSIVE",
+    "REFERENCES",
+    "RETURNING",
+    "RIGHT",
+    "SAVEPOINT",
+    "SELECT",
+    "SET",
+    "TABLE",
+    "THEN",
+    "TO",
+    "TRANSACTION",
+    "TRUE",
+    "UNION",
+    "UNIQUE",
+    "UPDATE",
+    "USING",
+    "VALUES",
+    "WHEN",
+    "WHERE",
+    "WINDOW",
+    "WITH",
+];

@@ -1,0 +1,9 @@
+pub mod Cuts
+pub mod Due
+pub mod Execution
+pub mod Joined
+pub mod Lexemes
+pub mod Running
+pub mod Selecting
+pub mod Whole
+pub mod Worlds

@@ -1,0 +1,6 @@
+use Rattle.std.proofs.Common.{arith}
+use Rattle.sql_shell.proofs.Whole.{nothing_told}
+use Rattle.sql_shell.proofs.top.run.Goals as goal
+
+pub returns-then-words-gt1-clause-past_limit : goal.returns-then-words-gt1-clause-past_limit
+returns-then-words-gt1-clause-past_limit g c bytes told past = absurd (omega (arith, nothing_told _ bytes told))

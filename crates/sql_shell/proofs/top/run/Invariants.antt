@@ -1,0 +1,5 @@
+use Rattle.sql_shell.specs.Meant.{meant}
+use Rattle.sql_shell.proofs.top.run.Given as goal
+
+abbrev pub ghosts-run_source : goal.ghosts-run_source
+ghosts-run_source g a = record { hosts = meant a.hosts.now }

@@ -1,0 +1,76 @@
+// The lines of a statement's outcome.
+ghost use Rattle.std.specs.Prelude.{◌≡◌, ◌++◌, ◌∷◌, [], map, OnOk};
+ghost use Rattle.std.specs.List.{flat_map, join_with_byte};
+ghost use Rattle.sql_meaning.specs.Script.{printed, row_line, refusal_line};
+
+use eng_value::{Cause, Row, Rows, Value};
+use itoa::Buffer;
+use std::alloc::AllocError;
+
+/// Writes a value behind `lines`: NULL as nothing, a text and a blob as their bytes.
+fn print_value(value: &Value, lines: &mut Vec<u8>) -> Result<(), AllocError>
+    ensures { OnOk result (lines.new.items ≡ lines.old.items ++ printed value.now) }
+{
+    match value {
+        Value::Null => Ok(()),
+        Value::Integer(n) => lines.extend_from_slice(Buffer::new().format(*n).as_bytes()),
+        Value::Text(text) => lines.extend_from_slice(text.as_bytes()),
+        Value::Blob(blob) => lines.extend_from_slice(blob.as_slice()),
+    }
+}
+
+/// Writes each value with a `|` in front.
+fn print_others(values: &[Value], lines: &mut Vec<u8>) -> Result<(), AllocError>
+    ensures { OnOk result (lines.new.items ≡ lines.old.items ++ flat_map (λ v. 124 ∷ printed v) values.now) }
+{
+    for value in values {
+        lines.push(b'|')?;
+        print_value(value, lines)?;
+    }
+    Ok(())
+}
+
+/// Writes the values of a row, joined by `|`.
+fn print_values(values: &[Value], lines: &mut Vec<u8>) -> Result<(), AllocError>
+    ensures { OnOk result (lines.new.items ≡ lines.old.items ++ join_with_byte 124 (map printed values.now)) }
+{
+    match values {
+        [] => Ok(()),
+        [first, others @ ..] => {
+            print_value(first, lines)?;
+            print_others(others, lines)?;
+            Ok(())
+        }
+    }
+}
+
+/// Writes the line of a row.
+fn print_row(row: &Row, lines: &mut Vec<u8>) -> Result<(), AllocError>
+    ensures { OnOk result (lines.new.items ≡ lines.old.items ++ row_line row.now) }
+{
+    print_values(row.as_slice(), lines)?;
+    lines.push(b'\n')?;
+    Ok(())
+}
+
+/// Writes a line for each row.
+pub(crate) fn print_rows(rows: &Rows, lines: &mut Vec<u8>) -> Result<(), AllocError>
+    ensures { OnOk result (lines.new.items ≡ lines.old.items ++ flat_map row_line rows.now) }
+{
+    for row in rows.as_slice() {
+        print_row(row, lines)?;
+    }
+    Ok(())
+}
+
+/// Writes the line of a refusal: `Error <code>: <text>`.
+pub(crate) fn print_refusal(why: &Cause, lines: &mut Vec<u8>) -> Result<(), AllocError>
+    ensures { OnOk result (lines.new.items ≡ lines.old.items ++ refusal_line why.now) }
+{
+    lines.extend_from_slice(b"Error ")?;
+    lines.extend_from_slice(Buffer::new().format(why.code()).as_bytes())?;
+    lines.extend_from_slice(b": ")?;
+    why.write_text(lines)?;
+    lines.push(b'\n')?;
+    Ok(())
+}

@@ -1,0 +1,298 @@
+// Scripts over memory, with what they write and the status that they end with.
+ghost use Rattle.std.specs.Prelude.{◌≡◌, ◌<◌};
+
+use super::*;
+use eng_value::{MAX_SCRIPT_BYTES, Steps};
+use host_traits::{MemorySink, MemorySource, ReadAnswer, Sink, Source};
+use std::alloc::{AllocError, Global};
+use std::marker::Brand;
+use std::sync::ledger::{Blank, Ledger};
+use std::test::Fail;
+
+const FIRST: &str =
+    "CREATE TABLE t(a INTEGER, b TEXT); INSERT INTO t VALUES(12, 'x'); SELECT b, a FROM t WHERE a > 3;";
+
+const REFUSED: &str = "Error 1: not built yet\n";
+
+// How the source hands out its bytes, and which of its reads and of the sink's writes fail.
+#[derive(Clone, Copy)]
+struct Faults<'a> {
+    piece: usize,
+    reads: &'a [u64],
+    writes: &'a [u64],
+}
+
+const NONE: Faults<'static> = Faults {
+    piece: 1000,
+    reads: &[],
+    writes: &[],
+};
+
+#[derive(Drop)]
+struct Answer {
+    status: u8,
+    written: Vec<u8>,
+}
+
+// Runs with steps that nobody reads.
+fn run_uncounted<S: Source, K: Sink, L: Ledger>(
+    blank: Blank,
+    alloc: Global,
+    words: &[String],
+    src: &mut S,
+    out: &mut K,
+) -> u8
+    requires name { blank.name ≡ L.name }
+    requires parts { blank.parts ≡ L.parts }
+    requires some { 0 < blank.parts }
+{
+    let mut steps = Steps::<L>::new(blank);
+    run(alloc, words, &mut Hosts {}, src, out, &mut steps)
+}
+
+#[test]
+fn a_program_runs_a_script(rt: HostRuntime) -> Result<(), Fail> {
+    let alloc = rt.alloc();
+    let words = vec![in alloc; "my_program".to_string(alloc)?]?;
+    let script = b"CREATE TABLE t(a INTEGER, b TEXT);
+        INSERT INTO t VALUES(12, 'x');
+        SELECT b, a FROM t WHERE a > 3;";
+    let mut src = MemorySource::new(script.to_vec(alloc)?, 4096, Vec::new(alloc));
+    let mut out = MemorySink::new(Vec::new(alloc), 4096, Vec::new(alloc));
+    let status = run_uncounted::<_, _, Brand>(Blank::new(1), alloc, &words, &mut src, &mut out);
+    assert_eq!(rt; out.bytes(), b"x|12\n".as_slice());
+    assert_eq!(rt; status, 0);
+    Ok(())
+}
+
+fn answer_from(
+    alloc: Global,
+    words: &[String],
+    src: &mut MemorySource,
+    writes: &[u64],
+) -> Result<Answer, AllocError> {
+    let mut out = MemorySink::new(Vec::new(alloc), 3, writes.to_vec(alloc)?);
+    let status = run_uncounted::<_, _, Brand>(Blank::new(1), alloc, words, src, &mut out);
+    Ok(Answer {
+        status,
+        written: out.bytes().to_vec(alloc)?,
+    })
+}
+
+fn answer_to_bytes(alloc: Global, script: Vec<u8>, faults: Faults) -> Result<Answer, AllocError> {
+    let words = vec![in alloc; "sqlsh".to_string(alloc)?]?;
+    let piece = faults.piece.max(1);
+    let mut src = MemorySource::new(script, piece, faults.reads.to_vec(alloc)?);
+    answer_from(alloc, &words, &mut src, faults.writes)
+}
+
+fn answer_to(alloc: Global, script: &str, faults: Faults) -> Result<Answer, AllocError> {
+    answer_to_bytes(alloc, script.as_bytes().to_vec(alloc)?, faults)
+}
+
+fn spaces(alloc: Global, len: usize) -> Result<Vec<u8>, AllocError> {
+    vec![in alloc; b' '; len]
+}
+
+#[test]
+fn scripts_write_their_lines(rt: HostRuntime) -> Result<(), Fail> {
+    let rows =
+        "CREATE TABLE t(a INTEGER, b TEXT);INSERT INTO t VALUES(2,'b');INSERT INTO t VALUES(10,'a|');INSERT INTO t VALUES(3,'');";
+    let scripts = [
+        ("", "", "", 0),
+        ("", " ;\n;\t", "", 0),
+        ("", FIRST, "x|12\n", 0),
+        ("", "INSERT INTO u VALUES(1);", REFUSED, 1),
+        (rows, "SELECT a FROM t WHERE a > 2", "10\n3\n", 0),
+        (
+            rows,
+            "SELECT b, a, b FROM t WHERE b > ''",
+            "b|2|b\na||10|a|\n",
+            0,
+        ),
+        (rows, "SELECT a FROM t WHERE b > 'a'", "2\n10\n", 0),
+        (rows, "SELECT a FROM t WHERE a > 10", "", 0),
+        (rows, "select A, B from T where B > 'a|'", "2|b\n", 0),
+        (
+            rows,
+            "INSERT INTO t VALUES(007,';\n');SELECT b FROM t WHERE a > 6",
+            "a|\n;\n\n",
+            0,
+        ),
+        (
+            rows,
+            "INSERT INTO t VALUES(4);SELECT a FROM t WHERE a > 3",
+            "Error 1: not built yet\n10\n",
+            1,
+        ),
+        (
+            "",
+            "CREATE TABLE integer(text TEXT, a1_ INTEGER);INSERT INTO Integer VALUES('x', 999999999999999999);SELECT A1_, Text FROM integer WHERE text > 'w'",
+            "999999999999999999|x\n",
+            0,
+        ),
+    ];
+    for (before, script, lines, status) in scripts {
+        let whole = format!(in rt.alloc(); "{before}{script}")?;
+        let got = answer_to(rt.alloc(), whole.as_str(), NONE)?;
+        assert_eq!(rt; got.written.as_slice(), lines.as_bytes(), "{script}");
+        assert_eq!(rt; got.status, status, "{script}");
+    }
+    Ok(())
+}
+
+#[test]
+fn refused_statements_change_nothing(rt: HostRuntime) -> Result<(), Fail> {
+    let before = "CREATE TABLE t(a INTEGER, b TEXT);INSERT INTO t VALUES(1,'x');";
+    let refused = [
+        "CREATE TABLE T(c TEXT)",
+        "CREATE TABLE sqlite_t(c TEXT)",
+        "CREATE TABLE SQLite_(c TEXT)",
+        "CREATE TABLE u(c TEXT, C INTEGER)",
+        "CREATE TABLE u()",
+        "CREATE TABLE u(c)",
+        "CREATE TABLE u(c BLOB)",
+        "CREATE TABLE u(c TEXT,)",
+        "CREATE TABLE u(c TEXT) x",
+        "CREATE TABLE select(c TEXT)",
+        "CREATE TABLE u(c TEXT",
+        "INSERT INTO t VALUES(1)",
+        "INSERT INTO t VALUES(1,'x',2)",
+        "INSERT INTO t VALUES('1','x')",
+        "INSERT INTO t VALUES(1,2)",
+        "INSERT INTO t VALUES(-1,'x')",
+        "INSERT INTO t VALUES(1.5,'x')",
+        "INSERT INTO t VALUES(1,'it''s')",
+        "INSERT INTO t VALUES(1,'é')",
+        "INSERT INTO t VALUES(1,'x')é",
+        "INSERT INTO t VALUES(1,'x'),(2,'y')",
+        "INSERT INTO t VALUES(1234567890123456789,'x')",
+        "INSERT INTO t VALUES(0000000000000000001,'x')",
+        "INSERT INTO t VALUES(NULL,'x')",
+        "INSERT INTO v VALUES(1,'x')",
+        "SELECT a FROM t",
+        "SELECT * FROM t WHERE a > 0",
+        "SELECT c FROM t WHERE a > 0",
+        "SELECT a FROM t WHERE c > 0",
+        "SELECT a FROM t WHERE a > '0'",
+        "SELECT a FROM t WHERE b > 0",
+        "SELECT a FROM v WHERE a > 0",
+        "SELECT a FROM t WHERE a >= 0",
+        "SELECT a FROM t WHERE a > 0 x",
+        "SELECT a, FROM t WHERE a > 0",
+        "DROP TABLE t",
+        "INSERT INTO t VALUES(2,'y",
+    ];
+    let after = ";SELECT a, b FROM t WHERE a > 0;SELECT c FROM u WHERE c > ''";
+    for statement in refused {
+        let script = format!(in rt.alloc(); "{before}{statement}{after}")?;
+        let got = answer_to(rt.alloc(), script.as_str(), NONE)?;
+        let lines = if statement.ends_with("'y") {
+            format!(in rt.alloc(); "{REFUSED}")?
+        } else {
+            format!(in rt.alloc(); "{REFUSED}1|x\n{REFUSED}")?
+        };
+        assert_eq!(rt; got.written.as_slice(), lines.as_bytes(), "{statement}");
+        assert_eq!(rt; got.status, 1, "{statement}");
+    }
+    Ok(())
+}
+
+#[test]
+fn a_word_behind_the_name_is_refused(rt: HostRuntime) -> Result<(), Fail> {
+    let alloc = rt.alloc();
+    let words = vec![in alloc; "sqlsh".to_string(alloc)?, "x".to_string(alloc)?]?;
+    let mut src = MemorySource::new(FIRST.as_bytes().to_vec(alloc)?, 1000, Vec::new(alloc));
+    let got = answer_from(alloc, &words, &mut src, &[])?;
+    assert_eq!(rt;
+        got.written.as_slice(),
+        b"usage: sqlsh [--budget N] [--bail] [--make N]\n".as_slice()
+    );
+    assert_eq!(rt; got.status, 2);
+    let mut buf = [0u8; 200];
+    assert_eq!(rt; src.read(&mut buf), ReadAnswer::Got(FIRST.len()));
+    let got = answer_from(alloc, &words, &mut src, &[1])?;
+    assert_eq!(rt; got.written.as_slice(), b"usa".as_slice());
+    assert_eq!(rt; got.status, 2);
+    Ok(())
+}
+
+#[test]
+fn a_read_fault_leaves_what_is_pending(rt: HostRuntime) -> Result<(), Fail> {
+    let faults = Faults {
+        piece: 1000,
+        reads: &[1],
+        writes: &[],
+    };
+    let got = answer_to(rt.alloc(), FIRST, faults)?;
+    assert_eq!(rt; got.written.as_slice(), b"x|12\n".as_slice());
+    assert_eq!(rt; got.status, 3);
+    let got = answer_to(
+        rt.alloc(),
+        "INSERT INTO u VALUES(1);INSERT INTO u VALUES(2)",
+        faults,
+    )?;
+    assert_eq!(rt; got.written.as_slice(), REFUSED.as_bytes());
+    assert_eq!(rt; got.status, 3);
+    Ok(())
+}
+
+#[test]
+fn pieces_of_one_byte_are_one_script(rt: HostRuntime) -> Result<(), Fail> {
+    let faults = Faults {
+        piece: 1,
+        reads: &[],
+        writes: &[],
+    };
+    let got = answer_to(rt.alloc(), FIRST, faults)?;
+    assert_eq!(rt; got.written.as_slice(), b"x|12\n".as_slice());
+    assert_eq!(rt; got.status, 0);
+    Ok(())
+}
+
+#[test]
+fn a_sink_that_fails_got_a_front_of_the_lines(rt: HostRuntime) -> Result<(), Fail> {
+    let alloc = rt.alloc();
+    let script = format!(in alloc; "{FIRST}INSERT INTO u VALUES(1);{FIRST}")?;
+    let whole = answer_to(alloc, script.as_str(), NONE)?;
+    assert_eq!(rt; whole.status, 1);
+    // The sink takes three bytes at a time: two calls for `x|12`, and eight for each refusal.
+    for call in 0..20u64 {
+        let writes = [call];
+        let faults = Faults {
+            piece: 7,
+            reads: &[],
+            writes: &writes,
+        };
+        let got = answer_to(alloc, script.as_str(), faults)?;
+        assert!(rt; whole.written.starts_with(&got.written), "{call}");
+        let failed = got.written.len() < whole.written.len();
+        assert_eq!(rt; failed, call < 20, "{call}");
+        assert_eq!(rt; got.status, if failed { 3 } else { 1 }, "{call}");
+    }
+    Ok(())
+}
+
+#[test]
+fn the_byte_past_the_limit_is_not_looked_at(rt: HostRuntime) -> Result<(), Fail> {
+    let alloc = rt.alloc();
+    let statement = b"INSERT INTO u VALUES(1);";
+    let pending = statement.len() - 1;
+    // What is pending at the limit is not run, even where the byte past it is a `;`.
+    let mut script = spaces(alloc, MAX_SCRIPT_BYTES - 23)?;
+    script.extend_from_slice(&statement[..pending])?;
+    let got = answer_to_bytes(alloc, script.to_vec(alloc)?, NONE)?;
+    assert_eq!(rt; got.written.as_slice(), REFUSED.as_bytes());
+    assert_eq!(rt; got.status, 1);
+    script.push(b';')?;
+    let got = answer_to_bytes(alloc, script, NONE)?;
+    assert_eq!(rt; got.written.as_slice(), b"".as_slice());
+    assert_eq!(rt; got.status, 5);
+    // The statements before are.
+    let mut script = statement.to_vec(alloc)?;
+    script.append(&mut spaces(alloc, MAX_SCRIPT_BYTES)?)?;
+    let got = answer_to_bytes(alloc, script, NONE)?;
+    assert_eq!(rt; got.written.as_slice(), REFUSED.as_bytes());
+    assert_eq!(rt; got.status, 5);
+    Ok(())
+}

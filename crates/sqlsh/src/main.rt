@@ -1,0 +1,76 @@
+//! The shell: the engine over standard input and standard output.
+//!
+//! `main` makes the adapters over the two streams and calls sql_shell's `run`. All that is printed goes to standard
+//! output, and the exit status is the one that `run` answers.
+#![tactic(auto)]
+
+ghost use Rattle.std.specs.Prelude.{◌≡◌, ◌<◌, ◌≤◌, ◌↔◌, ◌⊎◌, length};
+ghost use Rattle.host_traits.specs.Faults.{Rose};
+
+use eng_value::Steps;
+use host_traits::{Sink, Source, StreamSink, StreamSource};
+use sql_shell::{Hosts, run};
+use std::alloc::{AllocError, Global};
+use std::env;
+use std::io::{self, ErrorKind};
+use std::marker::Brand;
+use std::process::ExitCode;
+use std::rt::Env;
+use std::sync::ledger::{Blank, Ledger};
+
+/// The status for want of memory, as `run` answers it.
+const OUT_OF_MEMORY: u8 = 4;
+
+// Runs with steps that nobody reads.
+fn run_uncounted<S: Source, K: Sink, L: Ledger>(
+    blank: Blank,
+    alloc: Global,
+    words: &[String],
+    src: &mut S,
+    out: &mut K,
+) -> u8
+    requires name { blank.name ≡ L.name }
+    requires parts { blank.parts ≡ L.parts }
+    requires some { 0 < blank.parts }
+    ensures words { (result ≡ 2) ↔ (1 < length words.now) }
+    ensures fault { result ≡ 3 → Rose (S.fault_count src.old) (S.fault_count src.new) ⊎ Rose (K.fault_count out.old) (K.fault_count out.new) }
+    ensures statuses { result ≤ 5 }
+{
+    let mut hosts = Hosts {};
+    let mut steps = Steps::<L>::new(blank);
+    run(alloc, words, &mut hosts, src, out, &mut steps)
+}
+
+// The words of the command line, the program's name first. One that is no text is refused as every word behind the name
+// is, so two words stand for such a line.
+fn command_words<R: Env + AllocGlobal>(rt: &R) -> Result<Vec<String>, AllocError> {
+    let alloc = rt.alloc();
+    let mut words = Vec::new(alloc);
+    match env::args(rt) {
+        Ok(args) => {
+            for word in args {
+                words.push(word)?;
+            }
+        }
+        Err(error) => {
+            if error.kind() != ErrorKind::InvalidData {
+                return Err(AllocError);
+            }
+            words.push("sqlsh".to_string(alloc)?)?;
+            words.push("?".to_string(alloc)?)?;
+        }
+    }
+    Ok(words)
+}
+
+fn main(rt: HostRuntime) -> ExitCode {
+    let alloc = rt.alloc();
+    let words = match command_words(&rt) {
+        Ok(words) => words,
+        Err(_) => return ExitCode::from(OUT_OF_MEMORY),
+    };
+    let mut src = StreamSource::new(rt.reader());
+    let mut out = StreamSink::new(io::writer(&rt));
+    let status = run_uncounted::<_, _, Brand>(Blank::new(1), alloc, &words, &mut src, &mut out);
+    ExitCode::from(status)
+}
