@@ -1,5 +1,5 @@
 -- The texts of a script, from the front.
-use Rattle.std.proofs.Common.{◌≡◌, ℕ, Bool, true, false, List, [], ◌∷◌, ◌++◌, refl, sym, ◌∙◌, ap, subst, append_assoc, append-nil, take, drop, get_or, length, ◌<◌, ◌≤◌, ◌+◌, ◌-◌}
+use Rattle.std.proofs.Common.{◌≡◌, ℕ, Bool, true, false, List, [], ◌∷◌, ◌++◌, refl, sym, ◌∙◌, ap, append_assoc, append-nil, take, drop, get_or, length, ◌<◌, ◌≤◌, ◌+◌, ◌-◌}
 use Rattle.std.proofs.lemmas.List.{drop_more, take_more, take_all, drop_all, take_rest, drop-drop}
 use Rattle.std.specs.Prelude.{nat_eq, not, ◌&&◌, cond}
 use Rattle.sql_meaning.specs.Script.{onto, texts_between}

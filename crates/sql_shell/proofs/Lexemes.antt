@@ -1,9 +1,9 @@
 -- What stands at the front of a text.
-use Rattle.std.proofs.Common.{◌≡◌, ℕ, ◌+◌, ◌-◌, ◌*◌, ◌^◌, ◌<◌, ◌≤◌, zero, suc, Bool, true, false, cond, List, [], ◌∷◌, ◌++◌, append_assoc, length, length-drop, take, drop, get_or, refl, sym, ◌∙◌, ap, subst, add-one, eq-eqb, ◌≢◌, arith}
+use Rattle.std.proofs.Common.{◌≡◌, ℕ, ◌+◌, ◌-◌, ◌*◌, ◌^◌, ◌<◌, ◌≤◌, zero, suc, Bool, true, false, cond, List, [], ◌∷◌, ◌++◌, append_assoc, length, length-drop, take, drop, get_or, refl, sym, ◌∙◌, ap, add-one, eq-eqb, ◌≢◌, arith}
 use Rattle.std.proofs.Math.Nat.{pow-suc, pow-le-pow_right}
-use Rattle.std.specs.Prelude.{slice_index, nat_lt, ◌&&◌}
+use Rattle.std.specs.Prelude.{slice_index, nat_lt}
 use Rattle.std.specs.Char.{is_ascii, is_ascii_digit}
-use Rattle.std.specs.List.{take_while, prefix_len, list_all, All, AllPass}
+use Rattle.std.specs.List.{take_while, prefix_len, list_all, AllPass}
 use Rattle.std.specs.Str.{IsAscii}
 use Rattle.std.proofs.lemmas.List.Sums.{prefix_len_passes, list_all-from_AllPass}
 use Rattle.std.proofs.lemmas.List.{get_or-take}

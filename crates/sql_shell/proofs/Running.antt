@@ -1,6 +1,6 @@
 -- The outcomes of a script's texts, one after another.
-use Rattle.std.proofs.Common.{◌≡◌, ◌<◌, ℕ, ◌+◌, ◌-◌, suc, Bool, true, false, List, [], ◌∷◌, ◌++◌, length, take, refl, sym, ◌∙◌, ap, subst, append-nil, arith}
-use Rattle.std.specs.Prelude.{cond, ◌||◌, not, nat_eq, ◌&&◌}
+use Rattle.std.proofs.Common.{◌≡◌, ◌≢◌, ℕ, ◌-◌, suc, Bool, true, false, List, [], ◌∷◌, ◌++◌, length, take, refl, sym, ◌∙◌, ap, subst, append-nil, arith}
+use Rattle.std.specs.Prelude.{cond, ◌||◌}
 use Rattle.std.specs.List.{filter, flat_map, list_any}
 use Rattle.std.proofs.lemmas.Grind.{flat_map-append}
 use Rattle.std.specs.declared.option.Option.{Option}
@@ -9,11 +9,11 @@ use Rattle.eng_value.specs.HostMeanings.{HostMeanings}
 use Rattle.sql_meaning.specs.declared.ending.Ending.{Ending}
 use Rattle.sql_meaning.specs.declared.ending.Ending.TheVariants.{End, ReadFault, TooLong}
 use Rattle.sql_meaning.specs.Due.{Along, CutShort}
-use Rattle.sql_meaning.specs.Script.{all_but_last, due_of, is_refused, is_statement, onto, outcome_lines, outcomes, texts_between}
+use Rattle.sql_meaning.specs.Script.{all_but_last, due_of, is_refused, is_statement, outcome_lines, outcomes, texts_between}
 use Rattle.sql_meaning.specs.Statement.{Outcome, text_outcome}
 use Rattle.sql_meaning.specs.World.{State}
 use Rattle.sql_shell.specs.Running.{outcomes_of_text, outcomes_of_rest, outcomes_of_pending, state_behind}
-use Rattle.sql_shell.proofs.Cuts.{quoted_behind}
+use Rattle.sql_meaning.proofs.CuttingLaws.{texts_between-some}
 use Rattle.sql_shell.proofs.Due.{along_more, along_end, cut_more}
 
 -- the lines of outcomes
@@ -37,24 +37,13 @@ cut_in_text u v h s t start lines piece statement e printed same p =
 
 -- ---- from one text to the next
 
-onto-some : (b : ℕ) (texts : List (List ℕ)) → 0 < length (onto b texts)
-onto-some b [] = omega arith
-onto-some b (t ∷ ts) = omega arith
-
-cond-some : (c : Bool) (texts others : List (List ℕ)) (b : ℕ) → 0 < length (cond c ([] ∷ texts) (onto b others))
-cond-some true texts others b = omega arith
-cond-some false texts others b = onto-some b others
-
-texts_between-some : (quoted : Bool) (bytes : List ℕ) → 0 < length (texts_between quoted bytes)
-texts_between-some quoted [] = omega arith
-texts_between-some quoted (b ∷ bs) = cond-some (nat_eq b 59 && not quoted) (texts_between false bs) (texts_between (quoted_behind b quoted) bs) b
-
-all_but_last-cons : (t : List ℕ) (ts : List (List ℕ)) → 0 < length ts → all_but_last (t ∷ ts) ≡ t ∷ all_but_last ts
-all_but_last-cons t ts some =
-    let longer : length (t ∷ ts) - 1 ≡ suc (length ts - 1) = omega arith in ap (λ n. take n (t ∷ ts)) longer
+all_but_last-cons : (t : List ℕ) (ts : List (List ℕ)) → ts ≢ [] → all_but_last (t ∷ ts) ≡ t ∷ all_but_last ts
+all_but_last-cons t [] some = absurd (some refl)
+all_but_last-cons t (u ∷ ts) some =
+    let longer : length (t ∷ u ∷ ts) - 1 ≡ suc (length (u ∷ ts) - 1) = omega arith in ap (λ n. take n (t ∷ u ∷ ts)) longer
 
 -- a text that another one follows is due
-due_of-cons : (ending : Ending) (t : List ℕ) (ts : List (List ℕ)) → 0 < length ts → due_of ending (t ∷ ts) ≡ t ∷ due_of ending ts
+due_of-cons : (ending : Ending) (t : List ℕ) (ts : List (List ℕ)) → ts ≢ [] → due_of ending (t ∷ ts) ≡ t ∷ due_of ending ts
 due_of-cons End t ts some = refl
 due_of-cons ReadFault t ts some = all_but_last-cons t ts some
 due_of-cons TooLong t ts some = all_but_last-cons t ts some

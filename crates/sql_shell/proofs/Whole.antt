@@ -1,7 +1,7 @@
 -- A whole script: its outcomes, its status, and the bytes that the source tells.
-use Rattle.std.proofs.Common.{◌≡◌, ◌+◌, ℕ, length, Bool, true, false, List, refl, sym, ◌∙◌, ap, subst, Some, None, Ok, Err, OnOk, IfOk, IfSome, Result, length-append, arith}
+use Rattle.std.proofs.Common.{◌≡◌, ◌+◌, ℕ, length, Bool, true, false, List, sym, ◌∙◌, ap, subst, Some, None, Ok, Err, OnOk, IfOk, IfSome, Result, length-append, arith}
 use Rattle.std.specs.declared.option.Option.{Option}
-use Rattle.std.specs.Io.KnownBytes.{Appends, Consumes, IsAtEnd}
+use Rattle.std.specs.Io.KnownBytes.{Appends, Consumes}
 use Rattle.eng_value.specs.declared.limits.TheConstants.{MAX_SCRIPT_BYTES}
 use Rattle.eng_value.specs.HostMeanings.{HostMeanings}
 use Rattle.sql_meaning.specs.declared.ending.Ending.{Ending}

@@ -1,5 +1,5 @@
 -- The outcomes of a script's texts, as a run goes from one to the next.
-use Rattle.std.specs.Prelude.{ℕ, List, [], ◌∷◌, Bool, true, false, if◌then◌else◌}
+use Rattle.std.specs.Prelude.{ℕ, List, [], ◌∷◌, false, if◌then◌else◌}
 use Rattle.std.specs.List.{filter}
 use Rattle.eng_value.specs.HostMeanings.{HostMeanings}
 use Rattle.sql_meaning.specs.declared.ending.Ending.{Ending}

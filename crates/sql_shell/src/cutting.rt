@@ -1,7 +1,9 @@
 // Cutting a script into the texts of its statements.
 ghost use Rattle.std.specs.Prelude.{◌≡◌, ◌&&◌, ◌+◌, ◌<◌, ◌∷◌, [], take, drop, false, not, nat_eq, length, if◌then◌else◌, MatchOption, OnSome, IfSome};
 ghost use Rattle.sql_meaning.specs.Script.{texts_between, is_statement};
-ghost use Rattle.sql_meaning.specs.Tokens.{is_quote, is_space};
+ghost use Rattle.sql_meaning.specs.Tokens.{is_quote};
+
+use crate::lexing::is_space;
 
 /// Whether this byte ends a statement.
 fn ends_statement(byte: u8, quoted: bool) -> bool
@@ -44,16 +46,9 @@ pub(crate) fn cut_first(bytes: &[u8]) -> Option<(&[u8], &[u8])>
     Some((text, &behind[1..]))
 }
 
-/// Space, tab, LF, FF and CR are white space.
-pub(crate) fn is_white(byte: u8) -> bool
-    ensures { result ≡ is_space byte }
-{
-    byte == b' ' || byte == b'\t' || byte == b'\n' || byte == b'\x0c' || byte == b'\r'
-}
-
 /// Whether some byte of a text is no white space.
 pub(crate) fn has_statement(text: &[u8]) -> bool
     ensures { result ≡ is_statement text.now }
 {
-    text.iter().any(|byte| !is_white(*byte))
+    text.iter().any(|byte| !is_space(*byte))
 }

@@ -13,18 +13,21 @@ use eng_value::Text;
 use sql_meaning::{Keyword, RESERVED_WORDS, Token};
 use std::alloc::{AllocError, Global};
 
-fn is_space(b: u8) -> bool
+/// Space, tab, LF, FF and CR are white space.
+pub(crate) fn is_space(b: u8) -> bool
     ensures { result ≡ is_space b }
 {
     matches!(b, b' ' | b'\t' | b'\n' | 12 | b'\r')
 }
 
+/// A letter or `_` begins a word.
 fn begins_word(b: u8) -> bool
     ensures { result ≡ begins_word b }
 {
     b.is_ascii_alphabetic() || b == b'_'
 }
 
+/// A word goes on with letters, `_` and digits.
 fn is_word_byte(b: u8) -> bool
     ensures { result ≡ is_word_byte b }
 {
@@ -75,12 +78,14 @@ fn before_quote(bytes: &[u8]) -> &[u8]
     &bytes[..quoted_len(bytes)]
 }
 
+/// Whether a word is one of these, without regard to case.
 fn is_one_of(words: &[&str], word: &[u8]) -> bool
     ensures { result ≡ list_any (λ w. is_same_name w.now word.now) words.now }
 {
     words.iter().any(|w| is_same(w.as_bytes(), word))
 }
 
+/// Whether a word is no name.
 fn is_reserved(word: &[u8]) -> bool
     ensures { result ≡ is_reserved_word word.now }
 {

@@ -2,7 +2,9 @@
 ghost use Rattle.std.specs.Prelude.{◌≡◌, ◌<◌};
 
 use super::*;
-use eng_value::{MAX_SCRIPT_BYTES, Steps};
+use crate::executing::run_text;
+use crate::tables::{StoredRow, Tables};
+use eng_value::{MAX_ROWID, MAX_SCRIPT_BYTES, MAX_VALUE_BYTES, Row, Steps, Value};
 use host_traits::{MemorySink, MemorySource, ReadAnswer, Sink, Source};
 use std::alloc::{AllocError, Global};
 use std::marker::Brand;
@@ -256,8 +258,8 @@ fn a_sink_that_fails_got_a_front_of_the_lines(rt: HostRuntime) -> Result<(), Fai
     let script = format!(in alloc; "{FIRST}INSERT INTO u VALUES(1);{FIRST}")?;
     let whole = answer_to(alloc, script.as_str(), NONE)?;
     assert_eq!(rt; whole.status, 1);
-    // The sink takes three bytes at a time: two calls for `x|12`, and eight for each refusal.
-    for call in 0..20u64 {
+    // The sink takes three bytes at a time: two calls for the first row, eight for each refusal, four for the two rows.
+    for call in 0..24u64 {
         let writes = [call];
         let faults = Faults {
             piece: 7,
@@ -267,7 +269,7 @@ fn a_sink_that_fails_got_a_front_of_the_lines(rt: HostRuntime) -> Result<(), Fai
         let got = answer_to(alloc, script.as_str(), faults)?;
         assert!(rt; whole.written.starts_with(&got.written), "{call}");
         let failed = got.written.len() < whole.written.len();
-        assert_eq!(rt; failed, call < 20, "{call}");
+        assert_eq!(rt; failed, call < 22, "{call}");
         assert_eq!(rt; got.status, if failed { 3 } else { 1 }, "{call}");
     }
     Ok(())
@@ -294,5 +296,75 @@ fn the_byte_past_the_limit_is_not_looked_at(rt: HostRuntime) -> Result<(), Fail>
     let got = answer_to_bytes(alloc, script, NONE)?;
     assert_eq!(rt; got.written.as_slice(), REFUSED.as_bytes());
     assert_eq!(rt; got.status, 5);
+    Ok(())
+}
+
+#[test]
+fn a_table_without_a_free_rowid_is_full(rt: HostRuntime) -> Result<(), Fail> {
+    let alloc = rt.alloc();
+    let mut tables = Tables::new(alloc);
+    run_text::<Brand>(alloc, &mut tables, b"CREATE TABLE Last(a INTEGER)")?;
+    let row = Row::new(vec![in alloc; Value::Integer(7)]?);
+    assert_eq!(rt; tables.place(b"last"), Some(0));
+    tables.add_row(0, StoredRow::new(MAX_ROWID - 1, row))?;
+    run_text::<Brand>(alloc, &mut tables, b"INSERT INTO last VALUES(8)")?;
+    let mut text = Vec::new(alloc);
+    match run_text::<Brand>(alloc, &mut tables, b"INSERT INTO last VALUES(9)") {
+        Ok(_) => assert!(rt; false, "a rowid above the largest"),
+        Err(why) => why.write_text(&mut text)?,
+    }
+    assert_eq!(rt; text.as_slice(), b"table is full: Last".as_slice());
+    let rows = run_text::<Brand>(alloc, &mut tables, b"SELECT a FROM LAST WHERE a > 0")?;
+    assert_eq!(rt; rows.as_slice().len(), 2);
+    Ok(())
+}
+
+// A CREATE TABLE with so many columns.
+fn wide_table(alloc: Global, columns: usize) -> Result<String, AllocError> {
+    let mut script = "CREATE TABLE t(c0 TEXT".to_string(alloc)?;
+    for k in 1..columns {
+        let column = format!(in alloc; ", c{k} TEXT")?;
+        script.push_str(column.as_str())?;
+    }
+    script.push_str(");")?;
+    Ok(script)
+}
+
+#[test]
+fn lists_and_texts_end_at_their_limits(rt: HostRuntime) -> Result<(), Fail> {
+    let alloc = rt.alloc();
+    for (columns, status) in [(100, 0), (101, 1)] {
+        let script = wide_table(alloc, columns)?;
+        assert_eq!(rt;
+            answer_to(alloc, script.as_str(), NONE)?.status,
+            status,
+            "{columns}"
+        );
+    }
+    for (len, status) in [(MAX_VALUE_BYTES, 0), (MAX_VALUE_BYTES + 1, 1)] {
+        let mut script = b"CREATE TABLE t(a TEXT);INSERT INTO t VALUES('".to_vec(alloc)?;
+        script.append(&mut spaces(alloc, len)?)?;
+        script.extend_from_slice(b"');")?;
+        assert_eq!(rt;
+            answer_to_bytes(alloc, script, NONE)?.status,
+            status,
+            "{len}"
+        );
+    }
+    Ok(())
+}
+
+// For runs in which an allocation fails: no answer changes in place of status 4.
+#[test]
+fn want_of_memory_leaves_a_front_of_the_lines(rt: HostRuntime) -> Result<(), Fail> {
+    let script =
+        "CREATE TABLE t(a INTEGER, b TEXT);INSERT INTO t VALUES(1,'x');INSERT INTO t VALUES(2);SELECT b, a FROM t WHERE a > 0";
+    let lines = format!(in rt.alloc(); "{REFUSED}x|1\n")?;
+    let got = answer_to(rt.alloc(), script, NONE)?;
+    assert!(rt; lines.as_bytes().starts_with(&got.written));
+    if got.status != 4 {
+        assert_eq!(rt; got.status, 1);
+        assert_eq!(rt; got.written.len(), lines.len());
+    }
     Ok(())
 }

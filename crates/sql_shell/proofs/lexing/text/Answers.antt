@@ -1,4 +1,4 @@
-use Rattle.std.proofs.Common.{◌∙◌, ap}
+use Rattle.std.proofs.Common.{ap}
 use Rattle.sql_meaning.specs.declared.token.Token.TheVariants as token
 use Rattle.sql_shell.proofs.Lexemes.{text_token_closed}
 use Rattle.sql_shell.proofs.lexing.text.Goals as goal

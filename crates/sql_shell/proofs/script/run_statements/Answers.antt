@@ -1,5 +1,5 @@
-use Rattle.std.proofs.Common.{◌≡◌, ◌∙◌, ap, ◌||◌, arith}
-use Rattle.sql_shell.proofs.Running.{wrote_text, wrote_part, refused_text, wrote_last, wrote_last_part, refused_last}
+use Rattle.std.proofs.Common.{◌∙◌, ap, ◌||◌, arith}
+use Rattle.sql_shell.proofs.Running.{wrote_text, wrote_part, refused_text, wrote_last, wrote_last_part}
 use Rattle.sql_shell.proofs.script.run_statements.Goals as goal
 
 pub returns-in_err-next-clause-part : goal.returns-in_err-next-clause-part

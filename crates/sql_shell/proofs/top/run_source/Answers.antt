@@ -1,5 +1,4 @@
-use Rattle.std.proofs.Common.{◌≡◌, ap, subst, sym, length, inr, ◌∙◌}
-use Rattle.sql_meaning.specs.Due.{IsScript, MayEnd}
+use Rattle.std.proofs.Common.{inr}
 use Rattle.sql_shell.proofs.Due.{same_read}
 use Rattle.sql_shell.proofs.Whole.{told_whole, told_partly, told_nothing, told_by_status, told_read_fault, told_too_long}
 use Rattle.sql_shell.proofs.top.run_source.Goals as goal
