@@ -1,5 +1,5 @@
 -- What a read does to the bytes that are left.
-use Rattle.std.specs.Prelude.{◌≡◌, ◌<◌, ◌≤◌, ℕ, List, take, length}
+use Rattle.std.specs.Prelude.{◌<◌, ◌≤◌, ℕ, List, take, length}
 use Rattle.std.specs.Io.KnownBytes.{Consumes, Keeps, IsAtEnd}
 use Rattle.std.specs.declared.option.Option.{Option}
 use Rattle.host_traits.specs.declared.source.ReadAnswer.{ReadAnswer}
