@@ -1,5 +1,5 @@
 -- What is written and what is read, one call after another.
-use Rattle.std.proofs.Common.{◌≡◌, ℕ, ◌-◌, List, [], ◌++◌, length, take, drop, Some, None, refl, sym, ◌∙◌, ap, subst, append_assoc, append-nil}
+use Rattle.std.proofs.Common.{◌≡◌, ◌≤◌, ℕ, ◌-◌, List, [], ◌++◌, length, take, drop, Some, None, refl, sym, ◌∙◌, ap, subst, append_assoc, append-nil}
 use Rattle.std.proofs.lemmas.List.{take-append-drop, take_rest, append_cancel_right}
 use Rattle.std.proofs.KnownBytes.{Appends-nil, Appends-trans}
 use Rattle.std.specs.declared.option.Option.{Option}
@@ -41,3 +41,7 @@ pub same_read : (u v : Option (List ℕ)) (xs ys : List ℕ) → Consumes u v xs
 same_read None v xs ys p q = absurd q
 same_read (Some us) None xs ys p q = absurd q
 same_read (Some us) (Some vs) xs ys p q = append_cancel_right xs ys vs (sym p ∙ q)
+
+-- no more bytes are told than were read
+pub most_told : (u v : Option (List ℕ)) (xs ys : List ℕ) (most : ℕ) → Consumes u v xs → length xs ≤ most → IsRead u v ys → length ys ≤ most
+most_told u v xs ys most p few q = subst (λ zs. length zs ≤ most) (same_read u v xs ys p q) few

@@ -1,7 +1,7 @@
 -- The outcomes of a script's texts, one after another.
 use Rattle.std.proofs.Common.{◌≡◌, ◌≢◌, ℕ, ◌-◌, suc, Bool, true, false, List, [], ◌∷◌, ◌++◌, length, take, refl, sym, ◌∙◌, ap, subst, append-nil, arith}
 use Rattle.std.specs.Prelude.{cond, ◌||◌}
-use Rattle.std.specs.List.{filter, flat_map, list_any}
+use Rattle.std.specs.List.{filter}
 use Rattle.std.proofs.lemmas.Grind.{flat_map-append}
 use Rattle.std.specs.declared.option.Option.{Option}
 use Rattle.std.specs.Io.KnownBytes.{Appends}
@@ -12,16 +12,9 @@ use Rattle.sql_meaning.specs.Due.{Along, CutShort}
 use Rattle.sql_meaning.specs.Script.{all_but_last, due_of, is_refused, is_statement, outcome_lines, outcomes, texts_between}
 use Rattle.sql_meaning.specs.Statement.{Outcome, text_outcome}
 use Rattle.sql_meaning.specs.World.{State}
-use Rattle.sql_shell.specs.Running.{outcomes_of_text, outcomes_of_rest, outcomes_of_pending, state_behind}
+use Rattle.sql_shell.specs.Running.{lines_of, some_refused, outcomes_of_text, outcomes_of_rest, outcomes_of_pending, state_behind}
 use Rattle.sql_meaning.proofs.CuttingLaws.{texts_between-some}
 use Rattle.sql_shell.proofs.Due.{along_more, along_end, cut_more}
-
--- the lines of outcomes
-abbrev pub lines_of : List Outcome → List ℕ
-lines_of os = flat_map outcome_lines os
-
-abbrev pub some_refused : List Outcome → Bool
-some_refused os = list_any is_refused os
 
 -- ---- one text
 

@@ -10,9 +10,8 @@ use Rattle.sql_meaning.specs.Due.{CutShort, IsRead, IsScript, IsFrontOfScript, M
 use Rattle.sql_meaning.specs.Script.{ending_told, looked_at, script_lines, script_outcomes, script_status, status_of}
 use Rattle.sql_meaning.specs.World.{new_state}
 use Rattle.sql_shell.specs.declared.stop.Stop.{Stop}
-use Rattle.sql_shell.specs.Running.{outcomes_of_rest}
+use Rattle.sql_shell.specs.Running.{lines_of, outcomes_of_rest, some_refused}
 use Rattle.sql_shell.proofs.Due.{same_read, cut_at_start}
-use Rattle.sql_shell.proofs.Running.{lines_of, some_refused}
 
 -- all statements that are looked at were run
 pub ran_whole : (u v : Option (List ℕ)) (h : HostMeanings) (bytes : List ℕ) (ending : Ending) (seen : List ℕ) (r : Result Bool Stop) → seen ≡ looked_at ending bytes

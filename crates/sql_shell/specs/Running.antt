@@ -1,11 +1,19 @@
 -- The outcomes of a script's texts, as a run goes from one to the next.
-use Rattle.std.specs.Prelude.{ℕ, List, [], ◌∷◌, false, if◌then◌else◌}
-use Rattle.std.specs.List.{filter}
+use Rattle.std.specs.Prelude.{Bool, ℕ, List, [], ◌∷◌, false, if◌then◌else◌}
+use Rattle.std.specs.List.{filter, flat_map, list_any}
 use Rattle.eng_value.specs.HostMeanings.{HostMeanings}
 use Rattle.sql_meaning.specs.declared.ending.Ending.{Ending}
 use Rattle.sql_meaning.specs.World.{State}
 use Rattle.sql_meaning.specs.Statement.{Outcome, text_outcome}
-use Rattle.sql_meaning.specs.Script.{due_of, is_statement, outcomes, texts_between}
+use Rattle.sql_meaning.specs.Script.{due_of, is_refused, is_statement, outcome_lines, outcomes, texts_between}
+
+-- the lines of outcomes
+abbrev pub lines_of : List Outcome → List ℕ
+lines_of os = flat_map outcome_lines os
+
+-- whether one of them is a refusal
+abbrev pub some_refused : List Outcome → Bool
+some_refused os = list_any is_refused os
 
 -- of one text: none where it is white space alone
 abbrev pub outcomes_of_text : HostMeanings → State → List ℕ → List Outcome

@@ -1,13 +1,12 @@
 // Running a script's statements, one after another.
 ghost use Rattle.std.specs.Prelude.{◌≡◌, ◌≢◌, ◌≤◌, ◌++◌, ◌||◌, IfOk, OnOk, IsErrOf, IfErr};
-ghost use Rattle.std.specs.List.{flat_map, list_any};
 ghost use Rattle.std.specs.Io.KnownBytes.{Appends};
 ghost use Rattle.host_traits.specs.Faults.{Rose};
 ghost use Rattle.sql_meaning.specs.Due.{CutShort, IsScript};
 ghost use Rattle.sql_meaning.specs.Script.{is_refused, looked_at, outcome_lines, refusal_line, script_lines, status_of};
 ghost use Rattle.sql_meaning.specs.Statement.{text_outcome};
 ghost use Rattle.sql_meaning.specs.World.{new_state};
-ghost use Rattle.sql_shell.specs.Running.{outcomes_of_pending, outcomes_of_rest, outcomes_of_text, state_behind};
+ghost use Rattle.sql_shell.specs.Running.{lines_of, some_refused, outcomes_of_pending, outcomes_of_rest, outcomes_of_text, state_behind};
 
 use crate::cutting::{cut_first, has_statement};
 use crate::executing::run_text;
@@ -44,7 +43,8 @@ fn run_into<M: Meanings>(
 ) -> Result<bool, Stop>
     ensures refused { IfOk result (λ r. r ≡ is_refused (text_outcome M.hosts tables.old text.now)) }
     ensures next { OnOk result (tables.new ≡ (text_outcome M.hosts tables.old text.now).next) }
-    ensures lines { OnOk result (lines.new.items ≡ lines.old.items ++ outcome_lines (text_outcome M.hosts tables.old text.now)) }
+    ensures lines { OnOk result (lines.new.items ≡
+        lines.old.items ++ outcome_lines (text_outcome M.hosts tables.old text.now)) }
     ensures memory { IfErr result (λ stop. stop ≡ Stop.Memory) }
 {
     match run_text::<M>(alloc, tables, text) {
@@ -66,10 +66,12 @@ fn run_one<M: Meanings, K: Sink>(
     text: &[u8],
     out: &mut K,
 ) -> Result<bool, Stop>
-    ensures refused { IfOk result (λ r. r ≡ list_any is_refused (outcomes_of_text M.hosts tables.old text.now)) }
+    ensures refused { IfOk result (λ r. r ≡ some_refused (outcomes_of_text M.hosts tables.old text.now)) }
     ensures next { OnOk result (tables.new ≡ state_behind M.hosts tables.old text.now) }
-    ensures ok { OnOk result (Appends (K.written out.old) (K.written out.new) (flat_map outcome_lines (outcomes_of_text M.hosts tables.old text.now))) }
-    ensures part { CutShort (K.written out.old) (K.written out.new) (flat_map outcome_lines (outcomes_of_text M.hosts tables.old text.now)) }
+    ensures ok { OnOk result (Appends (K.written out.old) (K.written out.new)
+        (lines_of (outcomes_of_text M.hosts tables.old text.now))) }
+    ensures part { CutShort (K.written out.old) (K.written out.new)
+        (lines_of (outcomes_of_text M.hosts tables.old text.now)) }
     ensures fault { IsErrOf result Stop.SinkFault → Rose (K.fault_count out.old) (K.fault_count out.new) }
     ensures later { K.fault_count out.old ≤ K.fault_count out.new }
 {
@@ -90,9 +92,11 @@ fn run_pending<M: Meanings, K: Sink>(
     ending: Ending,
     out: &mut K,
 ) -> Result<bool, Stop>
-    ensures refused { IfOk result (λ r. r ≡ list_any is_refused (outcomes_of_pending M.hosts ending tables.old text.now)) }
-    ensures ok { OnOk result (Appends (K.written out.old) (K.written out.new) (flat_map outcome_lines (outcomes_of_pending M.hosts ending tables.old text.now))) }
-    ensures part { CutShort (K.written out.old) (K.written out.new) (flat_map outcome_lines (outcomes_of_pending M.hosts ending tables.old text.now)) }
+    ensures refused { IfOk result (λ r. r ≡ some_refused (outcomes_of_pending M.hosts ending tables.old text.now)) }
+    ensures ok { OnOk result (Appends (K.written out.old) (K.written out.new)
+        (lines_of (outcomes_of_pending M.hosts ending tables.old text.now))) }
+    ensures part { CutShort (K.written out.old) (K.written out.new)
+        (lines_of (outcomes_of_pending M.hosts ending tables.old text.now)) }
     ensures fault { IsErrOf result Stop.SinkFault → Rose (K.fault_count out.old) (K.fault_count out.new) }
     ensures later { K.fault_count out.old ≤ K.fault_count out.new }
 {
@@ -111,15 +115,17 @@ fn either(a: bool, b: bool) -> bool
 
 /// Runs the statements in some bytes with this ending, one after another from no tables on, and writes the lines of each
 /// whole. It says whether one is refused.
-pub(crate) fn run_statements<M: Meanings, K: Sink>(
+fn run_statements<M: Meanings, K: Sink>(
     alloc: Global,
     bytes: &[u8],
     ending: Ending,
     out: &mut K,
 ) -> Result<bool, Stop>
-    ensures refused { IfOk result (λ r. r ≡ list_any is_refused (outcomes_of_rest M.hosts ending new_state bytes.now)) }
-    ensures ok { OnOk result (Appends (K.written out.old) (K.written out.new) (flat_map outcome_lines (outcomes_of_rest M.hosts ending new_state bytes.now))) }
-    ensures part { CutShort (K.written out.old) (K.written out.new) (flat_map outcome_lines (outcomes_of_rest M.hosts ending new_state bytes.now)) }
+    ensures refused { IfOk result (λ r. r ≡ some_refused (outcomes_of_rest M.hosts ending new_state bytes.now)) }
+    ensures ok { OnOk result (Appends (K.written out.old) (K.written out.new)
+        (lines_of (outcomes_of_rest M.hosts ending new_state bytes.now))) }
+    ensures part { CutShort (K.written out.old) (K.written out.new)
+        (lines_of (outcomes_of_rest M.hosts ending new_state bytes.now)) }
     ensures fault { IsErrOf result Stop.SinkFault → Rose (K.fault_count out.old) (K.fault_count out.new) }
     ensures later { K.fault_count out.old ≤ K.fault_count out.new }
 {
@@ -152,7 +158,8 @@ pub(crate) fn run_script<M: Meanings, K: Sink>(
     ending: Ending,
     out: &mut K,
 ) -> Result<bool, Stop>
-    ensures ok { IfOk result (λ refused. IsScript M.hosts bytes.now ending (K.written out.old) (K.written out.new) (status_of ending refused)) }
+    ensures ok { IfOk result (λ refused.
+        IsScript M.hosts bytes.now ending (K.written out.old) (K.written out.new) (status_of ending refused)) }
     ensures part { CutShort (K.written out.old) (K.written out.new) (script_lines M.hosts bytes.now ending) }
     ensures fault { IsErrOf result Stop.SinkFault → Rose (K.fault_count out.old) (K.fault_count out.new) }
     ensures later { K.fault_count out.old ≤ K.fault_count out.new }

@@ -50,6 +50,7 @@ fn run_source<M: Meanings, S: Source, K: Sink>(
     ensures part { (bytes : List ℕ) → IsRead (S.left src.old) (S.left src.new) bytes →
         IsFrontOfScript M.hosts bytes (S.left src.new) (K.written out.old) (K.written out.new) }
     ensures statuses { (result < 2) ⊎ ((2 < result) × (result ≤ 5)) }
+    ensures limit { (bytes : List ℕ) → IsRead (S.left src.old) (S.left src.new) bytes → length bytes ≤ MAX_SCRIPT_BYTES + 1 }
     ensures source_count { S.fault_count src.old ≤ S.fault_count src.new }
     ensures sink_count { K.fault_count out.old ≤ K.fault_count out.new }
 {
@@ -95,6 +96,7 @@ pub fn run<S: Source, K: Sink, L: Ledger>(
     ensures end { result < 2 → IsAtEnd (S.left src.new) }
     ensures short { (bytes : List ℕ) → IsRead (S.left src.old) (S.left src.new) bytes → result < 2 → length bytes ≤ MAX_SCRIPT_BYTES }
     ensures too_long { (bytes : List ℕ) → IsRead (S.left src.old) (S.left src.new) bytes → result ≡ 5 → length bytes ≡ MAX_SCRIPT_BYTES + 1 }
+    ensures limit { (bytes : List ℕ) → IsRead (S.left src.old) (S.left src.new) bytes → length bytes ≤ MAX_SCRIPT_BYTES + 1 }
     ensures past_limit { (bytes : List ℕ) → IsRead (S.left src.old) (S.left src.new) bytes → MAX_SCRIPT_BYTES < length bytes → (2 < result) × (result ≤ 5) }
 
     // Status 3: a read failed, and all that is due was written, or a write failed.

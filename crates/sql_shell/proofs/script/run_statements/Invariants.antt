@@ -1,8 +1,7 @@
 use Rattle.std.proofs.Common.{◌≡◌, ◌≤◌, ◌||◌, length}
 use Rattle.sql_meaning.specs.Due.{Along}
 use Rattle.sql_meaning.specs.World.{new_state}
-use Rattle.sql_shell.specs.Running.{outcomes_of_rest}
-use Rattle.sql_shell.proofs.Running.{lines_of, some_refused}
+use Rattle.sql_shell.specs.Running.{lines_of, outcomes_of_rest, some_refused}
 use Rattle.sql_shell.proofs.script.run_statements.Given as goal
 
 abbrev pub invariant-loop-text : goal.invariant-loop-text

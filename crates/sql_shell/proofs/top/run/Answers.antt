@@ -4,3 +4,6 @@ use Rattle.sql_shell.proofs.top.run.Goals as goal
 
 pub returns-then-words-gt1-clause-past_limit : goal.returns-then-words-gt1-clause-past_limit
 returns-then-words-gt1-clause-past_limit g c bytes told past = absurd (omega (arith, nothing_told _ bytes told))
+
+pub returns-then-words-gt1-clause-limit : goal.returns-then-words-gt1-clause-limit
+returns-then-words-gt1-clause-limit g c bytes told = omega (arith, nothing_told _ bytes told)
