@@ -1,5 +1,5 @@
 // Sinks for bytes.
-ghost use Rattle.std.specs.Prelude.{◌≡◌, ◌<◌, ◌≤◌, ℕ, List, Option, length};
+ghost use Rattle.std.specs.Prelude.{◌≡◌, ◌<◌, ℕ, List, Option, length};
 ghost use Rattle.host_traits.specs.Writing.{Puts};
 ghost use Rattle.host_traits.specs.Faults.{HasCount};
 

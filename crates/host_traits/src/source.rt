@@ -1,5 +1,5 @@
 // Sources of bytes.
-ghost use Rattle.std.specs.Prelude.{◌≡◌, ◌<◌, ◌≤◌, ℕ, List, Option, length};
+ghost use Rattle.std.specs.Prelude.{◌≡◌, ◌<◌, ℕ, List, Option, length};
 ghost use Rattle.host_traits.specs.Reading.{Takes};
 ghost use Rattle.host_traits.specs.Faults.{HasCount};
 

@@ -14,6 +14,10 @@ IsRead None left bytes = ⊥
 IsRead (Some xs) None bytes = ⊥
 IsRead (Some xs) (Some ys) bytes = xs ≡ bytes ++ ys
 
+-- P holds of all bytes that the source told
+abbrev pub ForTold : Option (List ℕ) → Option (List ℕ) → (List ℕ → Type 0) → Type 0
+ForTold old new P = (bytes : List ℕ) → IsRead old new bytes → P bytes
+
 -- what was written since, and then the rest, is all that is due
 abbrev pub Along : Option (List ℕ) → Option (List ℕ) → List ℕ → List ℕ → Type 0
 Along old new rest all = (part : List ℕ) × Appends old new part × (part ++ rest ≡ all)

@@ -11,7 +11,7 @@ use Rattle.eng_value.specs.declared.value.Value.TheVariants.{Null, Integer, Text
 use Rattle.eng_value.specs.declared.limits.TheConstants.{MAX_SCRIPT_BYTES}
 use Rattle.sql_meaning.specs.declared.ending.Ending.{Ending}
 use Rattle.sql_meaning.specs.declared.ending.Ending.TheVariants.{End, ReadFault, TooLong}
-use Rattle.sql_meaning.specs.Tokens.{is_space, is_quote}
+use Rattle.sql_meaning.specs.Tokens.{is_space, is_quote, is_semicolon}
 use Rattle.sql_meaning.specs.World.{State, new_state}
 use Rattle.sql_meaning.specs.Statement.{Outcome, text_outcome}
 
@@ -26,7 +26,7 @@ onto b (text ∷ texts) = (b ∷ text) ∷ texts
 abbrev pub texts_between : Bool → List ℕ → List (List ℕ)
 texts_between quoted [] = [] ∷ []
 texts_between quoted (b ∷ bs) =
-    if nat_eq b 59 && not quoted then [] ∷ texts_between false bs
+    if is_semicolon b && not quoted then [] ∷ texts_between false bs
     else onto b (texts_between (if is_quote b then not quoted else quoted) bs)
 
 -- all but the last
@@ -64,6 +64,13 @@ script_outcomes hosts bytes ending = outcomes hosts new_state (statements_of byt
 
 -- ---- what is written
 
+-- what stands between two values of a row
+abbrev pub bar : ℕ
+bar = 124
+
+abbrev pub line_feed : ℕ
+line_feed = 10
+
 -- NULL as nothing, a text and a blob as their bytes
 abbrev pub printed : Value → List ℕ
 printed Null = []
@@ -71,12 +78,12 @@ printed (Integer n) = signed_decimal n
 printed (Text text) = text
 printed (Blob bytes) = bytes
 
--- the values joined by `|`, and LF
+-- the values joined by `|`, and LF (Command Line Shell For SQLite, the output mode "list")
 abbrev pub row_line : List Value → List ℕ
-row_line row = join_with_byte 124 (map printed row) ++ 10 ∷ []
+row_line row = join_with_byte bar (map printed row) ++ line_feed ∷ []
 
 abbrev pub refusal_line : Cause → List ℕ
-refusal_line why = codes "Error " ++ decimal (code_of why) ++ codes ": " ++ text_of why ++ 10 ∷ []
+refusal_line why = codes "Error " ++ decimal (code_of why) ++ codes ": " ++ text_of why ++ line_feed ∷ []
 
 abbrev pub refusal_lines : Option Cause → List ℕ
 refusal_lines None = []
@@ -107,4 +114,4 @@ abbrev pub ending_told : ℕ → Option Ending
 ending_told status = if nat_lt status 2 then Some End else if nat_eq status 5 then Some TooLong else None
 
 abbrev pub usage_line : List ℕ
-usage_line = codes "usage: sqlsh [--budget N] [--bail] [--make N]" ++ 10 ∷ []
+usage_line = codes "usage: sqlsh [--budget N] [--bail] [--make N]" ++ line_feed ∷ []

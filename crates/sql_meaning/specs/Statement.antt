@@ -58,18 +58,20 @@ is_creatable state c =
 -- the state with one more table, which has no row
 abbrev pub with_created : State → CreateTable → State
 with_created state c =
-    record {
+    record state {
       world = record {
         catalog = state.world.catalog ++ record { name = c.name; columns = c.columns } ∷ [];
         tables = with_rows state.world.tables c.name [];
       };
     }
 
+-- refused where one of these fails
 abbrev pub create_outcome : State → CreateTable → Outcome
 create_outcome state c = if is_creatable state c then done [] (with_created state c) else refused state cause.NotYet
 
 -- ---- INSERT
 
+-- the value that a literal is
 abbrev pub value_of : Literal → Value
 value_of (literal.Integer n) = value.Integer n
 value_of (literal.Text text) = value.Text text
@@ -85,11 +87,12 @@ is_of_type column_type.Text (literal.Text text) = true
 abbrev pub fits_columns : List Column → List Literal → Bool
 fits_columns columns literals = pointwise (λ c l. is_of_type c.column_type l) columns literals
 
--- the row stands behind the others under the next rowid
+-- the row stands behind the others under the next rowid; refused where there is none
 abbrev pub inserted : State → TableEntry → List Value → List StoredRow → Option ℤ → Outcome
 inserted state t values rows None = refused state (cause.Full t.name)
 inserted state t values rows (Some rowid) = done [] (with_table state t.name (rows ++ record { rowid = rowid; values = values } ∷ []))
 
+-- refused where there is no such table, or the literals do not fit its columns
 abbrev pub insert_into : State → List Literal → Option TableEntry → Outcome
 insert_into state literals None = refused state cause.NotYet
 insert_into state literals (Some t) =
@@ -125,7 +128,7 @@ abbrev pub is_comparable : Option Column → Literal → Bool
 is_comparable None bound = false
 is_comparable (Some c) bound = is_of_type c.column_type bound
 
--- over the places of the columns that are shown and of the one that is tested
+-- over the places of the columns that are shown and of the one that is tested; refused where one is missing
 abbrev pub selected : State → TableEntry → Literal → Option (List ℕ) → Option ℕ → Outcome
 selected state t bound None tested = refused state cause.NotYet
 selected state t bound (Some shown) None = refused state cause.NotYet
@@ -134,6 +137,7 @@ selected state t bound (Some shown) (Some tested) =
     then done (selection shown tested (value_of bound) (rows_of state.world.tables t.name)) state
     else refused state cause.NotYet
 
+-- refused where there is no such table
 abbrev pub select_from : State → Select → Option TableEntry → Outcome
 select_from state s None = refused state cause.NotYet
 select_from state s (Some t) = selected state t s.filter.bound (column_places t.columns s.columns) (column_place t.columns s.filter.column)
@@ -154,6 +158,7 @@ is_within_limits (statement.CreateTable c) = nat_le (length c.columns) MAX_COLUM
 is_within_limits (statement.Insert i) = nat_le (length i.literals) MAX_COLUMNS && list_all is_short i.literals
 is_within_limits (statement.Select s) = nat_le (length s.columns) MAX_COLUMNS && is_short s.filter.bound
 
+-- by what the statement is
 abbrev pub outcome_of : HostMeanings → State → Statement → Outcome
 outcome_of hosts state (statement.CreateTable c) = create_outcome state c
 outcome_of hosts state (statement.Insert i) = insert_outcome state i

@@ -23,6 +23,9 @@ is_word_byte b = begins_word b || is_ascii_digit b
 abbrev pub is_quote : ℕ → Bool
 is_quote b = nat_eq b 39
 
+abbrev pub is_semicolon : ℕ → Bool
+is_semicolon b = nat_eq b 59
+
 -- which keyword a reserved word is
 abbrev pub keyword_of : List ℕ → Keyword
 keyword_of word =

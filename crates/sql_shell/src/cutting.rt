@@ -1,13 +1,13 @@
 // Cutting a script into the texts of its statements.
-ghost use Rattle.std.specs.Prelude.{◌≡◌, ◌&&◌, ◌+◌, ◌<◌, ◌∷◌, [], take, drop, false, not, nat_eq, length, if◌then◌else◌, MatchOption, OnSome, IfSome};
+ghost use Rattle.std.specs.Prelude.{◌≡◌, ◌&&◌, ◌+◌, ◌<◌, ◌∷◌, [], take, drop, false, not, length, if◌then◌else◌, MatchOption, IfSome};
 ghost use Rattle.sql_meaning.specs.Script.{texts_between, is_statement};
-ghost use Rattle.sql_meaning.specs.Tokens.{is_quote};
+ghost use Rattle.sql_meaning.specs.Tokens.{is_quote, is_semicolon};
 
 use crate::lexing::is_space;
 
 /// Whether this byte ends a statement.
 fn ends_statement(byte: u8, quoted: bool) -> bool
-    ensures { result ≡ (nat_eq byte 59 && not quoted) }
+    ensures { result ≡ (is_semicolon byte && not quoted) }
 {
     byte == b';' && !quoted
 }
@@ -23,7 +23,8 @@ fn is_quoted_behind(byte: u8, quoted: bool) -> bool
 fn statement_end(bytes: &[u8]) -> Option<usize>
     ensures within { IfSome result (λ end. end < length bytes.now) }
     ensures cut { MatchOption result (texts_between false bytes.now ≡ bytes.now ∷ [])
-        (λ end. texts_between false bytes.now ≡ take end bytes.now ∷ texts_between false (drop (end + 1) bytes.now)) }
+        (λ end. texts_between false bytes.now ≡
+        take end bytes.now ∷ texts_between false (drop (end + 1) bytes.now)) }
 {
     let mut quoted = false;
     for (place, byte) in bytes.iter().enumerate() {

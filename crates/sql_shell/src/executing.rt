@@ -1,5 +1,5 @@
 // The execution of a statement.
-ghost use Rattle.std.specs.Prelude.{◌≡◌, ◌∷◌, [], map, slice_get, IfOk};
+ghost use Rattle.std.specs.Prelude.{◌≡◌, map, slice_get, IfOk};
 ghost use Rattle.eng_value.specs.Compare.{is_greater};
 ghost use Rattle.sql_meaning.specs.Names.{is_named_in, is_reserved_name};
 ghost use Rattle.sql_meaning.specs.World.{State, next_rowid};
@@ -15,7 +15,8 @@ use sql_meaning::{Column, ColumnType, CreateTable, Insert, Literal, Select, Stat
 use sqlite_items::Items;
 use std::alloc::{AllocError, Global};
 
-/// Runs the statement that the grammar derives from a text, and gives its rows. A statement that is refused changes nothing.
+/// Runs the statement that the grammar derives from a text, and gives its rows. A statement that is refused changes
+/// nothing.
 pub(crate) fn run_text<M: Meanings>(
     alloc: Global,
     tables: &mut Tables,
@@ -199,7 +200,8 @@ fn select_rows(alloc: Global, tables: &Tables, statement: &Select) -> Result<Row
 
 /// What a SELECT from this table gives.
 fn select_from(alloc: Global, table: &Table, statement: &Select) -> Result<Rows, Cause>
-    ensures { (state : State) → HasRows state table.now → RunsTo (select_from state statement.now (Some (entry_of table.now))) state state result }
+    ensures { (state : State) → HasRows state table.now →
+        RunsTo (select_from state statement.now (Some (entry_of table.now))) state state result }
 {
     let columns = table.columns.as_slice();
     let Some(shown) = column_places(alloc, columns, statement.columns.as_slice())? else {

@@ -1,7 +1,7 @@
 // The lines of a statement's outcome.
 ghost use Rattle.std.specs.Prelude.{◌≡◌, ◌++◌, ◌∷◌, [], map, OnOk};
 ghost use Rattle.std.specs.List.{flat_map, join_with_byte};
-ghost use Rattle.sql_meaning.specs.Script.{printed, row_line, refusal_line};
+ghost use Rattle.sql_meaning.specs.Script.{bar, printed, row_line, refusal_line};
 
 use eng_value::{Cause, Row, Rows, Value};
 use itoa::Buffer;
@@ -21,7 +21,7 @@ fn print_value(value: &Value, lines: &mut Vec<u8>) -> Result<(), AllocError>
 
 /// Writes each value with a `|` in front.
 fn print_others(values: &[Value], lines: &mut Vec<u8>) -> Result<(), AllocError>
-    ensures { OnOk result (lines.new.items ≡ lines.old.items ++ flat_map (λ v. 124 ∷ printed v) values.now) }
+    ensures { OnOk result (lines.new.items ≡ lines.old.items ++ flat_map (λ v. bar ∷ printed v) values.now) }
 {
     for value in values {
         lines.push(b'|')?;
@@ -32,7 +32,7 @@ fn print_others(values: &[Value], lines: &mut Vec<u8>) -> Result<(), AllocError>
 
 /// Writes the values of a row, joined by `|`.
 fn print_values(values: &[Value], lines: &mut Vec<u8>) -> Result<(), AllocError>
-    ensures { OnOk result (lines.new.items ≡ lines.old.items ++ join_with_byte 124 (map printed values.now)) }
+    ensures { OnOk result (lines.new.items ≡ lines.old.items ++ join_with_byte bar (map printed values.now)) }
 {
     match values {
         [] => Ok(()),

@@ -1,7 +1,7 @@
 // Reading a script up to its ending.
-ghost use Rattle.std.specs.Prelude.{◌≡◌, ◌≢◌, ◌≤◌, ◌+◌, ℕ, List, length, IfOk};
+ghost use Rattle.std.specs.Prelude.{◌≡◌, ◌≢◌, ◌≤◌, ◌+◌, length, IfOk};
 ghost use Rattle.std.specs.Io.KnownBytes.{Consumes};
-ghost use Rattle.sql_meaning.specs.Due.{IsRead, MayEnd};
+ghost use Rattle.sql_meaning.specs.Due.{ForTold, MayEnd};
 ghost use Rattle.host_traits.specs.Faults.{Rose};
 
 use eng_value::MAX_SCRIPT_BYTES;
@@ -23,9 +23,11 @@ pub(crate) struct Script {
 pub(crate) fn read_script<S: Source>(alloc: Global, src: &mut S) -> Result<Script, AllocError>
     ensures bytes { IfOk result (λ script. Consumes (S.left src.old) (S.left src.new) script.bytes.items) }
     ensures ending { IfOk result (λ script. MayEnd script.bytes.items (S.left src.new) script.ending) }
-    ensures short { IfOk result (λ script. script.ending ≢ Ending.TooLong → length script.bytes.items ≤ MAX_SCRIPT_BYTES) }
-    ensures fault { IfOk result (λ script. script.ending ≡ Ending.ReadFault → Rose (S.fault_count src.old) (S.fault_count src.new)) }
-    ensures most { (bytes : List ℕ) → IsRead (S.left src.old) (S.left src.new) bytes → length bytes ≤ MAX_SCRIPT_BYTES + 1 }
+    ensures short { IfOk result (λ script.
+        script.ending ≢ Ending.TooLong → length script.bytes.items ≤ MAX_SCRIPT_BYTES) }
+    ensures fault { IfOk result (λ script.
+        script.ending ≡ Ending.ReadFault → Rose (S.fault_count src.old) (S.fault_count src.new)) }
+    ensures most { ForTold (S.left src.old) (S.left src.new) (λ bytes. length bytes ≤ MAX_SCRIPT_BYTES + 1) }
     ensures later { S.fault_count src.old ≤ S.fault_count src.new }
 {
     let mut bytes = Vec::new(alloc);

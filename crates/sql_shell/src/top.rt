@@ -1,8 +1,8 @@
 // The top call.
-ghost use Rattle.std.specs.Prelude.{◌≡◌, ◌≢◌, ◌↔◌, ◌⊎◌, ◌<◌, ◌≤◌, ◌+◌, ℕ, List, length, IfSome};
+ghost use Rattle.std.specs.Prelude.{◌≡◌, ◌≢◌, ◌↔◌, ◌⊎◌, ◌<◌, ◌≤◌, ◌+◌, length, IfSome};
 ghost use Rattle.std.specs.Io.KnownBytes.{Appends, IsAtEnd};
 ghost use Rattle.host_traits.specs.Faults.{Rose};
-ghost use Rattle.sql_meaning.specs.Due.{CutShort, IsRead, IsScript, IsFrontOfScript};
+ghost use Rattle.sql_meaning.specs.Due.{CutShort, ForTold, IsScript, IsFrontOfScript};
 ghost use Rattle.sql_meaning.specs.Script.{ending_told, status_of, usage_line};
 ghost use Rattle.sql_shell.specs.Meant.{meant};
 
@@ -39,18 +39,22 @@ fn run_source<M: Meanings, S: Source, K: Sink>(
     out: &mut K,
 ) -> u8
     requires told { meant hosts.old ≡ M.hosts }
-    ensures script { (bytes : List ℕ) → IsRead (S.left src.old) (S.left src.new) bytes →
-        IfSome (ending_told result) (λ ending. IsScript M.hosts bytes ending (K.written out.old) (K.written out.new) result) }
+    ensures script { ForTold (S.left src.old) (S.left src.new) (λ bytes.
+        IfSome (ending_told result) (λ ending.
+        IsScript M.hosts bytes ending (K.written out.old) (K.written out.new) result)) }
     ensures end { result < 2 → IsAtEnd (S.left src.new) }
-    ensures short { (bytes : List ℕ) → IsRead (S.left src.old) (S.left src.new) bytes → result < 2 → length bytes ≤ MAX_SCRIPT_BYTES }
-    ensures too_long { (bytes : List ℕ) → IsRead (S.left src.old) (S.left src.new) bytes → result ≡ 5 → length bytes ≡ MAX_SCRIPT_BYTES + 1 }
-    ensures fault { result ≡ 3 → Rose (S.fault_count src.old) (S.fault_count src.new) ⊎ Rose (K.fault_count out.old) (K.fault_count out.new) }
-    ensures read_fault { (bytes : List ℕ) → IsRead (S.left src.old) (S.left src.new) bytes → result ≡ 3 →
-        Rose (K.fault_count out.old) (K.fault_count out.new) ⊎ IsScript M.hosts bytes Ending.ReadFault (K.written out.old) (K.written out.new) result }
-    ensures part { (bytes : List ℕ) → IsRead (S.left src.old) (S.left src.new) bytes →
-        IsFrontOfScript M.hosts bytes (S.left src.new) (K.written out.old) (K.written out.new) }
+    ensures short { ForTold (S.left src.old) (S.left src.new) (λ bytes. result < 2 → length bytes ≤ MAX_SCRIPT_BYTES) }
+    ensures too_long { ForTold (S.left src.old) (S.left src.new) (λ bytes.
+        result ≡ 5 → length bytes ≡ MAX_SCRIPT_BYTES + 1) }
+    ensures limit { ForTold (S.left src.old) (S.left src.new) (λ bytes. length bytes ≤ MAX_SCRIPT_BYTES + 1) }
+    ensures fault { result ≡ 3 →
+        Rose (S.fault_count src.old) (S.fault_count src.new) ⊎ Rose (K.fault_count out.old) (K.fault_count out.new) }
+    ensures read_fault { ForTold (S.left src.old) (S.left src.new) (λ bytes. result ≡ 3 →
+        Rose (K.fault_count out.old) (K.fault_count out.new)
+        ⊎ IsScript M.hosts bytes Ending.ReadFault (K.written out.old) (K.written out.new) result) }
+    ensures part { ForTold (S.left src.old) (S.left src.new) (λ bytes.
+        IsFrontOfScript M.hosts bytes (S.left src.new) (K.written out.old) (K.written out.new)) }
     ensures statuses { (result < 2) ⊎ ((2 < result) × (result ≤ 5)) }
-    ensures limit { (bytes : List ℕ) → IsRead (S.left src.old) (S.left src.new) bytes → length bytes ≤ MAX_SCRIPT_BYTES + 1 }
     ensures source_count { S.fault_count src.old ≤ S.fault_count src.new }
     ensures sink_count { K.fault_count out.old ≤ K.fault_count out.new }
 {
@@ -87,31 +91,38 @@ pub fn run<S: Source, K: Sink, L: Ledger>(
     // The words are refused exactly where one stands behind the program's name.
     ensures words { (result ≡ 2) ↔ (1 < length words.now) }
     ensures nothing_read { result ≡ 2 → src.new ≡ src.old }
-    ensures usage { result ≡ 2 → Rose (K.fault_count out.old) (K.fault_count out.new) ⊎ Appends (K.written out.old) (K.written out.new) usage_line }
+    ensures usage { result ≡ 2 →
+        Rose (K.fault_count out.old) (K.fault_count out.new) ⊎ Appends (K.written out.old) (K.written out.new) usage_line }
     ensures usage_part { result ≡ 2 → CutShort (K.written out.old) (K.written out.new) usage_line }
 
     // Status 0, 1 or 5: all that the bytes mean was written, and the status is theirs.
-    ensures script { (bytes : List ℕ) → IsRead (S.left src.old) (S.left src.new) bytes → result ≢ 2 →
-        IfSome (ending_told result) (λ ending. IsScript (meant hosts.old) bytes ending (K.written out.old) (K.written out.new) result) }
+    ensures script { ForTold (S.left src.old) (S.left src.new) (λ bytes. result ≢ 2 →
+        IfSome (ending_told result) (λ ending.
+        IsScript (meant hosts.old) bytes ending (K.written out.old) (K.written out.new) result)) }
     ensures end { result < 2 → IsAtEnd (S.left src.new) }
-    ensures short { (bytes : List ℕ) → IsRead (S.left src.old) (S.left src.new) bytes → result < 2 → length bytes ≤ MAX_SCRIPT_BYTES }
-    ensures too_long { (bytes : List ℕ) → IsRead (S.left src.old) (S.left src.new) bytes → result ≡ 5 → length bytes ≡ MAX_SCRIPT_BYTES + 1 }
-    ensures limit { (bytes : List ℕ) → IsRead (S.left src.old) (S.left src.new) bytes → length bytes ≤ MAX_SCRIPT_BYTES + 1 }
-    ensures past_limit { (bytes : List ℕ) → IsRead (S.left src.old) (S.left src.new) bytes → MAX_SCRIPT_BYTES < length bytes → (2 < result) × (result ≤ 5) }
+    ensures short { ForTold (S.left src.old) (S.left src.new) (λ bytes. result < 2 → length bytes ≤ MAX_SCRIPT_BYTES) }
+    ensures too_long { ForTold (S.left src.old) (S.left src.new) (λ bytes.
+        result ≡ 5 → length bytes ≡ MAX_SCRIPT_BYTES + 1) }
+    ensures past_limit { ForTold (S.left src.old) (S.left src.new) (λ bytes.
+        MAX_SCRIPT_BYTES < length bytes → (2 < result) × (result ≤ 5)) }
+    ensures limit { ForTold (S.left src.old) (S.left src.new) (λ bytes. length bytes ≤ MAX_SCRIPT_BYTES + 1) }
 
     // Status 3: a read failed, and all that is due was written, or a write failed.
-    ensures fault { result ≡ 3 → Rose (S.fault_count src.old) (S.fault_count src.new) ⊎ Rose (K.fault_count out.old) (K.fault_count out.new) }
-    ensures read_fault { (bytes : List ℕ) → IsRead (S.left src.old) (S.left src.new) bytes → result ≡ 3 →
-        Rose (K.fault_count out.old) (K.fault_count out.new) ⊎ IsScript (meant hosts.old) bytes Ending.ReadFault (K.written out.old) (K.written out.new) result }
+    ensures fault { result ≡ 3 →
+        Rose (S.fault_count src.old) (S.fault_count src.new) ⊎ Rose (K.fault_count out.old) (K.fault_count out.new) }
+    ensures read_fault { ForTold (S.left src.old) (S.left src.new) (λ bytes. result ≡ 3 →
+        Rose (K.fault_count out.old) (K.fault_count out.new)
+        ⊎ IsScript (meant hosts.old) bytes Ending.ReadFault (K.written out.old) (K.written out.new) result) }
 
     // Whatever the status, a front of what the bytes mean was written.
-    ensures part { (bytes : List ℕ) → IsRead (S.left src.old) (S.left src.new) bytes → result ≢ 2 →
-        IsFrontOfScript (meant hosts.old) bytes (S.left src.new) (K.written out.old) (K.written out.new) }
+    ensures part { ForTold (S.left src.old) (S.left src.new) (λ bytes. result ≢ 2 →
+        IsFrontOfScript (meant hosts.old) bytes (S.left src.new) (K.written out.old) (K.written out.new)) }
 
     // Where no count rose, the outcome is the script's or want of memory, and nothing else.
-    ensures complete { (bytes : List ℕ) → IsRead (S.left src.old) (S.left src.new) bytes → length words.now ≤ 1 →
-        (Rose (S.fault_count src.old) (S.fault_count src.new) ⊎ Rose (K.fault_count out.old) (K.fault_count out.new)) ⊎
-        ((result ≡ 4) ⊎ ((ending : Ending) × IsScript (meant hosts.old) bytes ending (K.written out.old) (K.written out.new) result)) }
+    ensures complete { ForTold (S.left src.old) (S.left src.new) (λ bytes. length words.now ≤ 1 →
+        (Rose (S.fault_count src.old) (S.fault_count src.new) ⊎ Rose (K.fault_count out.old) (K.fault_count out.new))
+        ⊎ ((result ≡ 4)
+        ⊎ ((ending : Ending) × IsScript (meant hosts.old) bytes ending (K.written out.old) (K.written out.new) result))) }
 
     ensures statuses { result ≤ 5 }
     ensures source_count { S.fault_count src.old ≤ S.fault_count src.new }

@@ -11,7 +11,8 @@ use host_traits::{Sink, WriteAnswer};
 pub(crate) fn write_all<K: Sink>(out: &mut K, piece: &[u8]) -> Result<(), Stop>
     ensures ok { OnOk result (Appends (K.written out.old) (K.written out.new) piece.now) }
     ensures part { CutShort (K.written out.old) (K.written out.new) piece.now }
-    ensures fault { IfErr result (λ stop. (stop ≡ Stop.SinkFault) × Rose (K.fault_count out.old) (K.fault_count out.new)) }
+    ensures fault { IfErr result (λ stop.
+        (stop ≡ Stop.SinkFault) × Rose (K.fault_count out.old) (K.fault_count out.new)) }
     ensures later { K.fault_count out.old ≤ K.fault_count out.new }
 {
     let mut rest = piece;

@@ -33,7 +33,8 @@ fn run_uncounted<S: Source, K: Sink, L: Ledger>(
     requires parts { blank.parts ≡ L.parts }
     requires some { 0 < blank.parts }
     ensures words { (result ≡ 2) ↔ (1 < length words.now) }
-    ensures fault { result ≡ 3 → Rose (S.fault_count src.old) (S.fault_count src.new) ⊎ Rose (K.fault_count out.old) (K.fault_count out.new) }
+    ensures fault { result ≡ 3 →
+        Rose (S.fault_count src.old) (S.fault_count src.new) ⊎ Rose (K.fault_count out.old) (K.fault_count out.new) }
     ensures statuses { result ≤ 5 }
 {
     let mut hosts = Hosts {};
