@@ -1,4 +1,4 @@
--- `texts_between` cuts at each `;` not-true quotes, and nowhere else.
+-- `texts_between` cuts at each `;` outside quotes, and nowhere else.
 use Rattle.std.proofs.Common.{◌≡◌, ◌≢◌, ℕ, ◌+◌, ◌-◌, ◌%◌, suc, zero, List, [], ◌∷◌, ◌++◌, Bool, true, false, not, ◌&&◌, cond, Some, All, length, take, slice_get, refl, sym, ◌∙◌, ap, subst, arith, if◌then◌else◌, nat_eq, eqb-true, filter}
 use Rattle.std.specs.Bool.{⊤}
 use Rattle.std.specs.List.{join_with_byte}
@@ -22,7 +22,7 @@ abbrev Uncut : Bool → List ℕ → Type 0
 Uncut q [] = ⊤
 Uncut q (b ∷ bs) = ((nat_eq b 59 && not q) ≡ false) × Uncut (turned q b) bs
 
--- no byte of the texts cuts, and each but the last ends not-true quotes
+-- no byte of the texts cuts, and each but the last ends outside quotes
 abbrev Cut : Bool → List (List ℕ) → Type 0
 Cut q [] = ⊥
 Cut q (t ∷ []) = Uncut q t
@@ -164,7 +164,7 @@ Cut-from (t ∷ u ∷ us) some w c =
       Cut-from (u ∷ us) (λ e. cc) (All-tail IsWhole t (u ∷ us) w) (All-tail IsClosed t (all_but_last (u ∷ us)) parts),
     )
 
--- the texts are cut at each `;` not-true quotes
+-- the texts are cut at each `;` outside quotes
 pub texts_between-IsCut : (bytes : List ℕ) → IsCut bytes (texts_between false bytes)
 texts_between-IsCut bytes =
     let c = texts_between-Cut false bytes in
