@@ -1,3 +1,7 @@
 pub mod Compare
 pub mod CauseText
+pub mod Causes
+pub mod Outs
+pub mod StoredRows
+pub mod Environments
 pub mod HostMeanings

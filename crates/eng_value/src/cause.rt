@@ -1,9 +1,11 @@
 // Why a statement is refused.
-ghost use Rattle.std.specs.Prelude.{◌≡◌, ◌++◌, OnOk};
+ghost use Rattle.std.specs.Prelude.{◌≡◌, ◌++◌, codes, OnOk};
+ghost use Rattle.std.specs.Fmt.{decimal};
 ghost use Rattle.eng_value.specs.CauseText.{code_of, text_of};
 ghost use Rattle.eng_value.specs.declared.cause.Cause.TheVariants.{Mem};
 
 use crate::Text;
+use itoa::Buffer;
 use std::alloc::AllocError;
 
 /// Why a statement is refused. Each cause has a result code (Result and Error Codes) and a text.
@@ -13,6 +15,10 @@ pub enum Cause {
     NotYet,
     /// No memory was found.
     Mem,
+    /// So many instructions were run, and that is the budget.
+    Interrupted(u64),
+    /// The sink for the rows failed.
+    SinkFault,
     /// A row of this table would need a rowid above the largest.
     Full(Text),
 }
@@ -25,6 +31,8 @@ impl Cause {
         match self {
             Cause::NotYet => 1,
             Cause::Mem => 7,
+            Cause::Interrupted(_) => 9,
+            Cause::SinkFault => 10,
             Cause::Full(_) => 13,
         }
     }
@@ -36,6 +44,8 @@ impl Cause {
         match self {
             Cause::NotYet => out.extend_from_slice(b"not built yet"),
             Cause::Mem => out.extend_from_slice(b"out of memory"),
+            Cause::Interrupted(n) => append_interrupted(out, *n),
+            Cause::SinkFault => Ok(()),
             Cause::Full(table) => append_both(out, b"table is full: ", table.as_bytes()),
         }
     }
@@ -48,6 +58,31 @@ fn append_both(out: &mut Vec<u8>, first: &[u8], second: &[u8]) -> Result<(), All
     out.extend_from_slice(first)?;
     out.extend_from_slice(second)?;
     Ok(())
+}
+
+/// Writes the text of an interruption behind `out`.
+fn append_interrupted(out: &mut Vec<u8>, instructions: u64) -> Result<(), AllocError>
+    ensures { OnOk result (out.new.items ≡
+        out.old.items ++ (codes "interrupted after " ++ decimal instructions ++ codes " instructions")) }
+{
+    out.extend_from_slice(b"interrupted after ")?;
+    out.extend_from_slice(Buffer::new().format(instructions).as_bytes())?;
+    out.extend_from_slice(b" instructions")?;
+    Ok(())
+}
+
+impl Clone for Cause {
+    ghost is_clone = { λ source copy. copy ≡ source };
+
+    fn clone(&self) -> Result<Cause, AllocError> {
+        match self {
+            Cause::NotYet => Ok(Cause::NotYet),
+            Cause::Mem => Ok(Cause::Mem),
+            Cause::Interrupted(n) => Ok(Cause::Interrupted(*n)),
+            Cause::SinkFault => Ok(Cause::SinkFault),
+            Cause::Full(table) => Ok(Cause::Full(table.clone()?)),
+        }
+    }
 }
 
 impl From<AllocError> for Cause {

@@ -7,19 +7,27 @@
 
 mod blob;
 mod cause;
+mod causes;
+mod compare_op;
 mod limits;
 mod meanings;
+mod out;
 mod row;
 mod steps;
+mod stored_row;
 mod text;
 mod value;
 
 pub use blob::Blob;
 pub use cause::Cause;
-pub use limits::{MAX_COLUMNS, MAX_ROWID, MAX_SCRIPT_BYTES, MAX_VALUE_BYTES};
+pub use causes::Causes;
+pub use compare_op::CompareOp;
+pub use limits::{DEFAULT_BUDGET, MAX_COLUMNS, MAX_ROWID, MAX_SCRIPT_BYTES, MAX_VALUE_BYTES};
 pub use meanings::Meanings;
+pub use out::Out;
 pub use row::{Row, Rows};
 pub use steps::Steps;
+pub use stored_row::{StoredRow, next_rowid};
 pub use text::Text;
 pub use value::Value;
 

@@ -11,3 +11,6 @@ pub const MAX_SCRIPT_BYTES: usize = 16_777_216;
 
 /// The largest rowid of a table.
 pub const MAX_ROWID: i64 = 9_223_372_036_854_775_807;
+
+/// How many instructions a statement may run where nothing else is said.
+pub const DEFAULT_BUDGET: u64 = 1_099_511_627_776;

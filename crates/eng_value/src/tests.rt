@@ -49,18 +49,116 @@ fn values_stand_in_their_order(rt: HostRuntime) -> Result<(), Fail> {
 fn causes_have_codes_and_texts(rt: HostRuntime) -> Result<(), Fail> {
     let alloc = rt.alloc();
     let full = Cause::Full(Text::from_str(alloc, "T1")?);
-    let causes = vec![in alloc; Cause::NotYet, Cause::from(AllocError), full]?;
+    let mut causes = vec![in alloc; Cause::NotYet, Cause::from(AllocError)]?;
+    causes.push(Cause::Interrupted(12))?;
+    causes.push(Cause::SinkFault)?;
+    causes.push(full)?;
     let wanted = [
         (1, "not built yet"),
         (7, "out of memory"),
+        (9, "interrupted after 12 instructions"),
+        (10, ""),
         (13, "table is full: T1"),
     ];
     for (cause, (code, text)) in causes.iter().zip(wanted) {
         let mut written = vec![in alloc; b'>']?;
-        cause.write_text(&mut written)?;
+        cause.clone()?.write_text(&mut written)?;
         assert_eq!(rt; cause.code(), code);
         assert_eq!(rt; &written[1..], text.as_bytes());
     }
+    Ok(())
+}
+
+#[test]
+fn one_of_the_causes_is_named(rt: HostRuntime) -> Result<(), Fail> {
+    let alloc = rt.alloc();
+    let fault = Causes::one(alloc, Cause::SinkFault);
+    let not_yet = Causes::one(alloc, Cause::NotYet);
+    let both = fault.union(&not_yet)?;
+    let all = both.union(&both)?.clone()?;
+    assert_eq!(rt; fault.union(&fault)?.into_first().code(), 10);
+    assert_eq!(rt; fault.clone()?.into_first().code(), 10);
+    assert_eq!(rt; not_yet.into_first().code(), 1);
+    let code = all.into_first().code();
+    assert!(rt; code == 10 || code == 1, "code {code}");
+    Ok(())
+}
+
+fn name(out: &Out) -> &'static str {
+    match out {
+        Out::Good(Value::Null) => "NULL",
+        Out::Good(Value::Integer(0)) => "false",
+        Out::Good(Value::Integer(1)) => "true",
+        Out::Good(_) => "another value",
+        Out::Bad(_) => "bad",
+    }
+}
+
+// What `=`, `<`, `<=`, `>` and `>=` give.
+fn compared(alloc: Global, a: &Out, b: &Out) -> Result<String, AllocError> {
+    let mut names = String::new(alloc);
+    for op in [
+        CompareOp::Eq,
+        CompareOp::Lt,
+        CompareOp::Le,
+        CompareOp::Gt,
+        CompareOp::Ge,
+    ] {
+        names.push_str(" ")?;
+        names.push_str(name(&a.compare(op, b)?))?;
+    }
+    Ok(names)
+}
+
+#[test]
+fn values_are_compared(rt: HostRuntime) -> Result<(), Fail> {
+    let alloc = rt.alloc();
+    let less = " false true true false false";
+    let equal = " true false true false true";
+    let greater = " false false false true true";
+    let three = Out::Good(Value::Integer(3));
+    let seven = Out::Good(Value::Integer(7));
+    let one = Out::Good(text(alloc, "1")?);
+    let ten = Out::Good(text(alloc, "10")?);
+    assert_eq!(rt; compared(alloc, &three, &seven)?.as_str(), less);
+    assert_eq!(rt; compared(alloc, &seven, &seven.clone()?)?.as_str(), equal);
+    assert_eq!(rt; compared(alloc, &seven, &three)?.as_str(), greater);
+    assert_eq!(rt; compared(alloc, &seven, &one)?.as_str(), less);
+    assert_eq!(rt; compared(alloc, &one, &ten)?.as_str(), less);
+    assert_eq!(rt; compared(alloc, &ten.clone()?, &ten)?.as_str(), equal);
+    assert_eq!(rt; compared(alloc, &ten, &one)?.as_str(), greater);
+    Ok(())
+}
+
+#[test]
+fn null_and_bad_operands_are_passed_on(rt: HostRuntime) -> Result<(), Fail> {
+    let alloc = rt.alloc();
+    let all_null = " NULL NULL NULL NULL NULL";
+    let all_bad = " bad bad bad bad bad";
+    let null = Out::Good(Value::Null);
+    let seven = Out::Good(Value::Integer(7));
+    let bad = Out::Bad(Causes::one(alloc, Cause::SinkFault));
+    assert_eq!(rt; compared(alloc, &null, &seven)?.as_str(), all_null);
+    assert_eq!(rt; compared(alloc, &seven, &null)?.as_str(), all_null);
+    assert_eq!(rt; compared(alloc, &null, &null.clone()?)?.as_str(), all_null);
+    assert_eq!(rt; compared(alloc, &bad, &seven)?.as_str(), all_bad);
+    assert_eq!(rt; compared(alloc, &null, &bad)?.as_str(), all_bad);
+    assert_eq!(rt; compared(alloc, &bad, &bad.clone()?)?.as_str(), all_bad);
+    Ok(())
+}
+
+#[test]
+fn rowids_go_up_to_the_largest(rt: HostRuntime) -> Result<(), Fail> {
+    let alloc = rt.alloc();
+    let row = Row::new(vec![in alloc; Value::Integer(1)]?);
+    let mut rows = Vec::new(alloc);
+    assert_eq!(rt; next_rowid(&rows), Some(1));
+    rows.push(StoredRow::new(7, row))?;
+    assert_eq!(rt; next_rowid(&rows), Some(8));
+    rows.push(StoredRow::new(MAX_ROWID, Row::empty(alloc)))?;
+    assert_eq!(rt; next_rowid(&rows), None);
+    assert_eq!(rt; rows[0].rowid(), 7);
+    assert_eq!(rt; rows[0].values().len(), 1);
     Ok(())
 }
 

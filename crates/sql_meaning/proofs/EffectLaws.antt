@@ -7,12 +7,15 @@ use Rattle.std.proofs.lemmas.List.{take_more, nil_from_length}
 use Rattle.std.proofs.lemmas.Option.{slice_get_cases}
 use Rattle.eng_value.specs.declared.cause.Cause.TheVariants as cause
 use Rattle.eng_value.specs.declared.limits.TheConstants.{MAX_ROWID}
+use Rattle.eng_value.specs.declared.value.Value.{Value}
 use Rattle.sql_meaning.specs.declared.statement.CreateTable.{CreateTable}
 use Rattle.sql_meaning.specs.declared.statement.Insert.{Insert}
+use Rattle.sql_meaning.specs.declared.statement.Literal.{Literal}
 use Rattle.sql_meaning.specs.Effects.{IsCreated, IsNextRowid, IsInserted}
 use Rattle.sql_meaning.specs.Names.{is_same_name}
 use Rattle.sql_meaning.specs.Statement.{refused, done, is_creatable, with_created, create_outcome, value_of, fits_columns, inserted, insert_into, insert_outcome}
-use Rattle.sql_meaning.specs.World.{StoredRow, TableEntry, State, entry_named, rows_of, with_rows, rowid_behind, next_rowid}
+use Rattle.eng_value.specs.StoredRows.{StoredRow, rowid_behind, next_rowid}
+use Rattle.sql_meaning.specs.World.{TableEntry, State, entry_named, rows_of, with_rows}
 use Rattle.sql_meaning.proofs.LookUps.{find-Some}
 use Rattle.sql_meaning.proofs.NameLaws.{is_same_name-sym, is_same_name-trans}
 use Rattle.sql_meaning.proofs.WorldLaws.{rows_of-same_name, rows_of-with_rows, rows_of-with_rows_other}
@@ -22,6 +25,9 @@ created state c = record {
   entry = refl;
   rows = rows_of-with_rows state.world.tables c.name [];
   others = λ other h. rows_of-with_rows_other state.world.tables c.name other [] h;
+  stack = refl;
+  changes = refl;
+  last_rowid = refl;
 }
 
 create_at : (b : Bool) (state : State) (c : CreateTable) → (if b then done [] (with_created state c) else refused state cause.NotYet).refusal ≡ None → IsCreated state (if b then done [] (with_created state c) else refused state cause.NotYet).next c
@@ -69,6 +75,9 @@ inserted_does state i t (Some rowid) same n e =
       values = refl;
       rowid = subst (λ rs. IsNextRowid rs rowid) old (next_rowid-Some (rows_of tables t.name) rowid n);
       others = λ other h. rows_of-with_rows_other tables t.name other rows (false_from_ne_true (is_same_name t.name other) λ k. both_ways (is_same_name i.table other) h (is_same_name-trans i.table t.name other (is_same_name-sym t.name i.table same) k));
+      stack = refl;
+      changes = refl;
+      last_rowid = refl;
     }
 
 insert_at : (b : Bool) (state : State) (i : Insert) (t : TableEntry) → is_same_name t.name i.table ≡ true → (if b then inserted state t (map value_of i.literals) (rows_of state.world.tables t.name) (next_rowid (rows_of state.world.tables t.name)) else refused state cause.NotYet).refusal ≡ None → IsInserted state (if b then inserted state t (map value_of i.literals) (rows_of state.world.tables t.name) (next_rowid (rows_of state.world.tables t.name)) else refused state cause.NotYet).next i
@@ -79,6 +88,24 @@ insert_into_does : (state : State) (i : Insert) (found : Option TableEntry) → 
 insert_into_does state i None f e = cc
 insert_into_does state i (Some t) f e =
     insert_at (fits_columns t.columns i.literals) state i t ((find-Some (λ (t : TableEntry). is_same_name t.name i.table) state.world.catalog t).0 f).3 e
+
+inserted_changed : (state : State) (t : TableEntry) (values : List Value) (rows : List StoredRow) (next : Option ℤ) → (inserted state t values rows next).refusal ≡ None → (inserted state t values rows next).changed ≡ 1
+inserted_changed state t values rows None e = cc
+inserted_changed state t values rows (Some rowid) e = refl
+
+changed_at : (b : Bool) (state : State) (t : TableEntry) (values : List Value) (rows : List StoredRow) (next : Option ℤ) → (if b then inserted state t values rows next else refused state cause.NotYet).refusal ≡ None → (if b then inserted state t values rows next else refused state cause.NotYet).changed ≡ 1
+changed_at true state t values rows next e = inserted_changed state t values rows next e
+changed_at false state t values rows next e = cc
+
+insert_into_changed : (state : State) (literals : List Literal) (found : Option TableEntry) → (insert_into state literals found).refusal ≡ None → (insert_into state literals found).changed ≡ 1
+insert_into_changed state literals None e = cc
+insert_into_changed state literals (Some t) e =
+    let rows = rows_of state.world.tables t.name in
+    changed_at (fits_columns t.columns literals) state t (map value_of literals) rows (next_rowid rows) e
+
+-- an accepted INSERT changes one row
+pub insert_changed : (state : State) (i : Insert) → (insert_outcome state i).refusal ≡ None → (insert_outcome state i).changed ≡ 1
+insert_changed state i e = insert_into_changed state i.literals (entry_named state.world.catalog i.table) e
 
 -- an accepted INSERT puts its row behind the others
 pub insert_does : (state : State) (i : Insert) → (insert_outcome state i).refusal ≡ None → IsInserted state (insert_outcome state i).next i

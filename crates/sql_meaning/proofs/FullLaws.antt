@@ -22,7 +22,8 @@ use Rattle.sql_meaning.specs.NotYet.{TableIs, IsInsertNotYet, IsNotYet}
 use Rattle.sql_meaning.specs.Spelling.{Spells}
 use Rattle.sql_meaning.specs.Tokens.{tokens_of}
 use Rattle.sql_meaning.specs.Statement.{Outcome, refused, done, is_creatable, with_created, create_outcome, value_of, fits_columns, inserted, insert_into, insert_outcome, column_place, column_places, is_comparable, selected, select_from, is_within_limits, outcome_of, parsed_outcome, text_outcome}
-use Rattle.sql_meaning.specs.World.{StoredRow, TableEntry, State, entry_named, rows_of, rowid_behind, next_rowid}
+use Rattle.eng_value.specs.StoredRows.{StoredRow, rowid_behind, next_rowid}
+use Rattle.sql_meaning.specs.World.{TableEntry, State, entry_named, rows_of}
 use Rattle.sql_meaning.proofs.EffectLaws.{last_apart}
 use Rattle.sql_meaning.proofs.GrammarLaws.{statement_of-sound, statement_of-complete}
 use Rattle.sql_meaning.proofs.LookUps.{find-Some}

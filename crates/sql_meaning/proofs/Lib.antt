@@ -10,8 +10,14 @@ pub mod ValidityLaws
 pub mod CuttingLaws
 pub mod TokenLaws
 pub mod LexicalLaws
+pub mod TextLaws
 pub mod ScriptLaws
 pub mod EffectLaws
 pub mod FullLaws
 pub mod SelectionLaws
 pub mod OutcomeLaws
+pub mod SizeLaws
+pub mod WithinLaws
+pub mod CountLaws
+pub mod BoundLaws
+pub mod TreeLaws

@@ -1,8 +1,9 @@
 -- What a look-up finds in a list, and what it does not find.
-use Rattle.std.proofs.Common.{◌≡◌, ◌↔◌, ◌⊎◌, inl, inr, ℕ, ◌≢◌, suc, zero, List, [], ◌∷◌, Bool, true, false, cond, not, ◌||◌, ◌&&◌, Some, None, length, slice_get, is_some, is_none, Any, position, find, refl, sym, ◌∙◌, ap, subst, arith, nat_lt}
+use Rattle.std.proofs.Common.{◌≡◌, ◌↔◌, ◌⊎◌, inl, inr, ℕ, ◌≢◌, suc, zero, ◌+◌, List, [], ◌∷◌, ◌++◌, Bool, true, false, cond, not, ◌||◌, ◌&&◌, Some, None, length, slice_get, is_some, is_none, Any, All, length-append, position, find, refl, sym, ◌∙◌, ap, subst, arith, nat_lt}
 use Rattle.std.specs.List.{list_any, list_all, position_or_len}
 use Rattle.std.specs.declared.option.Option.{Option}
 use Rattle.std.proofs.lemmas.Bool.{not-true, both_ways, and_cases, and_parts, lt-ltb, le-ltb, false_from_ne_true}
+use Rattle.std.proofs.lemmas.List.{get_or_at}
 use Rattle.std.proofs.lemmas.Option.{slice_get_cases}
 use Rattle.std.proofs.lemmas.List.Folds.{Any-from_list_any, list_any-from_Any, find_at, find-append}
 use lib.Pointwise.{pointwise, pointwise_long}
@@ -82,6 +83,14 @@ first_found p xs x f =
 -- what is found is the first of the kind
 pub find-Some : {X : Type 0} (p : X → Bool) (xs : List X) (x : X) → (find p xs ≡ Some x) ↔ IsFirst (λ x. p x ≡ true) xs x
 find-Some p xs x = (find_first p xs x, first_found p xs x)
+
+-- what holds of each element holds of the one that is found
+pub All-find : {X : Type 0} (P : X → Type 0) (p : X → Bool) (xs : List X) (x : X) → All P xs → find p xs ≡ Some x → P x
+All-find {X} P p xs x a e =
+    let f = (find-Some p xs x).0 e in
+    let all : All P (f.0 ++ x ∷ f.1) = subst (λ ys. All P ys) f.2 a in
+    let long : length (f.0 ++ x ∷ f.1) ≡ length f.0 + suc (length f.1) = length-append f.0 (x ∷ f.1) in
+    subst P (get_or_at f.0 x f.1 x (length f.0) (omega arith)) (all (length f.0) x (omega arith))
 
 -- ---- the place of the first element
 

@@ -24,7 +24,8 @@ use Rattle.sql_meaning.specs.Names.{is_same_name, is_named_in, is_reserved_name}
 use Rattle.sql_meaning.specs.NotYet.{TableIs, IsColumn, ColumnIs, HasTwice, column_names, IsOfOtherType, SomeOfOtherType, IsLongText, IsPastLimits, IsCreateNotYet, IsInsertNotYet, IsSelectNotYet, IsStatementNotYet, IsNotYet}
 use Rattle.sql_meaning.specs.Spelling.{Spells}
 use Rattle.sql_meaning.specs.Tokens.{tokens_of}
-use Rattle.sql_meaning.specs.World.{State, StoredRow, TableEntry, entry_named, rows_of, next_rowid}
+use Rattle.eng_value.specs.StoredRows.{StoredRow, next_rowid}
+use Rattle.sql_meaning.specs.World.{State, TableEntry, entry_named, rows_of}
 use Rattle.sql_meaning.specs.Statement.{Outcome, refused, done, has_twice, create_outcome, with_created, is_of_type, fits_columns, inserted, insert_into, insert_outcome, column_place, column_places, is_comparable, value_of, selection, selected, select_from, select_outcome, is_short, is_within_limits, outcome_of, parsed_outcome, text_outcome}
 use Rattle.sql_meaning.proofs.GrammarLaws.{statement_of-sound, statement_of-complete, statement_of-None}
 use Rattle.sql_meaning.proofs.LookUps.{list_any-true, Any-weaker, list_all-false, find-None, find-Some, position_finds, pointwise-false, FailsSomewhere, is_none-in_front, is_some-find}

@@ -15,11 +15,11 @@ use Rattle.sql_meaning.specs.Statement.{refused, select_from, is_within_limits, 
 use Rattle.sql_meaning.specs.Tokens.{tokens_of}
 use Rattle.sql_meaning.specs.Validity.{IsValid}
 use Rattle.sql_meaning.specs.World.{TableEntry, State, entry_named}
-use Rattle.sql_meaning.proofs.EffectLaws.{create_does, insert_does}
+use Rattle.sql_meaning.proofs.EffectLaws.{create_does, insert_does, insert_changed}
 use Rattle.sql_meaning.proofs.GrammarLaws.{statement_of-sound}
 use Rattle.sql_meaning.proofs.LookUps.{find-Some}
 use Rattle.sql_meaning.proofs.SelectionLaws.{select_does}
-use Rattle.sql_meaning.proofs.StatementLaws.{create_gives, insert_gives, select_next}
+use Rattle.sql_meaning.proofs.StatementLaws.{create_gives, create_changed, insert_gives, select_next, select_changed}
 
 select_table : (state : State) (s : Select) (found : Option TableEntry) → entry_named state.world.catalog s.table ≡ found → (select_from state s found).refusal ≡ None → (t : TableEntry) × TableIs state s.table t
 select_table state s None f e = absurd (cc)
@@ -27,11 +27,11 @@ select_table state s (Some t) f e = (t, (find-Some (λ (t : TableEntry). is_same
 
 -- a statement that is not refused does what it says
 pub outcome_does : (hosts : HostMeanings) (state : State) (s : Statement) → IsValid state → (outcome_of hosts state s).refusal ≡ None → Does state s (outcome_of hosts state s)
-outcome_does hosts state (statement.CreateTable c) v e = (create_does state c e, create_gives state c)
-outcome_does hosts state (statement.Insert i) v e = (insert_does state i e, insert_gives state i)
+outcome_does hosts state (statement.CreateTable c) v e = (create_does state c e, create_gives state c, create_changed state c)
+outcome_does hosts state (statement.Insert i) v e = (insert_does state i e, insert_gives state i, insert_changed state i e)
 outcome_does hosts state (statement.Select s) v e =
     let t = select_table state s (entry_named state.world.catalog s.table) refl e in
-    (t.0, t.1, select_does state s t.0 v t.1 e, select_next state s)
+    (t.0, t.1, select_does state s t.0 v t.1 e, select_next state s, select_changed state s)
 
 limited_does : (b : Bool) (hosts : HostMeanings) (state : State) (s : Statement) → IsValid state → (if b then outcome_of hosts state s else refused state cause.NotYet).refusal ≡ None → Does state s (if b then outcome_of hosts state s else refused state cause.NotYet)
 limited_does true hosts state s v e = outcome_does hosts state s v e

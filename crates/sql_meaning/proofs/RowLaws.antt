@@ -15,7 +15,7 @@ use Rattle.sql_meaning.specs.declared.statement.Literal.{Literal}
 use Rattle.sql_meaning.specs.declared.statement.Literal.TheVariants as literal
 use Rattle.sql_meaning.specs.Statement.{value_of, is_of_type, fits_columns}
 use Rattle.sql_meaning.specs.Validity.{IsValueOf, IsRowOf, AreRowsOf}
-use Rattle.sql_meaning.specs.World.{StoredRow, rowid_behind, next_rowid}
+use Rattle.eng_value.specs.StoredRows.{StoredRow, rowid_behind, next_rowid}
 
 above_last : (last : StoredRow) (rowid : ℤ) (b : Bool) → int_le MAX_ROWID last.rowid ≡ b → (if b then None else Some (last.rowid +ℤ pos 1)) ≡ Some rowid → last.rowid ≤ℤ MAX_ROWID → (rowid ≡ last.rowid +ℤ pos 1) × (rowid ≤ℤ MAX_ROWID)
 above_last last rowid true e h m = absurd (cc)

@@ -16,7 +16,8 @@ use Rattle.sql_meaning.specs.Names.{is_same_name}
 use Rattle.sql_meaning.specs.NotYet.{IsFirst, ColumnIs, TableIs}
 use Rattle.sql_meaning.specs.Statement.{refused, done, value_of, column_place, column_places, value_at, selection, is_comparable, selected, select_from, select_outcome}
 use Rattle.sql_meaning.specs.Validity.{IsRowOf, IsValid}
-use Rattle.sql_meaning.specs.World.{StoredRow, TableEntry, State, entry_named, rows_of}
+use Rattle.eng_value.specs.StoredRows.{StoredRow}
+use Rattle.sql_meaning.specs.World.{TableEntry, State, entry_named, rows_of}
 use Rattle.sql_meaning.proofs.GrammarLaws.{in_front-Some}
 use Rattle.sql_meaning.proofs.LookUps.{list_any-false, find-Some, position_finds}
 use Rattle.sql_meaning.proofs.ValidityLaws.{found_rows}

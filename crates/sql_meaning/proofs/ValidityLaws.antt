@@ -20,7 +20,8 @@ use Rattle.sql_meaning.specs.Runs.{last_state}
 use Rattle.sql_meaning.specs.Script.{outcomes}
 use Rattle.sql_meaning.specs.Tokens.{tokens_of}
 use Rattle.sql_meaning.specs.Validity.{AreRowsOf, IsTableWith, table_names, IsValid}
-use Rattle.sql_meaning.specs.World.{StoredRow, TableEntry, State, entry_named, rows_of, with_rows, next_rowid, new_state}
+use Rattle.eng_value.specs.StoredRows.{StoredRow, next_rowid}
+use Rattle.sql_meaning.specs.World.{TableEntry, State, entry_named, rows_of, with_rows, new_state}
 use Rattle.sql_meaning.proofs.LookUps.{is_none_from, is_some-find, find-Some}
 use Rattle.sql_meaning.proofs.NameLaws.{is_same_name-left, is_same_name_comm, is_reserved_name-true}
 use Rattle.sql_meaning.proofs.NotYetLaws.{has_twice-true}

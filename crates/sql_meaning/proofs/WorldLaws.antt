@@ -2,7 +2,8 @@
 use Rattle.std.proofs.Common.{◌≡◌, ℕ, List, [], ◌∷◌, Bool, true, false, cond, if◌then◌else◌, refl, sym, ◌∙◌, ap}
 use Rattle.std.proofs.lemmas.Bool.{both_ways, false_from_ne_true, cond-true, cond-false}
 use Rattle.sql_meaning.specs.Names.{is_same_name}
-use Rattle.sql_meaning.specs.World.{StoredRow, rows_of, with_rows}
+use Rattle.eng_value.specs.StoredRows.{StoredRow}
+use Rattle.sql_meaning.specs.World.{rows_of, with_rows}
 use Rattle.sql_meaning.proofs.NameLaws.{is_same_name-refl, is_same_name-sym, is_same_name-trans, is_same_name-left}
 
 -- two names that name one thing have the same rows

@@ -15,7 +15,8 @@ use Rattle.sql_meaning.specs.NotYet.{TableIs, ColumnIs, IsNotYet}
 use Rattle.sql_meaning.specs.Spelling.{Spells}
 use Rattle.sql_meaning.specs.Tokens.{tokens_of}
 use Rattle.sql_meaning.specs.Statement.{Outcome, value_of}
-use Rattle.sql_meaning.specs.World.{StoredRow, TableEntry, State, rows_of}
+use Rattle.eng_value.specs.StoredRows.{StoredRow}
+use Rattle.sql_meaning.specs.World.{TableEntry, State, rows_of}
 
 -- the rows of a table
 abbrev pub rows_in : State → List ℕ → List StoredRow
@@ -25,11 +26,14 @@ rows_in state name = rows_of state.world.tables name
 abbrev pub OthersStay : State → State → List ℕ → Type 0
 OthersStay old new name = (other : List ℕ) → is_same_name name other ≡ false → rows_in new other ≡ rows_in old other
 
--- one table more, behind the others, with these columns and no row
+-- one table more, behind the others, with these columns and no row; what is kept of the last INSERT stays
 pub record IsCreated (old new : State) (c : CreateTable) : Type 0 where
   pub entry : new.world.catalog ≡ old.world.catalog ++ record { name = c.name; columns = c.columns } ∷ []
   pub rows : rows_in new c.name ≡ []
   pub others : OthersStay old new c.name
+  pub stack : new.stack ≡ old.stack
+  pub changes : new.changes ≡ old.changes
+  pub last_rowid : new.last_rowid ≡ old.last_rowid
 
 -- 1 where there is no row, and else one more than the last, if that is no more than the largest
 abbrev pub IsNextRowid : List StoredRow → ℤ → Type 0
@@ -41,6 +45,11 @@ IsNextRowid rows rowid =
 abbrev pub HasLargest : List StoredRow → Type 0
 HasLargest rows = (front : List StoredRow) × (last : StoredRow) × (rows ≡ front ++ last ∷ []) × (MAX_ROWID ≤ℤ last.rowid)
 
+-- the rowid that the connection keeps is that of the last row of this table
+abbrev pub KeepsRowidOf : State → List ℕ → Type 0
+KeepsRowidOf state name =
+    (front : List StoredRow) × (last : StoredRow) × (rows_in state name ≡ front ++ last ∷ []) × (state.last_rowid ≡ last.rowid)
+
 -- the text is an INSERT that could be carried out, but for its table, which has no rowid left
 pub record IsFull (state : State) (text name : List ℕ) : Type 0 where
   pub insert : Insert
@@ -51,7 +60,7 @@ pub record IsFull (state : State) (text name : List ℕ) : Type 0 where
   pub name_is : name ≡ table.name
   pub largest : HasLargest (rows_in state insert.table)
 
--- one row more, behind the others, with the literals' values in their order
+-- one row more, behind the others, with the literals' values in their order; its rowid is kept, and that one row was put
 pub record IsInserted (old new : State) (i : Insert) : Type 0 where
   pub catalog : new.world.catalog ≡ old.world.catalog
   pub row : StoredRow
@@ -59,6 +68,9 @@ pub record IsInserted (old new : State) (i : Insert) : Type 0 where
   pub values : row.values ≡ map value_of i.literals
   pub rowid : IsNextRowid (rows_in old i.table) row.rowid
   pub others : OthersStay old new i.table
+  pub stack : new.stack ≡ old.stack
+  pub changes : new.changes ≡ 1
+  pub last_rowid : new.last_rowid ≡ row.rowid
 
 -- v is what the row holds in the column of this name
 abbrev pub Holds : TableEntry → StoredRow → List ℕ → Value → Type 0
@@ -79,8 +91,8 @@ pub record IsSelection (state : State) (t : TableEntry) (s : Select) (given : Li
   pub greater : Keeps (λ r. HoldsGreater t r s.filter.column (value_of s.filter.bound)) (rows_in state s.table) kept
   pub shown : AllZip (λ r row. AllZip (Holds t r) s.columns row) kept given
 
--- what a statement does that is not refused
+-- what a statement does that is not refused, with the rows that it gives and how many it changes
 abbrev pub Does : State → Statement → Outcome → Type 0
-Does old (statement.CreateTable c) o = IsCreated old o.next c × (o.given ≡ [])
-Does old (statement.Insert i) o = IsInserted old o.next i × (o.given ≡ [])
-Does old (statement.Select s) o = (t : TableEntry) × TableIs old s.table t × IsSelection old t s o.given × (o.next ≡ old)
+Does old (statement.CreateTable c) o = IsCreated old o.next c × (o.given ≡ []) × (o.changed ≡ 0)
+Does old (statement.Insert i) o = IsInserted old o.next i × (o.given ≡ []) × (o.changed ≡ 1)
+Does old (statement.Select s) o = (t : TableEntry) × TableIs old s.table t × IsSelection old t s o.given × (o.next ≡ old) × (o.changed ≡ 0)

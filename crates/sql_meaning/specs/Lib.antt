@@ -8,6 +8,8 @@ pub mod World
 pub mod NotYet
 pub mod Validity
 pub mod Statement
+pub mod Expression
+pub mod Work
 pub mod Effects
 pub mod Script
 pub mod Cuts

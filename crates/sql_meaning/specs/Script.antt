@@ -1,5 +1,5 @@
 -- What a script writes, and its status.
-use Rattle.std.specs.Prelude.{ℕ, ◌-◌, List, [], ◌∷◌, ◌++◌, take, length, Bool, false, nat_eq, nat_lt, not, ◌&&◌, if◌then◌else◌, map, is_some, Some, None, codes}
+use Rattle.std.specs.Prelude.{ℕ, ◌+◌, ◌-◌, List, [], ◌∷◌, ◌++◌, take, length, Bool, false, nat_eq, nat_lt, not, ◌&&◌, if◌then◌else◌, map, is_some, Some, None, codes}
 use Rattle.std.specs.List.{filter, flat_map, list_any, join_with_byte}
 use Rattle.std.specs.Fmt.{decimal, signed_decimal}
 use Rattle.std.specs.declared.option.Option.{Option}
@@ -14,6 +14,7 @@ use Rattle.sql_meaning.specs.declared.ending.Ending.TheVariants.{End, ReadFault,
 use Rattle.sql_meaning.specs.Tokens.{is_space, is_quote, is_semicolon}
 use Rattle.sql_meaning.specs.World.{State, new_state}
 use Rattle.sql_meaning.specs.Statement.{Outcome, text_outcome}
+use Rattle.sql_meaning.specs.Work.{instruction_bound}
 
 -- ---- the statements of a script
 
@@ -61,6 +62,16 @@ outcomes hosts state (text ∷ texts) = text_outcome hosts state text ∷ outcom
 -- the outcomes of a script's statements, from no tables on
 unfoldable pub script_outcomes : HostMeanings → List ℕ → Ending → List Outcome
 script_outcomes hosts bytes ending = outcomes hosts new_state (statements_of bytes ending)
+
+-- the most instructions of statements that run one after another
+abbrev pub bound_together : HostMeanings → State → List (List ℕ) → ℕ
+bound_together hosts state [] = 0
+bound_together hosts state (text ∷ texts) =
+    instruction_bound state text + bound_together hosts (text_outcome hosts state text).next texts
+
+-- the most instructions of a script's statements
+unfoldable pub script_bound : HostMeanings → List ℕ → Ending → ℕ
+script_bound hosts bytes ending = bound_together hosts new_state (statements_of bytes ending)
 
 -- ---- what is written
 

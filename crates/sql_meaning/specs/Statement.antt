@@ -1,8 +1,7 @@
 -- The outcome of a statement.
-use Rattle.std.specs.Prelude.{◌≡◌, ℕ, List, [], ◌∷◌, ◌++◌, Bool, true, false, ◌&&◌, ◌||◌, not, nat_le, if◌then◌else◌, length, map, position, slice_get, unwrap_or, is_some, Some, None, Ok, Err, ℤ, ◌⊎◌}
+use Rattle.std.specs.Prelude.{ℕ, List, [], ◌∷◌, ◌++◌, Bool, true, false, ◌&&◌, ◌||◌, not, nat_le, if◌then◌else◌, length, map, position, slice_get, unwrap_or, is_some, Some, None, ℤ}
 use Rattle.std.specs.List.{filter, list_all}
 use Rattle.std.specs.declared.option.Option.{Option}
-use Rattle.std.specs.declared.result.Result.{Result}
 use lib.Pointwise.{pointwise}
 use Rattle.eng_value.specs.declared.cause.Cause.{Cause}
 use Rattle.eng_value.specs.declared.cause.Cause.TheVariants as cause
@@ -11,6 +10,7 @@ use Rattle.eng_value.specs.declared.value.Value.TheVariants as value
 use Rattle.eng_value.specs.declared.limits.TheConstants.{MAX_COLUMNS, MAX_VALUE_BYTES}
 use Rattle.eng_value.specs.Compare.{is_greater}
 use Rattle.eng_value.specs.HostMeanings.{HostMeanings}
+use Rattle.eng_value.specs.StoredRows.{StoredRow, next_rowid}
 use Rattle.sql_meaning.specs.declared.statement.ColumnType.{ColumnType}
 use Rattle.sql_meaning.specs.declared.statement.ColumnType.TheVariants as column_type
 use Rattle.sql_meaning.specs.declared.statement.Column.{Column}
@@ -24,20 +24,27 @@ use Rattle.sql_meaning.specs.declared.statement.Statement.TheVariants as stateme
 use Rattle.sql_meaning.specs.Names.{is_same_name, is_named_in, is_reserved_name}
 use Rattle.sql_meaning.specs.Tokens.{tokens_of}
 use Rattle.sql_meaning.specs.Grammar.{in_front, statement_of}
-use Rattle.sql_meaning.specs.World.{StoredRow, TableEntry, State, entry_named, rows_of, with_rows, next_rowid}
+use Rattle.sql_meaning.specs.World.{TableEntry, State, entry_named, rows_of, with_rows}
 
--- what a statement comes to: why it is refused, if it is, the rows that it gives, and what the connection then holds
+-- what a statement comes to: why it is refused, if it is, the rows that it gives, how many rows it changes, and what the connection then holds
 pub record Outcome : Type 0 where
   pub refusal : Option Cause
   pub given : List (List Value)
+  pub changed : ℕ
   pub next : State
 
 -- a refused statement gives nothing and changes nothing
 abbrev pub refused : State → Cause → Outcome
-refused state why = record { refusal = Some why; given = []; next = state }
+refused state why = record { refusal = Some why; given = []; changed = 0; next = state }
 
+-- a query, or a change of the catalog
 abbrev pub done : List (List Value) → State → Outcome
-done given next = record { refusal = None; given = given; next = next }
+done given next = record { refusal = None; given = given; changed = 0; next = next }
+
+-- a write, which counts the rows that it changes and keeps the last rowid that it put
+abbrev pub written : ℕ → ℤ → State → Outcome
+written changed rowid next =
+    record { refusal = None; given = []; changed = changed; next = record next { changes = changed; last_rowid = rowid } }
 
 -- the state in which the table of this name has these rows
 abbrev pub with_table : State → List ℕ → List StoredRow → State
@@ -90,7 +97,7 @@ fits_columns columns literals = pointwise (λ c l. is_of_type c.column_type l) c
 -- the row stands behind the others under the next rowid; refused where there is none
 abbrev pub inserted : State → TableEntry → List Value → List StoredRow → Option ℤ → Outcome
 inserted state t values rows None = refused state (cause.Full t.name)
-inserted state t values rows (Some rowid) = done [] (with_table state t.name (rows ++ record { rowid = rowid; values = values } ∷ []))
+inserted state t values rows (Some rowid) = written 1 rowid (with_table state t.name (rows ++ record { rowid = rowid; values = values } ∷ []))
 
 -- refused where there is no such table, or the literals do not fit its columns
 abbrev pub insert_into : State → List Literal → Option TableEntry → Outcome
@@ -172,8 +179,3 @@ parsed_outcome hosts state (Some s) = if is_within_limits s then outcome_of host
 -- the outcome of a statement's text
 abbrev pub text_outcome : HostMeanings → State → List ℕ → Outcome
 text_outcome hosts state text = parsed_outcome hosts state (statement_of (tokens_of text))
-
--- a run of a statement from `old` to `new` came to this outcome, or found no memory and changed nothing
-abbrev pub RunsTo : Outcome → State → State → Result (List (List Value)) Cause → Type 0
-RunsTo o old new (Ok rows) = o ≡ done rows new
-RunsTo o old new (Err why) = (new ≡ old) × ((why ≡ cause.Mem) ⊎ (o ≡ refused old why))

@@ -1,14 +1,15 @@
 -- What holds of the tables between any two statements.
-use Rattle.std.specs.Prelude.{ℕ, List, ⊤, pos, ◌<ℤ◌, ◌≤ℤ◌, map, All, AllPairs, ◌≡◌}
+use Rattle.std.specs.Prelude.{ℕ, ◌*◌, ◌≤◌, List, ⊤, pos, ◌<ℤ◌, ◌≤ℤ◌, length, map, All, AllPairs, ◌≡◌}
 use Rattle.std.specs.List.{AllZip}
-use Rattle.eng_value.specs.declared.limits.TheConstants.{MAX_ROWID}
+use Rattle.eng_value.specs.declared.limits.TheConstants.{MAX_COLUMNS, MAX_ROWID}
 use Rattle.eng_value.specs.declared.value.Value.{Value}
 use Rattle.eng_value.specs.declared.value.Value.TheVariants as value
 use Rattle.sql_meaning.specs.declared.statement.ColumnType.{ColumnType}
 use Rattle.sql_meaning.specs.declared.statement.ColumnType.TheVariants as column_type
 use Rattle.sql_meaning.specs.declared.statement.Column.{Column}
 use Rattle.sql_meaning.specs.NotYet.{BeginsReserved, HasTwice, column_names}
-use Rattle.sql_meaning.specs.World.{StoredRow, TableEntry, State}
+use Rattle.eng_value.specs.StoredRows.{StoredRow}
+use Rattle.sql_meaning.specs.World.{TableEntry, State, rows_of}
 
 -- an INTEGER holds an integer, and a TEXT a text
 abbrev pub IsValueOf : ColumnType → Value → Type 0
@@ -39,3 +40,8 @@ table_names catalog = map (λ e. e.name) catalog
 pub record IsValid (state : State) : Type 0 where
   pub tables : AllZip IsTableWith state.world.catalog state.world.tables
   pub names_once : ¬ HasTwice (table_names state.world.catalog)
+
+-- what statements of so many bytes can have built: no table has more columns than the limit, and for each row there were 7 bytes, since an INSERT has 7 tokens at the least
+pub record IsWithin (bytes : ℕ) (state : State) : Type 0 where
+  pub columns : All (λ (t : TableEntry). length t.columns ≤ MAX_COLUMNS) state.world.catalog
+  pub rows : (name : List ℕ) → 7 * length (rows_of state.world.tables name) ≤ bytes

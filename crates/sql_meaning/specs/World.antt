@@ -1,16 +1,13 @@
 -- Tables and what they hold.
-use Rattle.std.specs.Prelude.{ℕ, ◌-◌, List, [], ◌∷◌, ℤ, pos, ◌+ℤ◌, int_le, if◌then◌else◌, slice_get, length, Some, None}
+use Rattle.std.specs.Prelude.{ℕ, List, [], ◌∷◌, Bool, ℤ, pos, nat_lt, if◌then◌else◌, length, map}
 use Rattle.std.specs.List.{find}
+use Rattle.std.specs.Option.{option_map}
 use Rattle.std.specs.declared.option.Option.{Option}
+use Rattle.eng_value.specs.StoredRows.{StoredRow}
 use Rattle.eng_value.specs.declared.value.Value.{Value}
-use Rattle.eng_value.specs.declared.limits.TheConstants.{MAX_ROWID}
+use Rattle.eng_value.specs.declared.value.Value.TheVariants.{Integer}
 use Rattle.sql_meaning.specs.declared.statement.Column.{Column}
 use Rattle.sql_meaning.specs.Names.{is_same_name}
-
--- a row of a table under its rowid
-pub record StoredRow : Type 0 where
-  pub rowid : ℤ
-  pub values : List Value
 
 -- what the catalog keeps of a table: its name and its columns as declared
 pub record TableEntry : Type 0 where
@@ -22,9 +19,21 @@ pub record World : Type 0 where
   pub catalog : List TableEntry
   pub tables : List (List ℕ × List StoredRow)
 
--- what a connection holds between two statements
+-- a mark in an open transaction: its name, and the world that going back to it gives
+pub record Savepoint : Type 0 where
+  pub name : List ℕ
+  pub world : World
+
+-- what a connection holds between two statements: the world, the marks of the open transaction, oldest first (none where no transaction is open), how many rows the last INSERT that was not refused put, and the rowid of the last row that an INSERT put
 pub record State : Type 0 where
   pub world : World
+  pub stack : List Savepoint
+  pub changes : ℕ
+  pub last_rowid : ℤ
+
+-- a transaction is open where there is a mark
+abbrev pub is_in_transaction : State → Bool
+is_in_transaction state = nat_lt 0 (length state.stack)
 
 -- the entry of a table
 abbrev pub entry_named : List TableEntry → List ℕ → Option TableEntry
@@ -40,14 +49,14 @@ abbrev pub with_rows : List (List ℕ × List StoredRow) → List ℕ → List S
 with_rows [] name rows = (name, rows) ∷ []
 with_rows (t ∷ tables) name rows = if is_same_name t.0 name then (t.0, rows) ∷ tables else t ∷ with_rows tables name rows
 
--- the rowid behind that of the last row, which is the largest: 1 in an empty table, and none behind the largest of all
-abbrev pub rowid_behind : Option StoredRow → Option ℤ
-rowid_behind None = Some (pos 1)
-rowid_behind (Some last) = if int_le MAX_ROWID last.rowid then None else Some (last.rowid +ℤ pos 1)
+-- a row with its rowid in front
+abbrev pub with_rowid : StoredRow → List Value
+with_rowid r = Integer r.rowid ∷ r.values
 
-abbrev pub next_rowid : List StoredRow → Option ℤ
-next_rowid rows = rowid_behind (slice_get rows (length rows - 1))
+-- the rows of the table of this name, each with its rowid in front; none where there is no such table
+abbrev pub table_rows : State → List ℕ → Option (List (List Value))
+table_rows state name = option_map (λ (e : TableEntry). map with_rowid (rows_of state.world.tables e.name)) (entry_named state.world.catalog name)
 
 -- no table yet
 abbrev pub new_state : State
-new_state = record { world = record { catalog = []; tables = [] } }
+new_state = record { world = record { catalog = []; tables = [] }; stack = []; changes = 0; last_rowid = pos 0 }

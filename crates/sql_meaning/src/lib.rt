@@ -7,10 +7,12 @@
 //! (proofs/). Begin with specs/World.antt and read on in the order of specs/Lib.antt.
 #![tactic(auto)]
 
+mod bound;
 mod ending;
 mod statement;
 mod token;
 
+pub use bound::BoundExpr;
 pub use ending::Ending;
 pub use statement::{Column, ColumnType, CreateTable, Filter, Insert, Literal, Select, Statement};
 pub use token::{Keyword, RESERVED_WORDS, Token};

@@ -1,9 +1,6 @@
+pub mod Causes
 pub mod Cuts
 pub mod Due
-pub mod Execution
 pub mod Joined
-pub mod Lexemes
 pub mod Running
-pub mod Selecting
 pub mod Whole
-pub mod Worlds

@@ -1,5 +1,5 @@
 -- The outcomes of a script's texts, one after another.
-use Rattle.std.proofs.Common.{◌≡◌, ◌≢◌, ℕ, ◌-◌, suc, Bool, true, false, List, [], ◌∷◌, ◌++◌, length, take, refl, sym, ◌∙◌, ap, subst, append-nil, arith}
+use Rattle.std.proofs.Common.{◌≡◌, ◌≢◌, ◌≤◌, ℕ, ◌+◌, ◌-◌, suc, Bool, true, false, List, [], ◌∷◌, ◌++◌, length, take, refl, sym, ◌∙◌, ap, subst, append-nil, arith}
 use Rattle.std.specs.Prelude.{cond, ◌||◌}
 use Rattle.std.specs.List.{filter}
 use Rattle.std.proofs.lemmas.Grind.{flat_map-append}
@@ -9,11 +9,14 @@ use Rattle.eng_value.specs.HostMeanings.{HostMeanings}
 use Rattle.sql_meaning.specs.declared.ending.Ending.{Ending}
 use Rattle.sql_meaning.specs.declared.ending.Ending.TheVariants.{End, ReadFault, TooLong}
 use Rattle.sql_meaning.specs.Due.{Along, CutShort}
-use Rattle.sql_meaning.specs.Script.{all_but_last, due_of, is_refused, is_statement, outcome_lines, outcomes, texts_between}
+use Rattle.sql_meaning.specs.Script.{all_but_last, bound_together, due_of, is_refused, is_statement, outcome_lines, outcomes, texts_between}
 use Rattle.sql_meaning.specs.Statement.{Outcome, text_outcome}
+use Rattle.sql_meaning.specs.Validity.{IsWithin}
+use Rattle.sql_meaning.specs.Work.{instruction_bound}
 use Rattle.sql_meaning.specs.World.{State}
-use Rattle.sql_shell.specs.Running.{lines_of, some_refused, outcomes_of_text, outcomes_of_rest, outcomes_of_pending, state_behind}
+use Rattle.sql_shell.specs.Running.{lines_of, some_refused, outcomes_of_text, outcomes_of_rest, outcomes_of_pending, statements_in_pending, statements_in_rest, statements_in_text, state_behind}
 use Rattle.sql_meaning.proofs.CuttingLaws.{texts_between-some}
+use Rattle.sql_meaning.proofs.WithinLaws.{IsWithin-more, text_outcome-within}
 use Rattle.sql_shell.proofs.Due.{along_more, along_end, cut_more}
 
 -- ---- one text
@@ -107,3 +110,49 @@ refused_text a a' all h ending s s' rest t behind cut next more e =
 pub refused_last : (a a' all : Bool) (h : HostMeanings) (ending : Ending) (s : State) (rest : List ℕ) → texts_between false rest ≡ rest ∷ [] → a' ≡ (a || some_refused (outcomes_of_pending h ending s rest)) → (a || some_refused (outcomes_of_rest h ending s rest)) ≡ all → a' ≡ all
 refused_last a a' all h ending s rest cut more e =
     more ∙ (ap (λ os. a || some_refused os) (sym (outcomes_of_rest-last h ending s rest cut)) ∙ e)
+
+-- ---- how many instructions they need
+
+bound-first : (b : Bool) (h : HostMeanings) (s : State) (t : List ℕ) (ts : List (List ℕ)) → bound_together h s (cond b (t ∷ ts) ts) ≡ bound_together h s (cond b (t ∷ []) []) + bound_together h (cond b (text_outcome h s t).next s) ts
+bound-first true h s t ts = omega arith
+bound-first false h s t ts = omega arith
+
+-- the statement of a text needs what the text does, where it is no white space
+pub bound_in_text : (h : HostMeanings) (s : State) (t : List ℕ) → is_statement t ≡ true → bound_together h s (statements_in_text t) ≡ instruction_bound s t
+bound_in_text h s t e = ap (λ b. bound_together h s (cond b (t ∷ []) [])) e ∙ omega arith
+
+bound_of_rest : (h : HostMeanings) (ending : Ending) (s : State) (rest t behind : List ℕ) → texts_between false rest ≡ t ∷ texts_between false behind → bound_together h s (statements_in_rest ending rest) ≡ bound_together h s (statements_in_text t) + bound_together h (state_behind h s t) (statements_in_rest ending behind)
+bound_of_rest h ending s rest t behind cut =
+    ap (λ ts. bound_together h s (filter is_statement (due_of ending ts))) cut
+    ∙ (ap (λ ts. bound_together h s (filter is_statement ts)) (due_of-cons ending t (texts_between false behind) (texts_between-some false behind))
+    ∙ bound-first (is_statement t) h s t (filter is_statement (due_of ending (texts_between false behind))))
+
+-- what has run, and what the rest needs, is no more than all need, behind a text as before it
+pub bound_next : (h : HostMeanings) (ending : Ending) (s s' : State) (rest t behind : List ℕ) (ran ran' most : ℕ) → texts_between false rest ≡ t ∷ texts_between false behind → s' ≡ state_behind h s t → ran + bound_together h s (statements_in_rest ending rest) ≤ most → ran' ≤ ran + bound_together h s (statements_in_text t) → ran' + bound_together h s' (statements_in_rest ending behind) ≤ most
+bound_next h ending s s' rest t behind ran ran' most cut next all one =
+    let parts = bound_of_rest h ending s rest t behind cut in
+    let same : bound_together h s' (statements_in_rest ending behind) ≡ bound_together h (state_behind h s t) (statements_in_rest ending behind) = ap (λ x. bound_together h x (statements_in_rest ending behind)) next in
+    omega arith
+
+-- where the run ends at a text
+pub bound_part : (h : HostMeanings) (ending : Ending) (s : State) (rest t behind : List ℕ) (ran ran' most : ℕ) → texts_between false rest ≡ t ∷ texts_between false behind → ran + bound_together h s (statements_in_rest ending rest) ≤ most → ran' ≤ ran + bound_together h s (statements_in_text t) → ran' ≤ most
+bound_part h ending s rest t behind ran ran' most cut all one =
+    let parts = bound_of_rest h ending s rest t behind cut in
+    omega arith
+
+-- where the rest is what is pending
+pub bound_last : (h : HostMeanings) (ending : Ending) (s : State) (rest : List ℕ) (ran ran' most : ℕ) → texts_between false rest ≡ rest ∷ [] → ran + bound_together h s (statements_in_rest ending rest) ≤ most → ran' ≤ ran + bound_together h s (statements_in_pending ending rest) → ran' ≤ most
+bound_last h ending s rest ran ran' most cut all one =
+    let same : bound_together h s (statements_in_rest ending rest) ≡ bound_together h s (statements_in_pending ending rest) = ap (λ ts. bound_together h s (filter is_statement (due_of ending ts))) cut in
+    omega arith
+
+-- ---- what they can build
+
+within_at : (b : Bool) (h : HostMeanings) (bytes : ℕ) (s : State) (t : List ℕ) → IsWithin bytes s → IsWithin (bytes + length t) (cond b (text_outcome h s t).next s)
+within_at true h bytes s t w = text_outcome-within h bytes s t w
+within_at false h bytes s t w = IsWithin-more bytes (bytes + length t) s (omega arith) w
+
+-- behind a text the state is within the bytes up to its end
+pub within_next : (h : HostMeanings) (s s' : State) (t : List ℕ) (before after : ℕ) → s' ≡ state_behind h s t → before + length t ≤ after → IsWithin before s → IsWithin after s'
+within_next h s s' t before after next more w =
+    subst (λ x. IsWithin after x) (sym next) (IsWithin-more (before + length t) after (state_behind h s t) more (within_at (is_statement t) h before s t w))

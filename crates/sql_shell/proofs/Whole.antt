@@ -1,5 +1,5 @@
 -- A whole script: its outcomes, its status, and the bytes that the source tells.
-use Rattle.std.proofs.Common.{◌≡◌, ◌+◌, ℕ, length, Bool, true, false, List, sym, ◌∙◌, ap, subst, Some, None, Ok, Err, OnOk, IfOk, IfSome, Result, length-append, arith}
+use Rattle.std.proofs.Common.{◌≡◌, ◌≢◌, ◌≤◌, ◌+◌, ℕ, length, Bool, true, false, List, sym, ◌∙◌, ap, subst, Some, None, Ok, Err, OnOk, IfOk, IfSome, Result, length-append, arith}
 use Rattle.std.specs.declared.option.Option.{Option}
 use Rattle.std.specs.Io.KnownBytes.{Appends, Consumes}
 use Rattle.eng_value.specs.declared.limits.TheConstants.{MAX_SCRIPT_BYTES}
@@ -7,10 +7,11 @@ use Rattle.eng_value.specs.HostMeanings.{HostMeanings}
 use Rattle.sql_meaning.specs.declared.ending.Ending.{Ending}
 use Rattle.sql_meaning.specs.declared.ending.Ending.TheVariants.{End, ReadFault, TooLong}
 use Rattle.sql_meaning.specs.Due.{CutShort, IsRead, IsScript, IsFrontOfScript, MayEnd}
-use Rattle.sql_meaning.specs.Script.{ending_told, looked_at, script_lines, script_outcomes, script_status, status_of}
+use Rattle.sql_meaning.specs.Script.{bound_together, ending_told, looked_at, script_bound, script_lines, script_outcomes, script_status, status_of}
 use Rattle.sql_meaning.specs.World.{new_state}
 use Rattle.sql_shell.specs.declared.stop.Stop.{Stop}
-use Rattle.sql_shell.specs.Running.{lines_of, outcomes_of_rest, some_refused}
+use Rattle.sql_shell.specs.Running.{lines_of, outcomes_of_rest, some_refused, statements_in_rest}
+use Rattle.sql_meaning.proofs.BoundLaws.{length-looked_at}
 use Rattle.sql_shell.proofs.Due.{same_read, cut_at_start}
 
 -- all statements that are looked at were run
@@ -29,6 +30,21 @@ pub ran_partly : (u v : Option (List ℕ)) (h : HostMeanings) (bytes : List ℕ)
 unfolding script_outcomes script_lines
 ran_partly u v h bytes ending seen same p = subst (λ bs. CutShort u v (lines_of (outcomes_of_rest h ending new_state bs))) same p
 
+-- no more instructions were run than the script needs
+pub ran_within : (h : HostMeanings) (bytes : List ℕ) (ending : Ending) (seen : List ℕ) (before after : ℕ) → seen ≡ looked_at ending bytes
+    → after ≤ before + bound_together h new_state (statements_in_rest ending seen) → after ≤ before + script_bound h bytes ending
+unfolding script_bound
+ran_within h bytes ending seen before after same p = subst (λ bs. after ≤ before + bound_together h new_state (statements_in_rest ending bs)) same p
+
+-- no more bytes are looked at than the limit
+pub short_looked_at : (ending : Ending) (bytes seen : List ℕ) → seen ≡ looked_at ending bytes → (ending ≢ TooLong → length bytes ≤ MAX_SCRIPT_BYTES) → length seen ≤ MAX_SCRIPT_BYTES
+short_looked_at ending bytes seen same short = subst (λ bs. length bs ≤ MAX_SCRIPT_BYTES) (sym same) (at_ending ending short)
+  where
+    at_ending : (k : Ending) → (k ≢ TooLong → length bytes ≤ MAX_SCRIPT_BYTES) → length (looked_at k bytes) ≤ MAX_SCRIPT_BYTES
+    at_ending End few = few (λ e. cc)
+    at_ending ReadFault few = few (λ e. cc)
+    at_ending TooLong few = length-looked_at bytes
+
 module _ (h : HostMeanings) (left left' old new : Option (List ℕ)) (read slice bytes : List ℕ) (consumed : Consumes left left' read) (same : slice ≡ read) (told : IsRead left left' bytes) where
   these : slice ≡ bytes
   these = same ∙ same_read left left' read bytes consumed told
@@ -40,6 +56,17 @@ module _ (h : HostMeanings) (left left' old new : Option (List ℕ)) (read slice
   pub told_partly : (ending : Ending) → MayEnd read left' ending → CutShort old new (script_lines h slice ending) → IsFrontOfScript h bytes left' old new
   told_partly ending may p =
       (ending, subst (λ bs. MayEnd bs left' ending) (sym same ∙ these) may, subst (λ bs. CutShort old new (script_lines h bs ending)) these p)
+
+-- the same of the instructions that were run
+module _ (h : HostMeanings) (left left' : Option (List ℕ)) (read slice bytes : List ℕ) (before after : ℕ) (consumed : Consumes left left' read) (same : slice ≡ read) (told : IsRead left left' bytes) where
+  pub told_bound : (ending : Ending) → MayEnd read left' ending → after ≤ before + script_bound h slice ending → (k : Ending) × MayEnd bytes left' k × (after ≤ before + script_bound h bytes k)
+  told_bound ending may p =
+      let read_is : read ≡ bytes = same_read left left' read bytes consumed told in
+      (ending, subst (λ bs. MayEnd bs left' ending) read_is may, subst (λ bs. after ≤ before + script_bound h bs ending) (same ∙ read_is) p)
+
+-- none was run yet
+pub told_no_bound : (h : HostMeanings) (bytes : List ℕ) (left : Option (List ℕ)) (ran : ℕ) → (k : Ending) × MayEnd bytes left k × (ran ≤ ran + script_bound h bytes k)
+told_no_bound h bytes left ran = (ReadFault, tt, omega arith)
 
 -- nothing was written yet
 pub told_nothing : (h : HostMeanings) (bytes : List ℕ) (left w : Option (List ℕ)) → IsFrontOfScript h bytes left w w

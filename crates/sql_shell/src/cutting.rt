@@ -1,9 +1,7 @@
 // Cutting a script into the texts of its statements.
 ghost use Rattle.std.specs.Prelude.{◌≡◌, ◌&&◌, ◌+◌, ◌<◌, ◌∷◌, [], take, drop, false, not, length, if◌then◌else◌, MatchOption, IfSome};
 ghost use Rattle.sql_meaning.specs.Script.{texts_between, is_statement};
-ghost use Rattle.sql_meaning.specs.Tokens.{is_quote, is_semicolon};
-
-use crate::lexing::is_space;
+ghost use Rattle.sql_meaning.specs.Tokens.{is_quote, is_semicolon, is_space};
 
 /// Whether this byte ends a statement.
 fn ends_statement(byte: u8, quoted: bool) -> bool
@@ -40,11 +38,18 @@ fn statement_end(bytes: &[u8]) -> Option<usize>
 pub(crate) fn cut_first(bytes: &[u8]) -> Option<(&[u8], &[u8])>
     ensures cut { MatchOption result (texts_between false bytes.now ≡ bytes.now ∷ [])
         (λ r. texts_between false bytes.now ≡ r.0.now ∷ texts_between false r.1.now) }
-    ensures shorter { IfSome result (λ r. length r.1.now < length bytes.now) }
+    ensures shorter { IfSome result (λ r. length r.0.now + length r.1.now < length bytes.now) }
 {
     let end = statement_end(bytes)?;
     let (text, behind) = bytes.split_at(end);
     Some((text, &behind[1..]))
+}
+
+/// Space, tab, LF, FF and CR are white space.
+fn is_space(byte: u8) -> bool
+    ensures { result ≡ is_space byte }
+{
+    matches!(byte, b' ' | b'\t' | b'\n' | 12 | b'\r')
 }
 
 /// Whether some byte of a text is no white space.

@@ -2,9 +2,7 @@
 ghost use Rattle.std.specs.Prelude.{◌≡◌, ◌<◌};
 
 use super::*;
-use crate::executing::run_text;
-use crate::tables::{StoredRow, Tables};
-use eng_value::{MAX_ROWID, MAX_SCRIPT_BYTES, MAX_VALUE_BYTES, Row, Steps, Value};
+use eng_value::{MAX_SCRIPT_BYTES, MAX_VALUE_BYTES, Steps};
 use host_traits::{MemorySink, MemorySource, ReadAnswer, Sink, Source};
 use std::alloc::{AllocError, Global};
 use std::marker::Brand;
@@ -300,22 +298,16 @@ fn the_byte_past_the_limit_is_not_looked_at(rt: HostRuntime) -> Result<(), Fail>
 }
 
 #[test]
-fn a_table_without_a_free_rowid_is_full(rt: HostRuntime) -> Result<(), Fail> {
+fn a_text_that_is_no_utf8_is_refused(rt: HostRuntime) -> Result<(), Fail> {
     let alloc = rt.alloc();
-    let mut tables = Tables::new(alloc);
-    run_text::<Brand>(alloc, &mut tables, b"CREATE TABLE Last(a INTEGER)")?;
-    let row = Row::new(vec![in alloc; Value::Integer(7)]?);
-    assert_eq!(rt; tables.place(b"last"), Some(0));
-    tables.add_row(0, StoredRow::new(MAX_ROWID - 1, row))?;
-    run_text::<Brand>(alloc, &mut tables, b"INSERT INTO last VALUES(8)")?;
-    let mut text = Vec::new(alloc);
-    match run_text::<Brand>(alloc, &mut tables, b"INSERT INTO last VALUES(9)") {
-        Ok(_) => assert!(rt; false, "a rowid above the largest"),
-        Err(why) => why.write_text(&mut text)?,
-    }
-    assert_eq!(rt; text.as_slice(), b"table is full: Last".as_slice());
-    let rows = run_text::<Brand>(alloc, &mut tables, b"SELECT a FROM LAST WHERE a > 0")?;
-    assert_eq!(rt; rows.as_slice().len(), 2);
+    let mut script = FIRST.as_bytes().to_vec(alloc)?;
+    script.extend_from_slice(b"INSERT INTO t VALUES(1, '\xC3(');SELECT a FROM t WHERE a > 0;")?;
+    let got = answer_to_bytes(alloc, script, NONE)?;
+    assert_eq!(rt;
+        got.written.as_slice(),
+        b"x|12\nError 1: not built yet\n12\n".as_slice()
+    );
+    assert_eq!(rt; got.status, 1);
     Ok(())
 }
 

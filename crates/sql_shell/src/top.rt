@@ -2,16 +2,16 @@
 ghost use Rattle.std.specs.Prelude.{◌≡◌, ◌≢◌, ◌↔◌, ◌⊎◌, ◌<◌, ◌≤◌, ◌+◌, length, IfSome};
 ghost use Rattle.std.specs.Io.KnownBytes.{Appends, IsAtEnd};
 ghost use Rattle.host_traits.specs.Faults.{Rose};
-ghost use Rattle.sql_meaning.specs.Due.{CutShort, ForTold, IsScript, IsFrontOfScript};
-ghost use Rattle.sql_meaning.specs.Script.{ending_told, status_of, usage_line};
-ghost use Rattle.sql_shell.specs.Meant.{meant};
+ghost use Rattle.sql_meaning.specs.Due.{CutShort, ForTold, IsScript, IsFrontOfScript, MayEnd};
+ghost use Rattle.sql_meaning.specs.Script.{ending_told, script_bound, status_of, usage_line};
+ghost use Rattle.vm_core.specs.Meant.{meant};
 
-use crate::hosts::Hosts;
 use crate::reading::read_script;
 use crate::script::run_script;
 use crate::stop::Stop;
 use crate::writing::write_all;
 use eng_value::{MAX_SCRIPT_BYTES, Meanings, Steps};
+use engine::Hosts;
 use host_traits::{Sink, Source};
 use sql_meaning::Ending;
 use std::alloc::Global;
@@ -32,11 +32,12 @@ fn exit_status(ending: Ending, refused: bool) -> u8
 }
 
 /// Reads the script and runs it, for hosts that mean M's.
-fn run_source<M: Meanings, S: Source, K: Sink>(
+fn run_source<M: Meanings, S: Source, K: Sink, L: Ledger>(
     alloc: Global,
     hosts: &mut Hosts,
     src: &mut S,
     out: &mut K,
+    steps: &mut Steps<L>,
 ) -> u8
     requires told { meant hosts.old ≡ M.hosts }
     ensures script { ForTold (S.left src.old) (S.left src.new) (λ bytes.
@@ -57,12 +58,17 @@ fn run_source<M: Meanings, S: Source, K: Sink>(
     ensures statuses { (result < 2) ⊎ ((2 < result) × (result ≤ 5)) }
     ensures source_count { S.fault_count src.old ≤ S.fault_count src.new }
     ensures sink_count { K.fault_count out.old ≤ K.fault_count out.new }
+    ensures steps { steps.old ≤ steps.new }
+    ensures bound { ForTold (S.left src.old) (S.left src.new) (λ bytes.
+        (ending : Ending) × MayEnd bytes (S.left src.new) ending
+        × (steps.new ≤ steps.old + script_bound M.hosts bytes ending)) }
+    ensures hosts { meant hosts.new ≡ M.hosts }
 {
     let script = match read_script(alloc, src) {
         Ok(script) => script,
         Err(_) => return 4,
     };
-    match run_script::<M, K>(alloc, &script.bytes, script.ending, out) {
+    match run_script::<M, K, L>(alloc, hosts, &script.bytes, script.ending, steps, out) {
         Ok(refused) => exit_status(script.ending, refused),
         Err(Stop::Memory) => 4,
         Err(Stop::SinkFault) => 3,
@@ -127,12 +133,16 @@ pub fn run<S: Source, K: Sink, L: Ledger>(
     ensures statuses { result ≤ 5 }
     ensures source_count { S.fault_count src.old ≤ S.fault_count src.new }
     ensures sink_count { K.fault_count out.old ≤ K.fault_count out.new }
-    // No instruction runs yet.
-    ensures steps { steps.new ≡ steps.old }
+
+    // Whatever the status, no more instructions were run than the statements of the bytes need.
+    ensures steps { steps.old ≤ steps.new }
+    ensures bound { ForTold (S.left src.old) (S.left src.new) (λ bytes.
+        (ending : Ending) × MayEnd bytes (S.left src.new) ending
+        × (steps.new ≤ steps.old + script_bound (meant hosts.old) bytes ending)) }
 {
     if words.len() > 1 {
         let _ = write_all(out, USAGE);
         return 2;
     }
-    run_source::<Brand, S, K>(alloc, hosts, src, out)
+    run_source::<Brand, S, K, L>(alloc, hosts, src, out, steps)
 }

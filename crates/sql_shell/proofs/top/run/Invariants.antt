@@ -1,4 +1,4 @@
-use Rattle.sql_shell.specs.Meant.{meant}
+use Rattle.vm_core.specs.Meant.{meant}
 use Rattle.sql_shell.proofs.top.run.Given as goal
 
 abbrev pub ghosts-run_source : goal.ghosts-run_source

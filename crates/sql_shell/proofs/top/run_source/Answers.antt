@@ -1,6 +1,6 @@
 use Rattle.std.proofs.Common.{inr}
 use Rattle.sql_shell.proofs.Due.{same_read}
-use Rattle.sql_shell.proofs.Whole.{told_whole, told_partly, told_nothing, told_by_status, told_read_fault, told_too_long}
+use Rattle.sql_shell.proofs.Whole.{told_bound, told_whole, told_partly, told_nothing, told_by_status, told_read_fault, told_too_long}
 use Rattle.sql_shell.proofs.top.run_source.Goals as goal
 
 pub returns-in-Err-clause-part : goal.returns-in-Err-clause-part
@@ -31,3 +31,15 @@ returns-in-Err-Memory-clause-part g c bytes told =
 pub returns-clause-part : goal.returns-clause-part
 returns-clause-part g c bytes told =
     told_partly g.M.Meanings.hosts _ _ _ _ _ _ bytes c.in-Ok.ensures.bytes c.deref.ensures.value told c.in-Ok.script.ending c.in-Ok.ensures.ending c.in-Err-SinkFault.ensures.part
+
+pub returns-in-Ok-run_script-clause-bound : goal.returns-in-Ok-run_script-clause-bound
+returns-in-Ok-run_script-clause-bound g c bytes told =
+    told_bound g.M.Meanings.hosts _ _ _ _ bytes _ _ c.in-Ok.ensures.bytes c.deref.ensures.value told c.in-Ok.script.ending c.in-Ok.ensures.ending c.in-Ok-run_script.ensures.bound
+
+pub returns-in-Err-Memory-clause-bound : goal.returns-in-Err-Memory-clause-bound
+returns-in-Err-Memory-clause-bound g c bytes told =
+    told_bound g.M.Meanings.hosts _ _ _ _ bytes _ _ c.in-Ok.ensures.bytes c.deref.ensures.value told c.in-Ok.script.ending c.in-Ok.ensures.ending c.in-Err-Memory.ensures.bound
+
+pub returns-clause-bound : goal.returns-clause-bound
+returns-clause-bound g c bytes told =
+    told_bound g.M.Meanings.hosts _ _ _ _ bytes _ _ c.in-Ok.ensures.bytes c.deref.ensures.value told c.in-Ok.script.ending c.in-Ok.ensures.ending c.in-Err-SinkFault.ensures.bound

@@ -1,0 +1,27 @@
+-- Sets of causes: an error names any one of them, so their order and number do not count.
+use Rattle.std.specs.Prelude.{ℕ, List, [], ◌∷◌, Bool}
+use Rattle.std.specs.Ordering.{nat_cmp}
+use Rattle.std.specs.Cmp.Lexicographic.{slice_cmp}
+use Rattle.std.specs.FinSet as set
+use Rattle.eng_value.specs.declared.cause.Cause.{Cause}
+use Rattle.eng_value.specs.declared.cause.Cause.TheVariants.{NotYet, Mem, Interrupted, SinkFault, Full}
+
+-- no two causes have the same key
+abbrev pub cause_key : Cause → List ℕ
+cause_key NotYet = 0 ∷ []
+cause_key Mem = 1 ∷ []
+cause_key (Interrupted n) = 2 ∷ n ∷ []
+cause_key SinkFault = 3 ∷ []
+cause_key (Full table) = 4 ∷ table
+
+-- a finite set of causes, by their keys
+abbrev pub CauseSet : Type 0
+CauseSet = set.FinSet (slice_cmp nat_cmp)
+
+-- the set of one cause
+abbrev pub only : Cause → CauseSet
+only c = set.insert set.empty (cause_key c)
+
+-- the cause is one of them
+abbrev pub has_cause : CauseSet → Cause → Bool
+has_cause causes c = set.contains causes (cause_key c)

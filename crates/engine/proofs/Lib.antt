@@ -1,0 +1,16 @@
+pub mod Lexemes
+pub mod Selecting
+pub mod Columns
+pub mod Places
+pub mod Filters
+pub mod BoundOutcomes
+pub mod Filling
+pub mod Scanning
+pub mod Putting
+pub mod Takings
+pub mod Stretches
+pub mod Answering
+pub mod Inserting
+pub mod Creating
+pub mod CarryingOut
+pub mod Bounding

@@ -1,0 +1,29 @@
+use Rattle.std.proofs.Common.{ap, ◌∙◌, arith}
+use Rattle.vm_core.specs.Meant.{meant}
+use Rattle.engine.proofs.connection.Connection.run.Goals as goal
+use Rattle.engine.proofs.connection.Connection.run.Goals.{in-Ok, in-Err}
+
+-- src/connection.rt:65:5
+pub returns-clause-kept : goal.returns-clause-kept
+returns-clause-kept g c = elim c.match-run_text.branch [
+  | in-Ok w ↦ rw w.result-is tt
+  | in-Err w ↦ rw w.result-is (ap (λ s. record { state = s; budget = c.self.inside.budget }) (w.in-Err.ensures.carried (meant c.args.hosts.now)).answer.0 ∙ c.self.view_is)
+]
+
+-- src/connection.rt:65:5
+pub returns-clause-cause : goal.returns-clause-cause
+returns-clause-cause g c = elim c.match-run_text.branch [
+  | in-Ok w ↦ rw w.result-is tt
+  | in-Err w ↦ rw (w.result-is, ← c.self.view_is, ← c.as_bytes.ensures.value) (w.in-Err.ensures.carried (meant c.args.hosts.now)).answer.1
+]
+
+-- src/connection.rt:65:5
+pub returns-clause-front : goal.returns-clause-front
+returns-clause-front g c = rw (← c.self.view_is, ← c.as_bytes.ensures.value) (c.run_text.ensures.carried (meant c.args.hosts.now)).front
+
+-- src/connection.rt:65:5
+pub returns-clause-bound : goal.returns-clause-bound
+returns-clause-bound g c =
+    let within = (c.run_text.ensures.carried (meant c.args.hosts.now)).within in
+    let ticks = c.run_text.ensures.ticks in
+    rw (← c.self.view_is, ← c.as_bytes.ensures.value) (omega arith)

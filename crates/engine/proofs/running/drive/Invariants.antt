@@ -1,0 +1,19 @@
+use Rattle.std.proofs.Common.{◌≡◌, ◌≤◌, ◌+◌, ◌-◌}
+use Rattle.vm_code.specs.Changes.{before}
+use Rattle.engine.proofs.Stretches.{Along}
+use Rattle.engine.proofs.running.drive.Given as goal
+
+abbrev pub invariant-loop-given : goal.invariant-loop-given
+invariant-loop-given g l = record {
+  within : l.budget.ran ≤ l.budget.whole;
+  whole : l.budget.whole ≡ l.initial.budget.whole;
+  counted : l.steps ≡ l.initial.steps + l.budget.ran;
+  program : l.machine.prog ≡ l.initial.machine.prog;
+  undo : before l.machine.changes l.tables ≡ before l.initial.machine.changes l.initial.tables;
+  faults : g.R.RowSink.fault_count l.initial.rows ≤ g.R.RowSink.fault_count l.rows;
+  few : l.given ≤ l.budget.ran;
+  along : Along l.initial.machine l.machine l.initial.tables l.tables (g.R.RowSink.taken l.initial.rows) (g.R.RowSink.taken l.rows) l.budget.ran l.given;
+}
+
+abbrev pub decreases-loop-given : goal.decreases-loop-given
+decreases-loop-given g l = l.budget.whole - l.budget.ran

@@ -1,0 +1,44 @@
+-- What the run of a statement's program comes to, by causes.
+use Rattle.std.specs.Prelude.{◌≡◌, ◌<◌, ◌≤◌, ◌⊎◌, ℕ, ⊤, true, length, None, Ok, Err}
+use Rattle.std.specs.declared.option.Option.{Option}
+use Rattle.std.specs.declared.result.Result.{Result}
+use Rattle.eng_value.specs.Causes.{CauseSet, has_cause}
+use Rattle.eng_value.specs.declared.cause.Cause.{Cause}
+use Rattle.eng_value.specs.declared.cause.Cause.TheVariants as cause
+use Rattle.vm_code.specs.Machine.{World, Shared, Ending, Finished, Failed}
+use Rattle.engine.specs.declared.running.Completed.{Completed}
+use Rattle.engine.specs.declared.running.Stop.{Stop}
+use Rattle.engine.specs.declared.running.Stop.TheVariants as stop
+use Rattle.engine.specs.Running.{put_count, last_put}
+use Rattle.engine.specs.Taking.{Rows, Adds, AddsFront}
+
+-- the cause has happened in this call: the budget was used up before the run's end, or the sink failed; want of memory is free
+abbrev pub Happened : ℕ → ℕ → ℕ → Type 0 → Cause → Type 0
+Happened budget most ran rose cause.Mem = ⊤
+Happened budget most ran rose cause.SinkFault = rose
+Happened budget most ran rose (cause.Interrupted n) = (n ≡ budget) × (ran ≡ n) × (n < most)
+Happened budget most ran rose cause.NotYet = ⊥
+Happened budget most ran rose (cause.Full table) = ⊥
+
+-- the run ends with causes, of which this is one
+abbrev pub IsNamed : Ending → Cause → Type 0
+IsNamed e k = (causes : CauseSet) × (e ≡ Failed causes) × (has_cause causes k ≡ true)
+
+-- the cause of a stop, and one of several
+abbrev pub NamesStop : Stop → Cause → Type 0
+NamesStop (stop.Bad causes) k = has_cause causes k ≡ true
+NamesStop (stop.Interrupted n) k = k ≡ cause.Interrupted n
+NamesStop stop.SinkFault k = k ≡ cause.SinkFault
+NamesStop stop.Mem k = k ≡ cause.Mem
+
+-- what a statement's run says, where the machine over lists ends so with this shared, from these tables and this sink to those
+abbrev pub AnswersAs : Ending → Shared → ℕ → ℕ → ℕ → World → World → Option Rows → Option Rows → Type 0 → Result Completed Cause → Type 0
+AnswersAs e x most budget ran w0 w t0 t rose (Ok c) =
+    (e ≡ Finished) × (w ≡ x.world) × Adds t0 t x.given × (c.given ≡ length x.given) × (c.changed ≡ put_count x.changes) × (c.last_rowid ≡ last_put None x.changes)
+AnswersAs e x most budget ran w0 w t0 t rose (Err k) = (w ≡ w0) × (Happened budget most ran rose k ⊎ IsNamed e k)
+
+-- the same, with a front of the rows taken and no more instructions run than the machine over lists needs
+pub record ExecutesAs (e : Ending) (x : Shared) (most budget ran : ℕ) (w0 w : World) (t0 t : Option Rows) (rose : Type 0) (result : Result Completed Cause) : Type 0 where
+  pub answer : AnswersAs e x most budget ran w0 w t0 t rose result
+  pub front : AddsFront t0 t x.given
+  pub within : ran ≤ most

@@ -1,0 +1,170 @@
+// A connection.
+ghost use Rattle.std.specs.Prelude.{◌≡◌, ◌≤◌, ◌+◌, ◌-◌, length, map, None, Some, OnOk, OnErr, IfOk, IfErr};
+ghost use Rattle.eng_value.specs.declared.cause.Cause.TheVariants.{Mem, NotYet};
+ghost use Rattle.engine.specs.Connected.{IsCause};
+ghost use Rattle.engine.specs.Taking.{Adds, AddsFront};
+ghost use Rattle.host_traits.specs.Faults.{Rose};
+ghost use Rattle.sql_meaning.specs.Statement.{text_outcome};
+ghost use Rattle.sql_meaning.specs.Work.{instruction_bound};
+ghost use Rattle.sql_meaning.specs.World.{is_in_transaction, new_state, table_rows, with_rowid};
+ghost use Rattle.vm_core.specs.Meant.{meant};
+
+use crate::answers::{Done, Refusal};
+use crate::database::{Database, run_text};
+use crate::row_sink::RowSink;
+use eng_value::{Cause, Row, Rows, Steps, StoredRow, Value};
+use std::alloc::{AllocError, Global};
+use std::marker::Model;
+use std::sync::ledger::Ledger;
+use vm_core::Hosts;
+
+/// A connection: the tables of a database in memory, and what its statements leave behind. Contracts see the state of the
+/// definitions, and the budget of a statement in instructions.
+#[derive(Drop)]
+pub struct Connection {
+    database: Database,
+    budget: u64,
+}
+
+impl Model for Connection {
+    ghost use Rattle.std.specs.Prelude.{◌≡◌, length};
+    ghost use Rattle.engine.specs.Connected.{Held};
+    ghost use Rattle.engine.specs.Held.{state_of};
+
+    ghost Value = { Held };
+
+    ghost view = { λ c.
+        record {
+          state = state_of c.database.catalog c.database.tables c.database.changes c.database.last_rowid;
+          budget = c.budget;
+        } };
+
+    ghost invariant = { λ c. length c.database.tables ≡ length c.database.catalog };
+}
+
+impl Connection {
+    /// A connection without tables, whose statements may run so many instructions each. Takes no memory.
+    pub fn new(alloc: Global, budget: u64) -> Connection
+        ensures { result ≡ record { state = new_state; budget = budget } }
+    {
+        Connection {
+            database: Database::new(alloc),
+            budget,
+        }
+    }
+
+    /// Runs one statement and hands its rows to the sink. A statement that is refused changes nothing; rows that it gave before
+    /// are a front of what it means.
+    ///
+    /// - Ok: the statement did what it means, and all its rows were taken;
+    /// - NotYet, Full: that is what it means;
+    /// - Interrupted: the budget of instructions is used up. It never comes where the budget is at least the bound of size and
+    ///   work;
+    /// - SinkFault: the sink failed;
+    /// - Mem: no memory was found.
+    pub fn run<R: RowSink, L: Ledger>(
+        &mut self,
+        alloc: Global,
+        hosts: &mut Hosts,
+        sql: &str,
+        params: &[Value],
+        rows: &mut R,
+        steps: &mut Steps<L>,
+    ) -> Result<Done, Refusal>
+        // Ok: what the statement means.
+        ensures done { OnOk result ((text_outcome (meant hosts.old) self.old.state sql.now).refusal ≡ None) }
+        ensures next { OnOk result (self.new.state ≡ (text_outcome (meant hosts.old) self.old.state sql.now).next) }
+        ensures rows { OnOk result (Adds (R.taken rows.old) (R.taken rows.new)
+            (text_outcome (meant hosts.old) self.old.state sql.now).given) }
+        ensures given { IfOk result (λ d. d.given ≡ length (text_outcome (meant hosts.old) self.old.state sql.now).given) }
+        ensures changed { IfOk result (λ d. d.changed ≡ (text_outcome (meant hosts.old) self.old.state sql.now).changed) }
+
+        // A refusal changes nothing and has its cause.
+        ensures kept { OnErr result (self.new ≡ self.old) }
+        ensures cause { IfErr result (λ r. IsCause self.old.state (text_outcome (meant hosts.old) self.old.state sql.now)
+            self.old.budget (instruction_bound self.old.state sql.now) (steps.new - steps.old)
+            (Rose (R.fault_count rows.old) (R.fault_count rows.new)) r.cause) }
+        ensures not_yet { (text_outcome (meant hosts.old) self.old.state sql.now).refusal ≡ Some NotYet → steps.new ≡ steps.old }
+
+        // Whatever the answer.
+        ensures front { AddsFront (R.taken rows.old) (R.taken rows.new)
+            (text_outcome (meant hosts.old) self.old.state sql.now).given }
+        ensures bound { steps.new ≤ steps.old + instruction_bound self.old.state sql.now }
+        ensures ticks { steps.old ≤ steps.new }
+        ensures faults { R.fault_count rows.old ≤ R.fault_count rows.new }
+        ensures budget { self.new.budget ≡ self.old.budget }
+        ensures hosts { meant hosts.new ≡ meant hosts.old }
+    {
+        match run_text(
+            alloc,
+            &mut self.database,
+            self.budget,
+            sql.as_bytes(),
+            rows,
+            steps,
+        ) {
+            Ok(done) => Ok(done),
+            Err(cause) => Err(Refusal { cause }),
+        }
+    }
+
+    /// The rows of a table by ascending rowid, each with its rowid in front, or None where there is no table of this name. The
+    /// only refusal is want of memory.
+    pub fn table(&self, alloc: Global, name: &str) -> Result<Option<Rows>, Refusal>
+        ensures table { IfOk result (λ found. found ≡ table_rows self.now.state name.now) }
+        ensures memory { IfErr result (λ r. r.cause ≡ Mem) }
+    {
+        let Some(place) = self.database.catalog.place(name.as_bytes()) else {
+            return Ok(None);
+        };
+        match numbered(alloc, self.database.tables.rows(place)) {
+            Ok(rows) => Ok(Some(rows)),
+            Err(_) => Err(Refusal { cause: Cause::Mem }),
+        }
+    }
+
+    /// How many rows the last INSERT put that was not refused.
+    pub fn changes(&self) -> u64
+        ensures { result ≡ self.now.state.changes }
+    {
+        self.database.changes
+    }
+
+    /// The rowid of the last row that an INSERT put, 0 where none was.
+    pub fn last_rowid(&self) -> i64
+        ensures { result ≡ self.now.state.last_rowid }
+    {
+        self.database.last_rowid
+    }
+
+    /// Whether a transaction is open. No statement opens one yet.
+    pub fn in_transaction(&self) -> bool
+        ensures { result ≡ is_in_transaction self.now.state }
+    {
+        let _budget = self.budget;
+        false
+    }
+}
+
+/// The rows with their rowids in front.
+fn numbered(alloc: Global, rows: &[StoredRow]) -> Result<Rows, AllocError>
+    ensures { IfOk result (λ found. found ≡ map with_rowid rows.now) }
+{
+    let mut found = Rows::empty(alloc);
+    for row in rows {
+        found.push(with_rowid(alloc, row)?)?;
+    }
+    Ok(found)
+}
+
+/// A row with its rowid in front.
+fn with_rowid(alloc: Global, row: &StoredRow) -> Result<Row, AllocError>
+    ensures { IfOk result (λ values. values ≡ with_rowid row.now) }
+{
+    let mut values = Row::empty(alloc);
+    values.push(Value::Integer(row.rowid()))?;
+    for value in row.values() {
+        values.push(value.clone()?)?;
+    }
+    Ok(values)
+}

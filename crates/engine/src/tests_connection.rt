@@ -1,0 +1,247 @@
+// Statements through a connection.
+ghost use Rattle.std.specs.Prelude.{◌≡◌, ◌<◌};
+
+use crate::answers::{Done, Refusal};
+use crate::connection::Connection;
+use crate::test_sinks::MemoryRows;
+use eng_value::{Cause, DEFAULT_BUDGET, Row, Steps, Value};
+use std::alloc::{AllocError, Global};
+use std::marker::Brand;
+use std::sync::ledger::{Blank, Ledger};
+use std::test::Fail;
+use vm_core::Hosts;
+
+// What a statement came to; `Refused` has the result code of the cause.
+#[derive(Clone, Copy, Debug, PartialEq)]
+enum Outcome {
+    Done { given: u64, changed: u64 },
+    Refused(u8),
+    Interrupted(u64),
+}
+
+fn outcome_of(answer: Result<Done, Refusal>) -> Outcome {
+    match answer {
+        Ok(done) => Outcome::Done {
+            given: done.given,
+            changed: done.changed,
+        },
+        Err(refusal) => match refusal.cause {
+            Cause::Interrupted(ran) => Outcome::Interrupted(ran),
+            cause => Outcome::Refused(cause.code()),
+        },
+    }
+}
+
+fn run_counted<L: Ledger>(
+    blank: Blank,
+    alloc: Global,
+    connection: &mut Connection,
+    sql: &String,
+    rows: &mut MemoryRows,
+) -> Outcome
+    requires name { blank.name ≡ L.name }
+    requires parts { blank.parts ≡ L.parts }
+    requires some { 0 < blank.parts }
+{
+    let params: Vec<Value> = Vec::new(alloc);
+    let mut steps = Steps::<L>::new(blank);
+    outcome_of(connection.run(
+        alloc,
+        &mut Hosts {},
+        sql.as_str(),
+        params.as_slice(),
+        rows,
+        &mut steps,
+    ))
+}
+
+fn run(
+    alloc: Global,
+    connection: &mut Connection,
+    sql: &str,
+    rows: &mut MemoryRows,
+) -> Result<Outcome, AllocError> {
+    let sql = sql.to_string(alloc)?;
+    Ok(run_counted::<Brand>(Blank::new(1), alloc, connection, &sql, rows))
+}
+
+fn no_rows(alloc: Global) -> MemoryRows {
+    MemoryRows::new(alloc, Vec::new(alloc), Vec::new(alloc))
+}
+
+// The integers of rows, one row behind the other, a value of another type as -1.
+fn integers(alloc: Global, rows: &[Row]) -> Result<Vec<i64>, AllocError> {
+    let mut integers = Vec::new(alloc);
+    for row in rows {
+        for value in row.as_slice() {
+            integers.push(integer(value))?;
+        }
+    }
+    Ok(integers)
+}
+
+fn integer(value: &Value) -> i64 {
+    match value {
+        Value::Integer(n) => *n,
+        _ => -1,
+    }
+}
+
+// The rows of a table with their rowids in front, or one integer of 404 where there is no such table.
+fn contents(alloc: Global, connection: &Connection, name: &str) -> Result<Vec<i64>, AllocError> {
+    match connection.table(alloc, name) {
+        Ok(Some(rows)) => integers(alloc, rows.as_slice()),
+        Ok(None) => Ok(vec![in alloc; 404]?),
+        Err(_) => Err(AllocError),
+    }
+}
+
+const WROTE: Outcome = Outcome::Done {
+    given: 0,
+    changed: 1,
+};
+
+// A table t of one column with the rows 4, 6 and 5.
+fn three_rows(alloc: Global) -> Result<Connection, AllocError> {
+    let mut connection = Connection::new(alloc, DEFAULT_BUDGET);
+    for sql in [
+        "CREATE TABLE t(a INTEGER)",
+        "INSERT INTO t VALUES(4)",
+        "INSERT INTO t VALUES(6)",
+        "INSERT INTO t VALUES(5)",
+    ] {
+        run(alloc, &mut connection, sql, &mut no_rows(alloc))?;
+    }
+    Ok(connection)
+}
+
+#[test]
+fn statements_do_what_they_mean(rt: HostRuntime) -> Result<(), Fail> {
+    let alloc = rt.alloc();
+    let mut connection = Connection::new(alloc, DEFAULT_BUDGET);
+    let mut rows = no_rows(alloc);
+    assert_eq!(rt;
+        contents(alloc, &connection, "t")?.as_slice(),
+        [404].as_slice()
+    );
+    for (sql, wanted) in [
+        (
+            "CREATE TABLE t(a INTEGER, b INTEGER)",
+            Outcome::Done {
+                given: 0,
+                changed: 0,
+            },
+        ),
+        ("INSERT INTO t VALUES(1, 10)", WROTE),
+        ("INSERT INTO T VALUES(3, 20)", WROTE),
+        ("INSERT INTO t VALUES(2, 30)", WROTE),
+        (
+            "SELECT b, a FROM t WHERE a > 1",
+            Outcome::Done {
+                given: 2,
+                changed: 0,
+            },
+        ),
+    ] {
+        assert_eq!(rt;
+            run(alloc, &mut connection, sql, &mut rows)?,
+            wanted,
+            "{sql}"
+        );
+    }
+    assert_eq!(rt;
+        integers(alloc, rows.rows())?.as_slice(),
+        [20, 3, 30, 2].as_slice()
+    );
+    assert_eq!(rt;
+        contents(alloc, &connection, "T")?.as_slice(),
+        [1, 1, 10, 2, 3, 20, 3, 2, 30].as_slice()
+    );
+    assert_eq!(rt; connection.changes(), 1);
+    assert_eq!(rt; connection.last_rowid(), 3);
+    assert_eq!(rt; connection.in_transaction(), false);
+    Ok(())
+}
+
+#[test]
+fn a_refused_statement_changes_nothing(rt: HostRuntime) -> Result<(), Fail> {
+    let alloc = rt.alloc();
+    let mut connection = three_rows(alloc)?;
+    for sql in [
+        "",
+        "INSERT INTO t VALUES('seven')",
+        "INSERT INTO t VALUES(7, 8)",
+        "INSERT INTO u VALUES(7)",
+        "CREATE TABLE T(b TEXT)",
+        "SELECT b FROM t WHERE a > 1",
+    ] {
+        let mut rows = no_rows(alloc);
+        let outcome = run(alloc, &mut connection, sql, &mut rows)?;
+        assert_eq!(rt; outcome, Outcome::Refused(Cause::NotYet.code()), "{sql}");
+        assert_eq!(rt; rows.rows().len(), 0, "{sql}");
+        assert_eq!(rt;
+            contents(alloc, &connection, "t")?.as_slice(),
+            [1, 4, 2, 6, 3, 5].as_slice(),
+            "{sql}"
+        );
+        assert_eq!(rt; connection.changes(), 1, "{sql}");
+        assert_eq!(rt; connection.last_rowid(), 3, "{sql}");
+    }
+    Ok(())
+}
+
+// Which calls of the sink fail and find no memory, and how many rows it takes before.
+#[test]
+fn a_sink_that_takes_no_row_ends_the_statement(rt: HostRuntime) -> Result<(), Fail> {
+    let alloc = rt.alloc();
+    let mut connection = three_rows(alloc)?;
+    for (failing, starved, cause, taken) in [
+        ([0u64].as_slice(), [].as_slice(), Cause::SinkFault, 0),
+        ([1].as_slice(), [].as_slice(), Cause::SinkFault, 1),
+        ([].as_slice(), [1u64].as_slice(), Cause::Mem, 1),
+    ] {
+        let mut rows = MemoryRows::new(alloc, failing.to_vec(alloc)?, starved.to_vec(alloc)?);
+        let sql = "SELECT a FROM t WHERE a > 4";
+        let outcome = run(alloc, &mut connection, sql, &mut rows)?;
+        assert_eq!(rt; outcome, Outcome::Refused(cause.code()));
+        assert_eq!(rt; rows.rows().len(), taken);
+        assert_eq!(rt; connection.last_rowid(), 3);
+    }
+    Ok(())
+}
+
+// A row of one column takes six instructions, one of two columns seven; a scan of one row takes eleven.
+#[test]
+fn a_statement_stops_at_the_budget(rt: HostRuntime) -> Result<(), Fail> {
+    let alloc = rt.alloc();
+    let mut connection = Connection::new(alloc, 6);
+    for (sql, wanted) in [
+        (
+            "CREATE TABLE t(a INTEGER)",
+            Outcome::Done {
+                given: 0,
+                changed: 0,
+            },
+        ),
+        (
+            "CREATE TABLE u(a INTEGER, b INTEGER)",
+            Outcome::Done {
+                given: 0,
+                changed: 0,
+            },
+        ),
+        ("INSERT INTO t VALUES(7)", WROTE),
+        ("INSERT INTO u VALUES(8, 9)", Outcome::Interrupted(6)),
+        ("SELECT a FROM t WHERE a > 1", Outcome::Interrupted(6)),
+    ] {
+        let outcome = run(alloc, &mut connection, sql, &mut no_rows(alloc))?;
+        assert_eq!(rt; outcome, wanted, "{sql}");
+    }
+    assert_eq!(rt;
+        contents(alloc, &connection, "t")?.as_slice(),
+        [1, 7].as_slice()
+    );
+    assert_eq!(rt; contents(alloc, &connection, "u")?.len(), 0);
+    assert_eq!(rt; connection.last_rowid(), 1);
+    Ok(())
+}

@@ -1,0 +1,127 @@
+-- Rows that were given before change nothing of a run, and a run has one end.
+use Rattle.std.proofs.Common.{◌≡◌, ℕ, zero, suc, ◌+◌, ◌-◌, ◌<◌, List, [], ◌∷◌, ◌++◌, Bool, true, false, Some, None, ℤ, refl, sym, ap, ◌∙◌, arith, append_assoc, append-nil, ⊎_elim, if◌then◌else◌}
+use Rattle.std.specs.Prelude.{slice_get}
+use Rattle.std.specs.declared.option.Option.{Option}
+use Rattle.std.proofs.lemmas.Bool.{cases_lt}
+use Rattle.eng_value.specs.StoredRows.{StoredRow, next_rowid}
+use Rattle.eng_value.specs.declared.out.Out.{Out}
+use Rattle.vm_code.specs.declared.op.Op.{Op}
+use Rattle.vm_code.specs.declared.op.Op.TheVariants as op
+use Rattle.vm_code.specs.declared.program.Unit.{Unit}
+use Rattle.vm_code.specs.Machine.{Row, rows_of, is_free, Cursor, Closed, Open, Shared, Frame, State, Ending, Setting, Next, On, End, act, step, go_on, after, code_of, unit_at, read, outs_from, values_from, integer_in, jump_if, is_rejected, rewound, rewound_to, advanced, advanced_to, drawn, inserted, called, returned, cursor_at, cursor_rows, row_behind}
+use Rattle.vm_code.proofs.Runs.{after_add}
+
+-- behind other rows
+abbrev pub below : List Row → Shared → Shared
+below g x = record x { given = g ++ x.given }
+
+abbrev pub under : List Row → State → State
+under g s = record s { shared = below g s.shared }
+
+abbrev pub prepend : List Row → Next → Next
+prepend g (On s) = On (under g s)
+prepend g (End e x) = End e (below g x)
+
+module _ (g : List Row) where
+  jump_given : (b : Bool) (s : State) (target : ℕ) → jump_if b (under g s) target ≡ prepend g (jump_if b s target)
+  jump_given true s target = refl
+  jump_given false s target = refl
+
+  called_given : (x : Option Unit) (s : State) (u : ℕ) (args : List Out) (to : ℕ) → called x (under g s) u args to ≡ prepend g (called x s u args to)
+  called_given None s u args to = refl
+  called_given (Some x) s u args to = refl
+
+  returned_given : (fs : List Frame) (x : Shared) (v : Out) → returned fs (below g x) v ≡ prepend g (returned fs x v)
+  returned_given [] x v = refl
+  returned_given (f ∷ fs) x v = refl
+
+  rewound_to_given : (s : State) (c target t : ℕ) (rows : List StoredRow) → rewound_to (under g s) c target t rows ≡ prepend g (rewound_to s c target t rows)
+  rewound_to_given s c target t [] = refl
+  rewound_to_given s c target t (r ∷ rs) = refl
+
+  rewound_given : (x : Cursor) (s : State) (c target : ℕ) → rewound x (under g s) c target ≡ prepend g (rewound x s c target)
+  rewound_given Closed s c target = refl
+  rewound_given (Open t place) s c target = rewound_to_given s c target t (rows_of s.shared.world t)
+
+  advanced_to_given : (s : State) (c target t : ℕ) (r : Option StoredRow) → advanced_to (under g s) c target t r ≡ prepend g (advanced_to s c target t r)
+  advanced_to_given s c target t None = refl
+  advanced_to_given s c target t (Some r) = refl
+
+  advanced_given : (x : Cursor) (s : State) (c target : ℕ) → advanced x (under g s) c target ≡ prepend g (advanced x s c target)
+  advanced_given Closed s c target = refl
+  advanced_given (Open t None) s c target = refl
+  advanced_given (Open t (Some n)) s c target = advanced_to_given s c target t (row_behind (rows_of s.shared.world t) n)
+
+  drawn_given : (s : State) (r : ℕ) (name : List ℕ) (n : Option ℤ) → drawn (under g s) r name n ≡ prepend g (drawn s r name n)
+  drawn_given s r name None = refl
+  drawn_given s r name (Some n) = refl
+
+  with_row_given : (b : Bool) (x y : Shared) → (if b then below g y else below g x) ≡ below g (if b then y else x)
+  with_row_given true x y = refl
+  with_row_given false x y = refl
+
+  inserted_given : (x : Cursor) (y : Shared) (r : StoredRow) → inserted x (below g y) r ≡ below g (inserted x y r)
+  inserted_given Closed y r = refl
+  inserted_given (Open t place) y r = with_row_given (is_free y.world t r.rowid) y _
+
+  pub act_given : (m : Setting) (o : Option Op) (s : State) → act m o (under g s) ≡ prepend g (act m o s)
+  act_given m None s = refl
+  act_given m (Some (op.Goto target)) s = refl
+  act_given m (Some (op.IfNot r target on_null)) s = jump_given (is_rejected on_null (read s.regs r)) s target
+  act_given m (Some op.Halt) s = refl
+  act_given m (Some (op.Call u first n to)) s = called_given (unit_at m.prog u) s u (outs_from s.regs first n) to
+  act_given m (Some (op.Ret r)) s = returned_given s.stack s.shared (read s.regs r)
+  act_given m (Some (op.Argument k to)) s = refl
+  act_given m (Some (op.ResultRow first n)) s =
+      ap (λ l. On (record s { pc = s.pc + 1; shared = record s.shared { given = l } })) (append_assoc g s.shared.given (values_from s.regs first n ∷ []))
+  act_given m (Some (op.Integer n to)) s = refl
+  act_given m (Some (op.String8 text to)) s = refl
+  act_given m (Some (op.Compare o a b to)) s = refl
+  act_given m (Some (op.OpenRead c t)) s = refl
+  act_given m (Some (op.OpenWrite c t)) s = refl
+  act_given m (Some (op.Close c)) s = refl
+  act_given m (Some (op.Rewind c target)) s = rewound_given (cursor_at s.cursors c) s c target
+  act_given m (Some (op.Next c target)) s = advanced_given (cursor_at s.cursors c) s c target
+  act_given m (Some (op.Column c k to)) s = refl
+  act_given m (Some (op.NewRowid c to name)) s = drawn_given s to name (next_rowid (cursor_rows s.shared.world (cursor_at s.cursors c)))
+  act_given m (Some (op.Insert c rowid first n)) s =
+      ap (λ x. On (record s { pc = s.pc + 1; shared = x })) (inserted_given (cursor_at s.cursors c) s.shared (record { rowid = integer_in s.regs rowid; values = values_from s.regs first n }))
+  act_given m (Some op.Schema) s = refl
+
+  go_on_given : (m : Setting) (n : ℕ) (x : Next) → ((s : State) → after m n (under g s) ≡ prepend g (after m n s)) → go_on (prepend g x) (after m n) ≡ prepend g (go_on x (after m n))
+  go_on_given m n (On s) ih = ih s
+  go_on_given m n (End e x) ih = refl
+
+  -- a run behind other rows is the run, with its rows behind them
+  pub after_given : (m : Setting) (n : ℕ) (s : State) → after m n (under g s) ≡ prepend g (after m n s)
+  after_given m zero s = refl
+  after_given m (suc n) s =
+      ap (λ x. go_on x (after m n)) (act_given m (slice_get (code_of m.prog s.unit) s.pc) s) ∙ go_on_given m n (step m s) (λ t. after_given m n t)
+
+module _ (m : Setting) where
+  go_on_over : (n k : ℕ) (x : Next) (e : Ending) (y : Shared) → ((s : State) → after m n s ≡ End e y → after m (n + k) s ≡ End e y) → go_on x (after m n) ≡ End e y → go_on x (after m (n + k)) ≡ End e y
+  go_on_over n k (On s) e y ih h = ih s h
+  go_on_over n k (End f xs) e y ih h = h
+
+  -- a run that is over stays so
+  pub over : (n k : ℕ) (s : State) (e : Ending) (y : Shared) → after m n s ≡ End e y → after m (n + k) s ≡ End e y
+  over zero k s e y h = cc
+  over (suc n) k s e y h =
+      let z : suc n + k ≡ suc (n + k) = omega arith in
+      ap (λ i. after m i s) z ∙ go_on_over n k (step m s) e y (λ t f. over n k t e y f) h
+
+  -- two ends are one
+  pub one_end : (n k : ℕ) (s : State) (e f : Ending) (x y : Shared) → after m n s ≡ End e x → after m k s ≡ End f y → End e x ≡ End f y
+  one_end n k s e f x y h i =
+      ⊎_elim (λ lt. let z : n + (k - n) ≡ k = omega arith in sym (over n (k - n) s e x h) ∙ ap (λ j. after m j s) z ∙ i) (λ le. let z : k + (n - k) ≡ n = omega arith in sym h ∙ ap (λ j. after m j s) (sym z) ∙ over k (n - k) s f y i) (cases_lt n k)
+
+  -- a run that goes on is shorter than one that is over
+  pub still_on : (n k : ℕ) (s t : State) (e : Ending) (x : Shared) → after m n s ≡ End e x → after m k s ≡ On t → k < n
+  still_on n k s t e x h i =
+      ⊎_elim (λ lt. lt) (λ le. let z : n + (k - n) ≡ k = omega arith in let both : End e x ≡ On t = sym (over n (k - n) s e x h) ∙ ap (λ j. after m j s) z ∙ i in cc) (cases_lt k n)
+
+  -- one stretch of a run and the next, which begins with no row given
+  pub next_stretch : (ran n : ℕ) (s t : State) (g : List Row) (x : Next) → after m ran s ≡ On (record t { shared = record t.shared { given = g } }) → after m n (record t { shared = record t.shared { given = [] } }) ≡ x → after m (ran + n) s ≡ prepend g x
+  next_stretch ran n s t g x e f =
+      let same : record t { shared = record t.shared { given = g } } ≡ under g (record t { shared = record t.shared { given = [] } }) = ap (λ l. record t { shared = record t.shared { given = l } }) (sym (append-nil g)) in
+      after_add m ran n s (record t { shared = record t.shared { given = g } }) (prepend g x) e (ap (after m n) same ∙ after_given g m n (record t { shared = record t.shared { given = [] } }) ∙ ap (prepend g) f)

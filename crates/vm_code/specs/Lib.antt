@@ -1,0 +1,6 @@
+-- in the order in which they are read
+pub mod Machine
+pub mod Changes
+pub mod Draft
+pub mod Frames
+pub mod Claims

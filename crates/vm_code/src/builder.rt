@@ -1,0 +1,206 @@
+// The builder of a unit.
+ghost use Rattle.std.specs.Prelude.{◌≡◌, ◌+◌, ◌-◌, ◌<◌, ◌≤◌, [], ◌∷◌, ◌++◌, length, map, max, slice_get, slice_set, IfOk, None, Some};
+ghost use Rattle.vm_code.specs.Draft.{Draft, begun, bound, given_back, released, taken, with_cursor, with_label, with_op};
+ghost use Rattle.vm_code.specs.Frames.{IsProgramOf, IsUnitOf, place_in, placed};
+
+use crate::{Op, Program, Unit};
+use sqlite_items::Items;
+use std::alloc::{AllocError, Global};
+use std::marker::Model;
+
+/// A unit under construction: instructions whose jumps go to labels, registers and cursors that are taken, and the units that
+/// are ready. Code is only added behind the other, and a label gets its place once.
+#[derive(Drop)]
+pub struct Builder {
+    code: Vec<Op>,
+    labels: Vec<Option<usize>>,
+    next: u32,
+    most: u32,
+    cursors: u32,
+    units: Items<Unit>,
+}
+
+impl Model for Builder {
+    ghost use Rattle.vm_code.specs.Draft.{Draft};
+
+    ghost Value = { Draft };
+
+    ghost view = { λ b.
+        record {
+          code = b.code.items;
+          labels = b.labels.items;
+          next = b.next;
+          most = b.most;
+          cursors = b.cursors;
+          units = b.units;
+        } };
+}
+
+impl Builder {
+    /// The start of a unit, beside the units that are ready.
+    pub fn new(alloc: Global, units: Items<Unit>) -> Builder
+        ensures { result ≡ begun units }
+    {
+        Builder {
+            code: Vec::new(alloc),
+            labels: Vec::new(alloc),
+            next: 0,
+            most: 0,
+            cursors: 0,
+            units,
+        }
+    }
+
+    /// One more instruction, whose jump, if it has one, goes to a label.
+    pub fn op(&mut self, op: Op) -> Result<(), AllocError>
+        ensures { IfOk result (λ _. self.new ≡ with_op self.old op) }
+    {
+        self.code.push(op)?;
+        Ok(())
+    }
+
+    /// A label whose place is not known yet.
+    pub fn label(&mut self) -> Result<usize, AllocError>
+        ensures { IfOk result (λ l. (l ≡ length self.old.labels) × (self.new ≡ with_label self.old)) }
+    {
+        let label = self.labels.len();
+        self.labels.push(None)?;
+        Ok(label)
+    }
+
+    /// The label's place is behind the last instruction so far.
+    pub fn bind(&mut self, label: usize)
+        requires { slice_get self.old.labels label ≡ Some None }
+        ensures { self.new ≡ bound self.old label }
+    {
+        self.labels[label] = Some(self.code.len());
+    }
+
+    /// The first register that is free.
+    pub fn next_register(&self) -> u32
+        ensures { result ≡ self.now.next }
+    {
+        self.next
+    }
+
+    /// Takes the first register that is free. There are fewer than 2 ^ 32 of them.
+    pub fn take(&mut self) -> Result<u32, AllocError>
+        ensures { IfOk result (λ r. (r ≡ self.old.next) × (self.new ≡ taken self.old)) }
+    {
+        let register = self.next;
+        let Some(next) = register.checked_add(1) else {
+            return Err(AllocError);
+        };
+        self.next = next;
+        self.most = self.most.max(next);
+        Ok(register)
+    }
+
+    /// The register that was taken last is free again.
+    pub fn give_back(&mut self)
+        requires { 0 < self.old.next }
+        ensures { self.new ≡ given_back self.old }
+    {
+        self.next -= 1;
+    }
+
+    /// The registers from `next` on are free again.
+    pub fn release(&mut self, next: u32)
+        requires { next ≤ self.old.next }
+        ensures { self.new ≡ released self.old next }
+    {
+        self.next = next;
+    }
+
+    /// A cursor that no other code of the unit uses. There are fewer than 2 ^ 32 of them.
+    pub fn cursor(&mut self) -> Result<u32, AllocError>
+        ensures { IfOk result (λ c. (c ≡ self.old.cursors) × (self.new ≡ with_cursor self.old)) }
+    {
+        let cursor = self.cursors;
+        let Some(next) = cursor.checked_add(1) else {
+            return Err(AllocError);
+        };
+        self.cursors = next;
+        Ok(cursor)
+    }
+
+    /// The ready units and this one behind them, with places in the stead of labels. A label without a place stands for 0.
+    pub fn finish_unit(self) -> Result<Items<Unit>, AllocError>
+        ensures { IfOk result (λ units. IsUnitOf self units) }
+    {
+        let Builder {
+            code,
+            labels,
+            next: _,
+            most,
+            cursors,
+            mut units,
+        } = self;
+        units.push(finished(code, &labels, most, cursors))?;
+        Ok(units)
+    }
+
+    /// The program whose main unit this is, with places in the stead of labels. A label without a place stands for 0.
+    pub fn finish_program(self) -> Program
+        ensures { IsProgramOf self result }
+    {
+        let Builder {
+            code,
+            labels,
+            next: _,
+            most,
+            cursors,
+            units,
+        } = self;
+        Program {
+            main: finished(code, &labels, most, cursors),
+            units,
+        }
+    }
+}
+
+/// The unit of this code.
+fn finished(mut code: Vec<Op>, labels: &[Option<usize>], registers: u32, cursors: u32) -> Unit
+    ensures code { result.code ≡ map (placed (place_in labels.now)) code.items }
+    ensures registers { result.registers ≡ registers }
+    ensures cursors { result.cursors ≡ cursors }
+{
+    place_all(&mut code, labels);
+    Unit {
+        code: Items::from_vec(code),
+        registers,
+        cursors,
+    }
+}
+
+/// Puts places in the stead of labels.
+fn place_all(code: &mut [Op], labels: &[Option<usize>])
+    ensures { code.new ≡ map (placed (place_in labels.now)) code.old }
+{
+    for op in code.iter_mut() {
+        place_op(op, labels);
+    }
+}
+
+/// The place of a label, 0 where it has none.
+fn place(labels: &[Option<usize>], label: usize) -> usize
+    ensures { result ≡ place_in labels.now label }
+{
+    match labels.get(label) {
+        Some(Some(place)) => *place,
+        _ => 0,
+    }
+}
+
+/// Puts the place of its label into an instruction that jumps.
+fn place_op(op: &mut Op, labels: &[Option<usize>])
+    ensures { op.new ≡ placed (place_in labels.now) op.old }
+{
+    match op {
+        Op::Goto { target } => *target = place(labels, *target),
+        Op::IfNot { target, .. } => *target = place(labels, *target),
+        Op::Rewind { target, .. } => *target = place(labels, *target),
+        Op::Next { target, .. } => *target = place(labels, *target),
+        _ => {}
+    }
+}

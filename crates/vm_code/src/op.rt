@@ -1,0 +1,110 @@
+// The instructions.
+use eng_value::{CompareOp, Text};
+
+/// An instruction (The SQLite Bytecode Engine). Its operands are numbers of registers, cursors, columns, tables and units,
+/// and places in the unit's code; `r` is the registers of the frame, each of which holds a value or is bad. A register, a
+/// cursor, a unit or an instruction that is not there never stops the machine: a missing register reads NULL, a cursor
+/// that is not open reads NULL and has no row, and behind the last instruction the run ends as at `Halt`.
+///
+/// Where the table of opcodes numbers the operands, the comment does too: p1, p2, p3, p4 and p5.
+#[derive(Debug, Drop)]
+pub enum Op {
+    /// Jumps to `target` (p2).
+    Goto {
+        target: usize,
+    },
+    /// Jumps to `target` (p2) where r[`register`] (p1) is false, and on NULL where `on_null` (p3) says so.
+    IfNot {
+        register: u32,
+        target: usize,
+        on_null: bool,
+    },
+    /// Ends the run.
+    Halt,
+    /// Runs the unit of number `unit` (p1) in a new frame, with the `count` registers from `first` (p2) on as its arguments.
+    /// Its result goes to r[`to`] (p3). A unit that is not there leaves NULL.
+    Call {
+        unit: u32,
+        first: u32,
+        count: u32,
+        to: u32,
+    },
+    /// Leaves the unit with r[`from`] (p1) as its result. In the main unit it ends the run.
+    Ret {
+        from: u32,
+    },
+    /// r[`to`] (p2) is the argument of number `number` (p1).
+    Argument {
+        number: u32,
+        to: u32,
+    },
+    /// Gives the `count` (p2) registers from `first` (p1) on as a row. One that is bad counts as NULL.
+    ResultRow {
+        first: u32,
+        count: u32,
+    },
+    /// r[`to`] (p2) is the integer `value` (p1).
+    Integer {
+        value: i64,
+        to: u32,
+    },
+    /// r[`to`] (p2) is the text `text` (p4).
+    String8 {
+        text: Text,
+        to: u32,
+    },
+    /// r[`to`] (p3) is the comparison `op` (p5) of r[`left`] (p1) with r[`right`] (p2).
+    Compare {
+        op: CompareOp,
+        left: u32,
+        right: u32,
+        to: u32,
+    },
+    /// Opens a cursor (p1) on a table (p2) for reading. It is on no row.
+    OpenRead {
+        cursor: u32,
+        table: u32,
+    },
+    /// Opens a cursor (p1) on a table (p2) for writing. It is on no row.
+    OpenWrite {
+        cursor: u32,
+        table: u32,
+    },
+    /// Closes a cursor (p1).
+    Close {
+        cursor: u32,
+    },
+    /// The cursor (p1) comes to the first row of its table. Jumps to `target` (p2) where there is none.
+    Rewind {
+        cursor: u32,
+        target: usize,
+    },
+    /// The cursor (p1) comes to the row behind its own and jumps to `target` (p2). Where there is none it comes off its row.
+    Next {
+        cursor: u32,
+        target: usize,
+    },
+    /// r[`to`] (p3) is the column of number `column` (p2) of the cursor's (p1) row.
+    Column {
+        cursor: u32,
+        column: u32,
+        to: u32,
+    },
+    /// r[`to`] (p2) is the rowid behind the last of the cursor's (p1) table. Where there is none the run ends with `Full`, which
+    /// names the table (p4).
+    NewRowid {
+        cursor: u32,
+        to: u32,
+        table: Text,
+    },
+    /// Puts the `count` registers from `first` (p2) on as a row into the cursor's (p1) table, under the rowid in r[`rowid`] (p3). Where the
+    /// table has that rowid nothing changes.
+    Insert {
+        cursor: u32,
+        rowid: u32,
+        first: u32,
+        count: u32,
+    },
+    /// Adds a table without rows behind the others. What the catalog keeps of it is the engine's own work.
+    Schema,
+}

@@ -1,0 +1,62 @@
+-- One instruction more.
+use Rattle.std.proofs.Common.{◌≡◌, ℕ, zero, suc, ◌+◌, [], Ok, Err, Result, Option, IfOk, OnErr, refl, sym, ap, ◌∙◌, subst, arith}
+use Rattle.std.specs.declared.alloc.AllocError.{AllocError}
+use Rattle.vm_code.specs.declared.op.Op.{Op}
+use Rattle.vm_code.specs.declared.program.Program.{Program}
+use Rattle.vm_code.specs.Changes.{before}
+use Rattle.vm_code.specs.Machine.{World, Setting, State, Next, On, End, act, step, go_on, after}
+use Rattle.vm_code.proofs.Kept.{shared_of, from_act}
+use Rattle.vm_core.specs.declared.flow.Flow.{Flow}
+use Rattle.vm_core.specs.declared.flow.Flow.TheVariants as flow
+use Rattle.vm_core.specs.Events.{Leads, NoneInVain}
+use Rattle.vm_core.specs.Paused.{Progress, Paused, paused, state_at, state_of}
+
+module _ (m : Setting) where
+  go_on_one : (n : ℕ) (x : Next) (t : State) (y : Next) → ((s : State) → after m n s ≡ On t → after m (suc n) s ≡ y) → go_on x (after m n) ≡ On t → go_on x (after m (suc n)) ≡ y
+  go_on_one n (On s) t y ih e = ih s e
+  go_on_one n (End z g) t y ih e = cc
+
+  alone : (x : Next) → go_on x (after m 0) ≡ x
+  alone (On s) = refl
+  alone (End e g) = refl
+
+  -- so many instructions and one more
+  pub after_more : (n : ℕ) (s t : State) (y : Next) → after m n s ≡ On t → step m t ≡ y → after m (suc n) s ≡ y
+  after_more zero s t y e f = let same : s ≡ t = cc in alone (step m s) ∙ ap (step m) same ∙ f
+  after_more (suc n) s t y e f = go_on_one n (step m s) t y (λ u g. after_more n u t y g f) e
+
+  pub after_count : (n k : ℕ) (s t : State) (y : Next) → k ≡ n + 1 → after m n s ≡ On t → step m t ≡ y → after m k s ≡ y
+  after_count n k s t y same e f =
+      let more : k ≡ suc n = omega arith in
+      ap (λ i. after m i s) more ∙ after_more n s t y e f
+
+  -- in front of one instruction more the machine goes on
+  pub none_in_vain : (n k : ℕ) (s t : State) → k ≡ n + 1 → after m n s ≡ On t → NoneInVain m k s
+  none_in_vain n k s t same e j last =
+      let fewer : j ≡ n = omega arith in
+      (t, ap (λ i. after m i s) fewer ∙ e)
+
+-- what taking the changes back gives is the same behind an instruction
+module _ (m : Setting) (o : Option Op) (p q : Progress) (w v : World) where
+  abbrev undone_in : Next → World
+  undone_in n = before (shared_of n).changes (shared_of n).world
+
+  kept : undone_in (act m o (state_at p w [])) ≡ before p.changes w
+  kept = from_act (before p.changes w) m o (state_at p w []) refl
+
+  pub undo_leads : (f : Flow) → Leads f (state_at q v) (act m o (state_at p w [])) → before q.changes v ≡ before p.changes w
+  undo_leads flow.Going e = sym (ap undone_in e) ∙ kept
+  undo_leads (flow.Gave row) e = sym (ap undone_in e) ∙ kept
+  undo_leads flow.Finished e = sym (ap undone_in e) ∙ kept
+  undo_leads (flow.Failed c) e = sym (ap undone_in e) ∙ kept
+
+  pub undo_either : (r : Result Flow AllocError) → IfOk r (λ f. Leads f (state_at q v) (act m o (state_at p w []))) → OnErr r (q.changes ≡ p.changes) → OnErr r (v ≡ w) → before q.changes v ≡ before p.changes w
+  undo_either (Ok f) leads log tables = undo_leads f leads
+  undo_either (Err e) leads log tables = ap (λ cs. before cs v) log ∙ ap (before p.changes) tables
+
+-- the same from a machine that is seen as another
+pub seen_as : (p : Program) (r : Progress) (q : Paused) → paused p r ≡ q → (n : ℕ) (w : World) (x : Next) → after (record { prog = p }) n (state_at r w []) ≡ x → after (record { prog = q.prog }) n (state_of q w []) ≡ x
+seen_as p r q e n w x h = subst (λ (y : Paused). after (record { prog = y.prog }) n (state_of y w []) ≡ x) e h
+
+pub needed_as : (p : Program) (r : Progress) (q : Paused) → paused p r ≡ q → (n : ℕ) (w : World) → NoneInVain (record { prog = p }) n (state_at r w []) → NoneInVain (record { prog = q.prog }) n (state_of q w [])
+needed_as p r q e n w h = subst (λ (y : Paused). NoneInVain (record { prog = y.prog }) n (state_of y w [])) e h

@@ -1,0 +1,37 @@
+-- Where a cursor comes to.
+use Rattle.std.specs.Prelude.{ℕ, ℤ, Bool, true, false, Some, None, slice_get}
+use Rattle.std.specs.Option.{option_map}
+use Rattle.std.specs.declared.option.Option.{Option}
+use Rattle.eng_value.specs.StoredRows.{StoredRow}
+use Rattle.vm_code.specs.Machine.{World, Cursor, Closed, Open, rows_of, row_behind}
+use Rattle.vm_core.specs.declared.cursor.Spot.{Spot}
+use Rattle.vm_core.specs.declared.cursor.Spot.TheVariants as spot
+use Rattle.vm_core.specs.declared.cursor.Place.{Place}
+
+-- where a cursor stands, without the index that helps to find its row
+abbrev pub cursor_of : Spot → Cursor
+cursor_of spot.Closed = Closed
+cursor_of (spot.Open table place) = Open table (option_map (λ (p : Place). p.rowid) place)
+
+abbrev pub is_on_row : Cursor → Bool
+is_on_row Closed = false
+is_on_row (Open table None) = false
+is_on_row (Open table (Some rowid)) = true
+
+abbrev pub on_row : Option StoredRow → Option ℤ
+on_row row = option_map (λ (r : StoredRow). r.rowid) row
+
+abbrev pub table_of : Cursor → Option ℕ
+table_of Closed = None
+table_of (Open table place) = Some table
+
+-- on the first row of its table, or on none
+abbrev pub on_first : World → Cursor → Cursor
+on_first w Closed = Closed
+on_first w (Open table place) = Open table (on_row (slice_get (rows_of w table) 0))
+
+-- on the row behind its own, or on none
+abbrev pub on_next : World → Cursor → Cursor
+on_next w Closed = Closed
+on_next w (Open table None) = Open table None
+on_next w (Open table (Some rowid)) = Open table (on_row (row_behind (rows_of w table) rowid))

@@ -1,0 +1,28 @@
+//! The machine that runs bytecode over tables.
+//!
+//! vm_code says what each instruction does, over tables that are lists (specs/Machine.antt there). Here the same runs over
+//! tables in memory, and the contract of `Machine::step` says that it is the same, event by event: the event is the next one
+//! of the machine over lists after exactly as many instructions as were counted. `Machine::undo` takes back what a run
+//! changed. Begin with `machine`; `execute` has one arm for each instruction, and `running`, `cursor` and `tables` do the work.
+#![tactic(auto)]
+
+mod cursor;
+mod event;
+mod execute;
+mod flow;
+mod frame;
+mod hosts;
+mod machine;
+mod registers;
+mod running;
+mod seek;
+mod table;
+mod tables;
+
+pub use event::{Budget, Event};
+pub use hosts::Hosts;
+pub use machine::Machine;
+pub use tables::Tables;
+
+#[cfg(test)]
+mod tests;
