@@ -21,6 +21,8 @@ mod test_sinks;
 #[cfg(test)]
 mod tests_connection;
 #[cfg(test)]
+mod tests_database;
+#[cfg(test)]
 mod tests_preparing;
 #[cfg(test)]
 mod tests_running;

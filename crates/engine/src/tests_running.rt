@@ -14,7 +14,7 @@ use vm_core::Tables;
 
 // What a run came to; `Bad` has the result code of the cause.
 #[derive(Clone, Copy, Debug, PartialEq)]
-enum Outcome {
+pub(crate) enum Outcome {
     Completed {
         given: u64,
         changed: u64,
@@ -66,7 +66,7 @@ fn run_counted<L: Ledger>(
 }
 
 // Runs a main unit with three registers and a cursor.
-fn run(
+pub(crate) fn run(
     alloc: Global,
     code: Vec<Op>,
     tables: &mut Tables,
