@@ -27,7 +27,7 @@ pub use meanings::Meanings;
 pub use out::Out;
 pub use row::{Row, Rows};
 pub use steps::Steps;
-pub use stored_row::{StoredRow, next_rowid};
+pub use stored_row::StoredRow;
 pub use text::Text;
 pub use value::Value;
 

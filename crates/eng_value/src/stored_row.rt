@@ -1,8 +1,7 @@
 // The rows of a table.
-ghost use Rattle.std.specs.Prelude.{◌≡◌, ◌∷◌, map};
-ghost use Rattle.eng_value.specs.StoredRows.{next_rowid};
+ghost use Rattle.std.specs.Prelude.{◌≡◌};
 
-use crate::{MAX_ROWID, Row, Value};
+use crate::{Row, Value};
 use std::marker::Model;
 
 /// A row of a table under its rowid (Rowid Tables).
@@ -38,22 +37,5 @@ impl StoredRow {
         ensures { result.now ≡ self.now.values }
     {
         self.values.as_slice()
-    }
-}
-
-/// The rowid behind those of the rows, which ascend: 1 where there is none, and no rowid behind the largest of all.
-pub fn next_rowid(rows: &[StoredRow]) -> Option<i64>
-    ensures { result ≡ next_rowid rows.now }
-{
-    match rows.last() {
-        None => Some(1),
-        Some(last) => {
-            let rowid = last.rowid();
-            if rowid < MAX_ROWID {
-                Some(rowid + 1)
-            } else {
-                None
-            }
-        }
     }
 }

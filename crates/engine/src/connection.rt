@@ -7,6 +7,7 @@ ghost use Rattle.host_traits.specs.Faults.{Rose};
 ghost use Rattle.sql_meaning.specs.Statement.{text_outcome};
 ghost use Rattle.sql_meaning.specs.Work.{instruction_bound};
 ghost use Rattle.sql_meaning.specs.World.{is_in_transaction, new_state, table_rows, with_rowid};
+ghost use Rattle.vm_code.specs.Machine.{rows_of};
 ghost use Rattle.vm_core.specs.Meant.{meant};
 
 use crate::answers::{Done, Refusal};
@@ -16,7 +17,7 @@ use eng_value::{Cause, Row, Rows, Steps, StoredRow, Value};
 use std::alloc::{AllocError, Global};
 use std::marker::Model;
 use std::sync::ledger::Ledger;
-use vm_core::Hosts;
+use vm_core::{Hosts, Tables};
 
 /// A connection: the tables of a database in memory, and what its statements leave behind. Contracts see the state of the
 /// definitions, and the budget of a statement in instructions.
@@ -117,7 +118,7 @@ impl Connection {
         let Some(place) = self.database.catalog.place(name.as_bytes()) else {
             return Ok(None);
         };
-        match numbered(alloc, self.database.tables.rows(place)) {
+        match numbered(alloc, &self.database.tables, place) {
             Ok(rows) => Ok(Some(rows)),
             Err(_) => Err(Refusal { cause: Cause::Mem }),
         }
@@ -146,12 +147,13 @@ impl Connection {
     }
 }
 
-/// The rows with their rowids in front.
-fn numbered(alloc: Global, rows: &[StoredRow]) -> Result<Rows, AllocError>
-    ensures { IfOk result (λ found. found ≡ map with_rowid rows.now) }
+/// The rows of a table with their rowids in front.
+fn numbered(alloc: Global, tables: &Tables, table: usize) -> Result<Rows, AllocError>
+    ensures { IfOk result (λ found. found ≡ map with_rowid (rows_of tables.now table)) }
 {
+    let rows = tables.rows(alloc, table)?;
     let mut found = Rows::empty(alloc);
-    for row in rows {
+    for row in &rows {
         found.push(with_rowid(alloc, row)?)?;
     }
     Ok(found)

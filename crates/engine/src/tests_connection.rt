@@ -190,6 +190,26 @@ fn a_refused_statement_changes_nothing(rt: HostRuntime) -> Result<(), Fail> {
     Ok(())
 }
 
+// A test to be run where allocations fail too: an INSERT that finds no memory leaves the rows that were there.
+#[test]
+fn an_insert_puts_its_row_or_changes_nothing(rt: HostRuntime) -> Result<(), Fail> {
+    let alloc = rt.alloc();
+    let mut connection = three_rows(alloc)?;
+    let mut rows = no_rows(alloc);
+    for _ in 0..40 {
+        let before = contents(alloc, &connection, "t")?;
+        let outcome = run(alloc, &mut connection, "INSERT INTO t VALUES(7)", &mut rows)?;
+        let after = contents(alloc, &connection, "t")?;
+        if outcome == WROTE {
+            assert_eq!(rt; after.len(), before.len().saturating_add(2));
+        } else {
+            assert_eq!(rt; outcome, Outcome::Refused(Cause::Mem.code()));
+            assert_eq!(rt; after.as_slice(), before.as_slice());
+        }
+    }
+    Ok(())
+}
+
 // Which calls of the sink fail and find no memory, and how many rows it takes before.
 #[test]
 fn a_sink_that_takes_no_row_ends_the_statement(rt: HostRuntime) -> Result<(), Fail> {

@@ -103,7 +103,7 @@ fn a_table_without_a_free_rowid_is_full(rt: HostRuntime) -> Result<(), Fail> {
         assert_eq!(rt; text.as_slice(), wanted.as_bytes(), "{sql}");
         assert_eq!(rt; database.changes, 1);
         assert_eq!(rt; database.last_rowid, MAX_ROWID);
-        assert_eq!(rt; database.tables.rows(0).len(), 2);
+        assert_eq!(rt; database.tables.rows(alloc, 0)?.len(), 2);
     }
     assert_eq!(rt; rows.rows().len(), 2);
     Ok(())

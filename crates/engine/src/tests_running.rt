@@ -133,7 +133,7 @@ fn rows_come_in_order_and_changes_count(rt: HostRuntime) -> Result<(), Fail> {
         firsts(alloc, rows.rows())?.as_slice(),
         [7, 8, 8].as_slice()
     );
-    assert_eq!(rt; tables.rows(0).len(), 2);
+    assert_eq!(rt; tables.rows(alloc, 0)?.len(), 2);
     Ok(())
 }
 

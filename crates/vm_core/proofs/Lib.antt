@@ -1,3 +1,3 @@
-pub mod Places
-pub mod Puts
-pub mod Steps
+mod Stored
+mod Puts
+mod Steps

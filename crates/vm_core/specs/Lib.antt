@@ -1,5 +1,5 @@
 pub mod Meant
-pub mod Searches
+pub mod Stored
 pub mod Cursors
 pub mod Paused
 pub mod Events

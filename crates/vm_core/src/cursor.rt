@@ -1,13 +1,13 @@
 // Cursors.
-ghost use Rattle.std.specs.Prelude.{◌≡◌, None, MatchResult, slice_get};
-ghost use Rattle.eng_value.specs.StoredRows.{IsAscending};
-ghost use Rattle.vm_code.specs.Machine.{Closed, Open, cursor_rows, current, values_of, row_under, row_behind};
-ghost use Rattle.vm_core.specs.Cursors.{is_on_row, on_row, on_first, on_next, table_of};
-ghost use Rattle.vm_core.specs.Searches.{IsUnder, IsBetween};
+ghost use Rattle.std.specs.Prelude.{◌≡◌, None, IfOk, slice_index_or};
+ghost use Rattle.eng_value.specs.StoredRows.{next_rowid};
+ghost use Rattle.eng_value.specs.declared.value.Value.TheVariants.{Null};
+ghost use Rattle.vm_code.specs.Machine.{Closed, Open, cursor_rows, current};
+ghost use Rattle.vm_core.specs.Cursors.{is_on_row, on_first, on_next, table_of};
 
 use crate::Tables;
-use crate::seek::seek;
-use eng_value::{StoredRow, Value};
+use eng_value::Value;
+use std::alloc::{AllocError, Global};
 use std::marker::Model;
 
 /// A cursor: closed, or open on a table and there on a row or on none. Contracts see the cursor of the machine over lists.
@@ -23,12 +23,12 @@ enum Spot {
     Open { table: u32, place: Option<Place> },
 }
 
-/// A row by its rowid, and the index at which it was found. The row may have another index by now, since rows may have
-/// come in front of it.
+/// A row by its rowid, and where the search for it came to, which makes the next search near it short. The row may stand
+/// elsewhere by now, since rows may have come in front of it.
 #[derive(Clone, Copy, Debug)]
 struct Place {
     rowid: i64,
-    index: usize,
+    near: usize,
 }
 
 impl Model for Cursor {
@@ -67,26 +67,26 @@ impl Cursor {
         }
     }
 
-    /// The rows of its table; none where it is closed.
-    pub fn rows<'a>(&self, tables: &'a Tables) -> &'a [StoredRow]
-        ensures { result.now ≡ cursor_rows tables.now self.now }
+    /// The rowid behind the last of its table, if there is one.
+    pub fn next_rowid(&self, tables: &Tables) -> Option<i64>
+        ensures { result ≡ next_rowid (cursor_rows tables.now self.now) }
     {
         match self.spot {
-            Spot::Closed => &[],
-            Spot::Open { table, place: _ } => tables.rows(table as usize),
+            Spot::Closed => Some(1),
+            Spot::Open { table, place: _ } => tables.next_rowid(table),
         }
     }
 
-    /// The values of its row; none where it is on no row.
-    pub fn current<'a>(&self, tables: &'a Tables) -> &'a [Value]
-        ensures { result.now ≡ current tables.now self.now }
+    /// A copy of a column of its row; NULL where there is none.
+    pub fn column(&self, alloc: Global, tables: &Tables, number: usize) -> Result<Value, AllocError>
+        ensures { IfOk result (λ v. v ≡ slice_index_or (current tables.now self.now) number Null) }
     {
         match self.spot {
             Spot::Open {
                 table,
                 place: Some(place),
-            } => values_at(tables.rows(table as usize), place),
-            _ => &[],
+            } => tables.column(alloc, table, place.rowid, number, place.near),
+            _ => Ok(Value::Null),
         }
     }
 
@@ -97,7 +97,11 @@ impl Cursor {
     {
         match self.spot {
             Spot::Closed => false,
-            Spot::Open { table, place: _ } => self.come_to(table, tables.rows(table as usize), 0),
+            Spot::Open { table, place: _ } => {
+                let mut near = 0;
+                let rowid = tables.first(table, &mut near);
+                self.come_to(table, rowid, near)
+            }
         }
     }
 
@@ -111,64 +115,23 @@ impl Cursor {
                 table,
                 place: Some(place),
             } => {
-                let rows = tables.rows(table as usize);
-                self.come_to(table, rows, index_behind(rows, place))
+                let mut near = place.near;
+                let rowid = tables.behind(table, place.rowid, &mut near);
+                self.come_to(table, rowid, near)
             }
             _ => false,
         }
     }
 
-    /// Comes to the row at an index, and says whether there is one.
-    fn come_to(&mut self, table: u32, rows: &[StoredRow], index: usize) -> bool
-        ensures cursor { self.new ≡ Open table (on_row (slice_get rows.now index)) }
+    /// Comes to the row of a rowid, or to none, and says whether there is one.
+    fn come_to(&mut self, table: u32, rowid: Option<i64>, near: usize) -> bool
+        ensures cursor { self.new ≡ Open table rowid }
         ensures found { result ≡ is_on_row self.new }
     {
-        match rows.get(index) {
-            None => {
-                self.spot = Spot::Open { table, place: None };
-                false
-            }
-            Some(row) => {
-                let rowid = row.rowid();
-                self.spot = Spot::Open {
-                    table,
-                    place: Some(Place { rowid, index }),
-                };
-                true
-            }
-        }
-    }
-}
-
-/// The values of the row of this rowid; none where there is no such row.
-fn values_at(rows: &[StoredRow], place: Place) -> &[Value]
-    requires { IsAscending rows.now }
-    ensures { result.now ≡ values_of (row_under rows.now place.rowid) }
-{
-    match index_of(rows, place) {
-        Ok(index) => rows[index].values(),
-        Err(_) => &[],
-    }
-}
-
-/// The index of the first row of a greater rowid; the number of rows where there is none.
-fn index_behind(rows: &[StoredRow], place: Place) -> usize
-    requires { IsAscending rows.now }
-    ensures { slice_get rows.now result ≡ row_behind rows.now place.rowid }
-{
-    match index_of(rows, place) {
-        Ok(index) => index + 1,
-        Err(index) => index,
-    }
-}
-
-/// The index of the row of this rowid, or the index at which it would stand. Takes constant time where the row is where it was.
-fn index_of(rows: &[StoredRow], place: Place) -> Result<usize, usize>
-    requires { IsAscending rows.now }
-    ensures { MatchResult result (IsUnder rows.now place.rowid) (IsBetween rows.now place.rowid) }
-{
-    match rows.get(place.index) {
-        Some(row) if row.rowid() == place.rowid => Ok(place.index),
-        _ => seek(rows, place.rowid),
+        self.spot = Spot::Open {
+            table,
+            place: rowid.map(|rowid| Place { rowid, near }),
+        };
+        rowid.is_some()
     }
 }

@@ -122,7 +122,7 @@ fn execute(
             Ok(Flow::Going)
         }
         Op::Column { cursor, column, to } => {
-            let out = running.column(tables, *cursor, *column)?;
+            let out = running.column(alloc, tables, *cursor, *column)?;
             running.put(*to, out);
             Ok(Flow::Going)
         }
@@ -137,7 +137,7 @@ fn execute(
         } => {
             let values = running.values(alloc, *first, *count)?;
             let row = StoredRow::new(running.integer(*rowid), values);
-            running.insert(tables, *cursor, row)?;
+            running.insert(alloc, tables, *cursor, &row)?;
             Ok(Flow::Going)
         }
         Op::Schema => {

@@ -15,7 +15,6 @@ mod hosts;
 mod machine;
 mod registers;
 mod running;
-mod seek;
 mod table;
 mod tables;
 

@@ -15,7 +15,7 @@ use crate::cursor::Cursor;
 use crate::flow::Flow;
 use crate::frame::Frame;
 use crate::registers::{copied, integer, is_rejected, nulls, outs, read, values};
-use eng_value::{CompareOp, Out, Row, StoredRow, Value, next_rowid};
+use eng_value::{CompareOp, Out, Row, StoredRow, Value};
 use std::alloc::{AllocError, Global};
 use std::marker::Model;
 use std::mem;
@@ -227,13 +227,19 @@ impl Running {
     }
 
     /// A copy of a column of a cursor's row.
-    pub fn column(&self, tables: &Tables, number: u32, place: u32) -> Result<Out, AllocError>
+    pub fn column(
+        &self,
+        alloc: Global,
+        tables: &Tables,
+        number: u32,
+        place: u32,
+    ) -> Result<Out, AllocError>
         ensures { IfOk result (λ out.
             out ≡ column (current tables.now (cursor_at self.now.cursors number)) place) }
     {
         match self.cursors.get(number as usize) {
             None => Ok(Out::Good(Value::Null)),
-            Some(cursor) => column_of(cursor.current(tables), place as usize),
+            Some(cursor) => Ok(Out::Good(cursor.column(alloc, tables, place as usize)?)),
         }
     }
 
@@ -242,28 +248,29 @@ impl Running {
         ensures { result ≡ next_rowid (cursor_rows tables.now (cursor_at self.now.cursors number)) }
     {
         match self.cursors.get(number as usize) {
-            None => next_rowid(&[]),
-            Some(cursor) => next_rowid(cursor.rows(tables)),
+            None => Some(1),
+            Some(cursor) => cursor.next_rowid(tables),
         }
     }
 
     /// Puts a row into a cursor's table, unless that has a row under the same rowid, and goes on.
     pub fn insert(
         &mut self,
+        alloc: Global,
         tables: &mut Tables,
         number: u32,
-        row: StoredRow,
+        row: &StoredRow,
     ) -> Result<(), AllocError>
         requires { self.old.pc + 1 < 2 ^ 64 }
         ensures ok { OnOk result (state_at self.new tables.new [] ≡ record (state_at self.old tables.old []) {
           pc = self.old.pc + 1;
-          shared = inserted (cursor_at self.old.cursors number) (shared_of tables.old self.old.changes) row;
+          shared = inserted (cursor_at self.old.cursors number) (shared_of tables.old self.old.changes) row.now;
         }) }
         ensures log { OnErr result (self.new.changes ≡ self.old.changes) }
         ensures tables { OnErr result (tables.new ≡ tables.old) }
     {
         if let Some(table) = table_at(&self.cursors, number as usize) {
-            tables.put(table, row, &mut self.changes)?;
+            tables.put(alloc, table, row, &mut self.changes)?;
         }
         self.pc += 1;
         Ok(())
@@ -447,16 +454,6 @@ fn taken(registers: &mut [Out], register: u32) -> Out
     match registers.get_mut(register as usize) {
         None => null,
         Some(out) => mem::replace(out, null),
-    }
-}
-
-/// A copy of a column of a row; NULL where there is none.
-fn column_of(row: &[Value], place: usize) -> Result<Out, AllocError>
-    ensures { IfOk result (λ out. out ≡ column row.now place) }
-{
-    match row.get(place) {
-        None => Ok(Out::Good(Value::Null)),
-        Some(value) => Ok(Out::Good(value.clone()?)),
     }
 }
 

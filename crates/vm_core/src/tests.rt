@@ -148,7 +148,8 @@ fn filled(alloc: Global, rows: &[[i64; 3]]) -> Result<Tables, AllocError> {
 // Each row's rowid and its integers behind it.
 fn contents(alloc: Global, tables: &Tables, table: usize) -> Result<Vec<i64>, AllocError> {
     let mut all = Vec::new(alloc);
-    for row in tables.rows(table) {
+    let rows = tables.rows(alloc, table)?;
+    for row in rows.iter() {
         all.push(row.rowid())?;
         append_values(row.values(), &mut all)?;
     }

@@ -22,4 +22,4 @@ returns-in-Ok-clause-table c =
     let at : slice_get catalog c.in-Some.place ≡ Some t = slice_get-get_or catalog c.in-Some.place _ lt in
     let entry = place_named-entry catalog name c.in-Some.place t found at in
     let rows = place_named-rows catalog name c.in-Some.place t found at lists c.self.invariant in
-    rw (← c.self.view_is, ← c.as_bytes.ensures.value, entry, rows) (ap Some (c.in-Ok.ensures ∙ ap (map with_rowid) c.rows.ensures.rows))
+    rw (← c.self.view_is, ← c.as_bytes.ensures.value, entry, rows) (ap Some c.in-Ok.ensures)

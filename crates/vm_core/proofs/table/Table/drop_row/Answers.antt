@@ -1,24 +1,19 @@
 use Rattle.std.proofs.Common.{◌≡◌, ap, sym, subst, ◌∙◌, rules, w64, to_z, of_z}
-use Rattle.std.specs.Prelude.{remove}
+use Rattle.eng_key.specs.Rowids.{rowid_key}
+use Rattle.eng_tree.specs.Map.{without}
 use Rattle.vm_code.specs.Changes.{drop_row}
-use Rattle.vm_code.proofs.Rows.{drop_row-absent}
-use Rattle.vm_core.specs.Searches.{IsUnder, IsBetween}
-use Rattle.vm_core.proofs.Places.{drop_row-at, row_under-splits}
+use Rattle.vm_core.specs.Stored.{IsStored, rows_in}
+use Rattle.vm_core.proofs.Stored.{stored_without, without_rows}
 use Rattle.vm_core.proofs.table.Table.drop_row.Goals as goal
 
-pub returns-in-Ok : goal.returns-in-Ok
-returns-in-Ok c =
-    let n : to_z w64 (of_z w64 c.args.rowid) ≡ c.args.rowid = search rules in
-    let same = c.deref.ensures.value ∙ c.self.view_is in
-    let at = subst (λ l. IsUnder l c.args.rowid c.in-Ok.place) same (subst (λ k. IsUnder c.deref.result.now k c.in-Ok.place) n c.in-Ok.ensures) in
-    c.remove.ensures.items
-    ∙ ap (λ l. remove l c.in-Ok.place) c.self.view_is
-    ∙ sym (drop_row-at c.args.self.now c.args.rowid c.in-Ok.place c.requires at)
+pub invariant_of-self : goal.invariant_of-self
+invariant_of-self c =
+    subst IsStored (sym c.remove.ensures.pairs) (stored_without c.rowid_key.result c.self.inside.tree.pairs c.self.invariant)
 
-pub returns-in-Err : goal.returns-in-Err
-returns-in-Err c =
+pub returns : goal.returns
+returns c =
     let n : to_z w64 (of_z w64 c.args.rowid) ≡ c.args.rowid = search rules in
-    let same = c.deref.ensures.value ∙ c.self.view_is in
-    let between = subst (λ k. IsBetween c.deref.result.now k c.in-Err.field-0) n c.in-Err.ensures in
-    let absent = row_under-splits c.args.rowid c.deref.result.now c.in-Err.field-0 between.1 in
-    sym (subst (λ l. drop_row l c.args.rowid ≡ l) same (drop_row-absent c.deref.result.now c.args.rowid absent))
+    let key : c.rowid_key.result ≡ rowid_key c.args.rowid = c.rowid_key.ensures ∙ ap rowid_key n in
+    let ps = c.self.inside.tree.pairs in
+    subst (λ rows. rows_in c.remove.new.self.pairs ≡ drop_row rows c.args.rowid) c.self.view_is
+    (ap rows_in c.remove.ensures.pairs ∙ ap (λ k. rows_in (without k ps)) key ∙ without_rows c.args.rowid ps c.ranges.rowid c.self.invariant)

@@ -1,0 +1,22 @@
+//! Rows as records, the bytes under which tables keep them.
+//!
+//! A record is a header and the bodies of its values behind it (Database File Format, section 2.1). specs/Spelling.antt gives
+//! each row its one spelling, specs/Reading.antt what bytes mean, with the first fault from left to right. `encode` writes the
+//! spelling, `decode` reads nothing else, and the laws that join the two are in `laws`. Begin with `encode` and `decode`.
+#![tactic(auto)]
+
+mod columns;
+pub mod laws;
+mod reading;
+mod record_error;
+mod serial_type;
+mod varint;
+mod writing;
+
+pub use columns::column;
+pub use reading::decode;
+pub use record_error::RecordErr;
+pub use writing::encode;
+
+#[cfg(test)]
+mod tests;
