@@ -4,6 +4,7 @@
 //! tables in memory, and the contract of `Machine::step` says that it is the same, event by event: the event is the next one
 //! of the machine over lists after exactly as many instructions as were counted. `Machine::undo` takes back what a run
 //! changed. Begin with `machine`; `execute` has one arm for each instruction, and `running`, `cursor` and `tables` do the work.
+//! `table` alone knows that a table's rows stand in a tree, as records under the keys of their rowids (specs/Stored.antt).
 #![tactic(auto)]
 
 mod cursor;

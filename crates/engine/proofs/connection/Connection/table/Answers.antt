@@ -1,6 +1,6 @@
-use Rattle.std.proofs.Common.{◌≡◌, map, Some, ap, ◌∙◌, sym, refl, [], slice_get, get_or}
+use Rattle.std.proofs.Common.{◌≡◌, Some, ap, sym, refl, [], slice_get, get_or}
 use Rattle.std.proofs.lemmas.Option.{slice_get-get_or}
-use Rattle.sql_meaning.specs.World.{TableEntry, with_rowid}
+use Rattle.sql_meaning.specs.World.{TableEntry}
 use Rattle.engine.proofs.Places.{entry_named-None, place_named-within, place_named-entry, place_named-rows}
 use Rattle.engine.proofs.connection.Connection.table.Goals as goal
 
