@@ -1,0 +1,4 @@
+mod Beginnings
+mod Lengths
+mod NumberParts
+mod Spelled

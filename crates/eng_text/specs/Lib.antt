@@ -1,0 +1,6 @@
+pub mod Heads
+pub mod Patterns
+pub mod Replacing
+pub mod Search
+pub mod Sets
+pub mod Texts

@@ -1,0 +1,26 @@
+//! Texts: what LIKE and GLOB match, where one text stands in another, replacing, and the fold of NOCASE.
+//!
+//! specs/Patterns.antt says of what parts a pattern is and which texts it matches, specs/Texts.antt has the rest. `like` and
+//! `glob` share one search (`search`), which goes back no further than to the last run of any characters; `syntax` says what a
+//! pattern begins with, and `sets` tests a character against a set of GLOB. The module `laws` says what the definitions promise.
+//! Begin with `patterns`.
+#![tactic(auto)]
+
+mod finding;
+mod folding;
+mod head;
+mod laws;
+mod patterns;
+mod replacing;
+mod search;
+mod sets;
+mod syntax;
+
+pub use finding::find;
+pub use folding::fold;
+pub use laws::{escaped_matches_itself, percent_matches_all};
+pub use patterns::{glob, like};
+pub use replacing::replace;
+
+#[cfg(test)]
+mod tests;
