@@ -22,7 +22,7 @@ pub replaced-none : (old new bytes : List ℕ) → ((i : ℕ) → i ≤ length b
 replaced-none [] new bytes h = refl
 replaced-none (o ∷ old) new bytes h = behind-none (o ∷ old) new bytes h
 
-behind-skip : (old new : List ℕ) (skip : ℕ) (bytes : List ℕ) → replaced_behind old new skip bytes ≡ replaced_behind old new zero (drop skip bytes)
+pub behind-skip : (old new : List ℕ) (skip : ℕ) (bytes : List ℕ) → replaced_behind old new skip bytes ≡ replaced_behind old new zero (drop skip bytes)
 behind-skip old new zero bytes = refl
 behind-skip old new (suc skip) [] = refl
 behind-skip old new (suc skip) (b ∷ bytes) = behind-skip old new skip bytes

@@ -135,6 +135,13 @@ same_char c d = c == d
 unfoldable pub is_glob : List ℕ → List ℕ → Bool
 is_glob pattern text = matches same_char (glob_from Outside pattern) text
 
+-- ---- writing a text as a pattern of GLOB
+
+-- each `*`, `?` and `[` of a text as a set of its own
+abbrev pub glob_escaped : List ℕ → List ℕ
+glob_escaped [] = []
+glob_escaped (c ∷ cs) = if c == 0x2a || c == 0x3f || c == 0x5b then 0x5b ∷ c ∷ 0x5d ∷ glob_escaped cs else c ∷ glob_escaped cs
+
 -- ---- examples
 
 likes : (is_like None (codes "A_") (codes "ab") ≡ true) × (is_like None (codes "%5%") (codes "x15") ≡ true) × (is_like None (codes "%a%b") (codes "xAyyabB") ≡ true) × (is_like None (codes "a%b") (codes "abc") ≡ false)
@@ -147,6 +154,9 @@ escapes = (refl, refl, refl, refl)
 
 written : escaped (codes "5%_\\") ≡ codes "5\\%\\_\\\\"
 written = refl
+
+glob_written : glob_escaped (codes "a*[?]") ≡ codes "a[*][[][?]]"
+glob_written = refl
 
 globs : (is_glob (codes "A*") (codes "ab") ≡ false) × (is_glob (codes "a[b-d]?") (codes "acx") ≡ true) × (is_glob (codes "[^a-c]") (codes "d") ≡ true) × (is_glob (codes "[^a-c]") (codes "b") ≡ false)
 unfolding is_glob

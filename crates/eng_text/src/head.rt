@@ -2,8 +2,8 @@
 ghost use Rattle.std.specs.Prelude.{◌≡◌, ◌∷◌, [], ◌<◌, length, MatchOption};
 ghost use Rattle.std.specs.Str.{chars};
 
-/// The first character of a text, and the text behind it.
-pub(crate) fn first_char(text: &str) -> Option<(char, &str)>
+/// The first character of a text, and the text behind it. Takes no memory.
+pub fn first_char(text: &str) -> Option<(char, &str)>
     ensures { MatchOption result (chars text.now ≡ [])
         (λ first. (chars text.now ≡ first.0 ∷ chars first.1.now) × (length first.1.now < length text.now)) }
 {

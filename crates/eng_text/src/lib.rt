@@ -18,7 +18,11 @@ mod syntax;
 
 pub use finding::find;
 pub use folding::fold;
-pub use laws::{escaped_matches_itself, percent_matches_all};
+pub use head::first_char;
+pub use laws::{
+    escaped_matches_but_for_case, escaped_matches_itself, glob_escaped_matches_itself,
+    percent_matches_all, place_is_first, replaced_by_pieces,
+};
 pub use patterns::{glob, like};
 pub use replacing::replace;
 

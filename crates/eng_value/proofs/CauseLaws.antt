@@ -9,7 +9,7 @@ use Rattle.std.specs.Cmp.{Equal-is}
 use Rattle.std.proofs.lemmas.List.{append_assoc}
 use Rattle.std.specs.declared.cmp.Ordering.TheVariants.{Equal}
 use Rattle.eng_value.specs.declared.cause.Cause.{Cause}
-use Rattle.eng_value.specs.declared.cause.Cause.TheVariants.{NotYet, Mem, Interrupted, SinkFault, Full}
+use Rattle.eng_value.specs.declared.cause.Cause.TheVariants.{NotYet, Mem, Interrupted, SinkFault, Real, Overflow, NotText, Escape, TooBig, Full}
 use Rattle.eng_value.specs.Causes.{CauseSet, cause_key, only, has_cause}
 
 -- the set of a list of causes
@@ -55,7 +55,12 @@ cause_of (suc zero ∷ rest) = Mem
 cause_of (suc (suc zero) ∷ []) = NotYet
 cause_of (suc (suc zero) ∷ n ∷ rest) = Interrupted n
 cause_of (suc (suc (suc zero)) ∷ rest) = SinkFault
-cause_of (suc (suc (suc (suc k))) ∷ rest) = Full rest
+cause_of (suc (suc (suc (suc zero))) ∷ rest) = Full rest
+cause_of (suc (suc (suc (suc (suc zero)))) ∷ rest) = Real
+cause_of (suc (suc (suc (suc (suc (suc zero))))) ∷ rest) = Overflow
+cause_of (suc (suc (suc (suc (suc (suc (suc zero)))))) ∷ rest) = NotText
+cause_of (suc (suc (suc (suc (suc (suc (suc (suc zero))))))) ∷ rest) = Escape
+cause_of (suc (suc (suc (suc (suc (suc (suc (suc (suc k)))))))) ∷ rest) = TooBig
 
 cause_of-cause_key : (c : Cause) → cause_of (cause_key c) ≡ c
 cause_of-cause_key NotYet = refl
@@ -63,6 +68,11 @@ cause_of-cause_key Mem = refl
 cause_of-cause_key (Interrupted n) = refl
 cause_of-cause_key SinkFault = refl
 cause_of-cause_key (Full table) = refl
+cause_of-cause_key Real = refl
+cause_of-cause_key Overflow = refl
+cause_of-cause_key NotText = refl
+cause_of-cause_key Escape = refl
+cause_of-cause_key TooBig = refl
 
 -- no two causes have the same key
 pub cause_key-injective : (c d : Cause) → cause_key c ≡ cause_key d → c ≡ d

@@ -4,7 +4,7 @@ use Rattle.std.specs.Ordering.{nat_cmp}
 use Rattle.std.specs.Cmp.Lexicographic.{slice_cmp}
 use Rattle.std.specs.FinSet as set
 use Rattle.eng_value.specs.declared.cause.Cause.{Cause}
-use Rattle.eng_value.specs.declared.cause.Cause.TheVariants.{NotYet, Mem, Interrupted, SinkFault, Full}
+use Rattle.eng_value.specs.declared.cause.Cause.TheVariants.{NotYet, Mem, Interrupted, SinkFault, Real, Overflow, NotText, Escape, TooBig, Full}
 
 -- no two causes have the same key
 abbrev pub cause_key : Cause → List ℕ
@@ -13,6 +13,11 @@ cause_key Mem = 1 ∷ []
 cause_key (Interrupted n) = 2 ∷ n ∷ []
 cause_key SinkFault = 3 ∷ []
 cause_key (Full table) = 4 ∷ table
+cause_key Real = 5 ∷ []
+cause_key Overflow = 6 ∷ []
+cause_key NotText = 7 ∷ []
+cause_key Escape = 8 ∷ []
+cause_key TooBig = 9 ∷ []
 
 -- a finite set of causes, by their keys
 abbrev pub CauseSet : Type 0

@@ -5,3 +5,10 @@ pub mod Outs
 pub mod StoredRows
 pub mod Environments
 pub mod HostMeanings
+pub mod Casts
+pub mod Collations
+pub mod Operators
+pub mod Truths
+pub mod Comparisons
+pub mod Functions
+pub mod Literals

@@ -11,6 +11,12 @@ use Rattle.eng_value.specs.declared.compare_op.CompareOp.TheVariants as compare
 use Rattle.eng_value.specs.declared.out.Out.{Out}
 use Rattle.eng_value.specs.declared.out.Out.TheVariants.{Good, Bad}
 use Rattle.eng_value.specs.Compare.{value_cmp}
+use Rattle.eng_value.specs.Causes.{CauseSet, only}
+use Rattle.eng_value.specs.declared.cause.Cause.{Cause}
+
+-- bad for one cause
+abbrev pub bad : Cause → Out
+bad c = Bad (only c)
 
 -- the truth of a value: NULL has none, and a number is true where it is not 0. Numbers are not read from texts and blobs yet.
 abbrev pub truth_of : Value → Option Bool
@@ -38,12 +44,26 @@ compare_values op Null b = Null
 compare_values op a Null = Null
 compare_values op a b = truth_value (passes op (value_cmp a b))
 
+-- an operand that is turned into another value first
+abbrev pub turned : (Value → Out) → Out → Out
+turned f (Good v) = f v
+turned f (Bad causes) = Bad causes
+
 -- an operator whose result is bad where an operand is, with the causes of both
 abbrev pub on_both : (Value → Value → Out) → Out → Out → Out
 on_both f (Good a) (Good b) = f a b
 on_both f (Good a) (Bad d) = Bad d
 on_both f (Bad c) (Good b) = Bad c
 on_both f (Bad c) (Bad d) = Bad (set.union c d)
+
+-- the causes, none where it is good
+abbrev pub causes_in : Out → CauseSet
+causes_in (Good v) = set.empty
+causes_in (Bad causes) = causes
+
+abbrev pub on_three : (Value → Value → Value → Out) → Out → Out → Out → Out
+on_three f (Good a) b c = on_both (f a) b c
+on_three f (Bad causes) b c = Bad (set.union causes (set.union (causes_in b) (causes_in c)))
 
 -- a comparison of what two operands gave
 abbrev pub compare_outs : CompareOp → Out → Out → Out

@@ -19,6 +19,16 @@ pub enum Cause {
     Interrupted(u64),
     /// The sink for the rows failed.
     SinkFault,
+    /// A number is no integer of 64 bits, and there is no REAL.
+    Real,
+    /// An integer leaves the 64 bits.
+    Overflow,
+    /// A blob that is cast to TEXT is not UTF-8.
+    NotText,
+    /// The ESCAPE of a LIKE is not one character.
+    Escape,
+    /// A text or a blob would have more bytes than `MAX_VALUE_BYTES`.
+    TooBig,
     /// A row of this table would need a rowid above the largest.
     Full(Text),
 }
@@ -29,11 +39,12 @@ impl Cause {
         ensures { result ≡ code_of self.now }
     {
         match self {
-            Cause::NotYet => 1,
+            Cause::NotYet | Cause::Real | Cause::Overflow | Cause::NotText | Cause::Escape => 1,
             Cause::Mem => 7,
             Cause::Interrupted(_) => 9,
             Cause::SinkFault => 10,
             Cause::Full(_) => 13,
+            Cause::TooBig => 18,
         }
     }
 
@@ -46,6 +57,11 @@ impl Cause {
             Cause::Mem => out.extend_from_slice(b"out of memory"),
             Cause::Interrupted(n) => append_interrupted(out, *n),
             Cause::SinkFault => Ok(()),
+            Cause::Real => out.extend_from_slice(b"REAL is not supported"),
+            Cause::Overflow => out.extend_from_slice(b"integer overflow"),
+            Cause::NotText => out.extend_from_slice(b"blob is not text"),
+            Cause::Escape => out.extend_from_slice(b"ESCAPE must be one character"),
+            Cause::TooBig => out.extend_from_slice(b"value longer than 1000000 bytes"),
             Cause::Full(table) => append_both(out, b"table is full: ", table.as_bytes()),
         }
     }
@@ -80,6 +96,11 @@ impl Clone for Cause {
             Cause::Mem => Ok(Cause::Mem),
             Cause::Interrupted(n) => Ok(Cause::Interrupted(*n)),
             Cause::SinkFault => Ok(Cause::SinkFault),
+            Cause::Real => Ok(Cause::Real),
+            Cause::Overflow => Ok(Cause::Overflow),
+            Cause::NotText => Ok(Cause::NotText),
+            Cause::Escape => Ok(Cause::Escape),
+            Cause::TooBig => Ok(Cause::TooBig),
             Cause::Full(table) => Ok(Cause::Full(table.clone()?)),
         }
     }

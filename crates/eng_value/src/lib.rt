@@ -5,31 +5,52 @@
 //! `Cause` says why a statement is refused, `Steps` counts what a run costs, and `Meanings` names what hosts mean.
 #![tactic(auto)]
 
+mod affinity;
 mod blob;
+mod built;
+mod builtin;
+mod casts;
 mod cause;
 mod causes;
+mod collations;
 mod compare_op;
+mod laws;
 mod limits;
 mod meanings;
+mod operators;
 mod out;
 mod row;
 mod steps;
 mod stored_row;
 mod text;
+mod truth;
 mod value;
 
+pub use affinity::Affinity;
 pub use blob::Blob;
+pub use built::Built;
+pub use builtin::Builtin;
+pub use casts::{apply, cast, changed_beside, store_as, to_blob, to_integer, to_number, to_text};
 pub use cause::Cause;
 pub use causes::Causes;
+pub use collations::compare;
 pub use compare_op::CompareOp;
+pub use laws::{
+    back_is_trimmed, collations_are_orders, front_is_trimmed, last_case_counts, quote_reads_back,
+    substr_is_a_part,
+};
 pub use limits::{DEFAULT_BUDGET, MAX_COLUMNS, MAX_ROWID, MAX_SCRIPT_BYTES, MAX_VALUE_BYTES};
 pub use meanings::Meanings;
+pub use operators::{ArithmeticOp, IntegerOp, Sides};
 pub use out::Out;
 pub use row::{Row, Rows};
 pub use steps::Steps;
 pub use stored_row::StoredRow;
 pub use text::Text;
+pub use truth::Truth;
 pub use value::Value;
 
 #[cfg(test)]
 mod tests;
+#[cfg(test)]
+mod tests_values;

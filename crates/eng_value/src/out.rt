@@ -1,9 +1,9 @@
 // What an evaluation gives.
 ghost use Rattle.std.specs.Prelude.{◌≡◌, IfOk};
-ghost use Rattle.eng_value.specs.Outs.{compare_outs, compare_values, truth_value};
+ghost use Rattle.eng_value.specs.Outs.{bad, compare_outs, compare_values, truth_value};
 
-use crate::{Causes, CompareOp, Value};
-use std::alloc::AllocError;
+use crate::{Cause, Causes, CompareOp, Value};
+use std::alloc::{AllocError, Global};
 
 /// A value, or what went wrong. An error is a value too: it goes where a value would go, and whether it counts is decided
 /// where the result is used.
@@ -14,6 +14,13 @@ pub enum Out {
 }
 
 impl Out {
+    /// Bad for one cause.
+    pub fn bad(alloc: Global, cause: Cause) -> Out
+        ensures { result ≡ bad cause }
+    {
+        Out::Bad(Causes::one(alloc, cause))
+    }
+
     /// A comparison of what two operands gave: NULL beside NULL, and bad where one of them is.
     pub fn compare(&self, op: CompareOp, other: &Out) -> Result<Out, AllocError>
         ensures { IfOk result (λ out. out ≡ compare_outs op self.now other.now) }
@@ -44,17 +51,6 @@ fn compare_values(op: CompareOp, a: &Value, b: &Value) -> Value
 {
     match (a, b) {
         (Value::Null, _) | (_, Value::Null) => Value::Null,
-        _ => truth_value(op.passes(a.compare(b))),
-    }
-}
-
-/// True is 1, and false is 0.
-fn truth_value(truth: bool) -> Value
-    ensures { result ≡ truth_value truth }
-{
-    if truth {
-        Value::Integer(1)
-    } else {
-        Value::Integer(0)
+        _ => Value::of_truth(op.passes(a.compare(b))),
     }
 }

@@ -53,12 +53,22 @@ fn causes_have_codes_and_texts(rt: HostRuntime) -> Result<(), Fail> {
     causes.push(Cause::Interrupted(12))?;
     causes.push(Cause::SinkFault)?;
     causes.push(full)?;
+    causes.push(Cause::Real)?;
+    causes.push(Cause::Overflow)?;
+    causes.push(Cause::NotText)?;
+    causes.push(Cause::Escape)?;
+    causes.push(Cause::TooBig)?;
     let wanted = [
         (1, "not built yet"),
         (7, "out of memory"),
         (9, "interrupted after 12 instructions"),
         (10, ""),
         (13, "table is full: T1"),
+        (1, "REAL is not supported"),
+        (1, "integer overflow"),
+        (1, "blob is not text"),
+        (1, "ESCAPE must be one character"),
+        (18, "value longer than 1000000 bytes"),
     ];
     for (cause, (code, text)) in causes.iter().zip(wanted) {
         let mut written = vec![in alloc; b'>']?;

@@ -1,7 +1,9 @@
 // Texts.
 ghost use Rattle.std.specs.Prelude.{◌≡◌, List, ℕ, IfOk, string_bytes};
+ghost use Rattle.std.specs.Fmt.{signed_decimal};
 ghost use Rattle.std.specs.Str.{IsAscii};
 
+use itoa::Buffer;
 use std::alloc::{AllocError, Global};
 use std::marker::Model;
 use std::str;
@@ -44,6 +46,13 @@ impl Text {
             Ok(text) => Text::from_str(alloc, text),
             Err(_) => unreachable!(),
         }
+    }
+
+    /// The decimal digits of a number, behind a `-` where it is negative.
+    pub fn of_integer(alloc: Global, n: i64) -> Result<Text, AllocError>
+        ensures { IfOk result (λ t. t ≡ signed_decimal n) }
+    {
+        Text::from_str(alloc, Buffer::new().format(n))
     }
 
     pub fn as_str(&self) -> &str

@@ -1,6 +1,7 @@
 // Values.
 ghost use Rattle.std.specs.Prelude.{◌≡◌};
 ghost use Rattle.eng_value.specs.Compare.{value_cmp};
+ghost use Rattle.eng_value.specs.Outs.{truth_value};
 
 use crate::{Blob, Text};
 use std::alloc::AllocError;
@@ -16,6 +17,17 @@ pub enum Value {
 }
 
 impl Value {
+    /// True is 1, and false is 0 (SQL Language Expressions, section 8).
+    pub fn of_truth(truth: bool) -> Value
+        ensures { result ≡ truth_value truth }
+    {
+        if truth {
+            Value::Integer(1)
+        } else {
+            Value::Integer(0)
+        }
+    }
+
     /// How this value stands to another: NULL before INTEGER before TEXT before BLOB, numbers by size, texts and blobs
     /// by their bytes (Datatypes In SQLite, section 4.1, under the collation BINARY).
     pub fn compare(&self, other: &Value) -> Ordering

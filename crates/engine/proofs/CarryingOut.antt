@@ -35,6 +35,11 @@ more_allowed state o budget most bound ran rose cause.Mem le c = tt
 more_allowed state o budget most bound ran rose (cause.Interrupted n) le (a, b, c) = (a, b, omega arith)
 more_allowed state o budget most bound ran rose cause.SinkFault le c = c
 more_allowed state o budget most bound ran rose (cause.Full t) le c = c
+more_allowed state o budget most bound ran rose cause.Real le c = c
+more_allowed state o budget most bound ran rose cause.Overflow le c = c
+more_allowed state o budget most bound ran rose cause.NotText le c = c
+more_allowed state o budget most bound ran rose cause.Escape le c = c
+more_allowed state o budget most bound ran rose cause.TooBig le c = c
 
 carries_more : (o : Outcome) (old now : State) (budget most bound ran : ℕ) (t0 t : Option Rows) (rose : Type 0) (r : Result Done Cause) → most ≤ bound → Carries o old now budget most ran t0 t rose r → Carries o old now budget bound ran t0 t rose r
 carries_more o old now budget most bound ran t0 t rose (Ok d) le c = c

@@ -24,6 +24,11 @@ abbrev pub IsCause : State → Outcome → ℕ → ℕ → ℕ → Type 0 → Ca
 IsCause old o budget bound ran rose cause.Mem = ⊤
 IsCause old o budget bound ran rose cause.NotYet = o ≡ refused old cause.NotYet
 IsCause old o budget bound ran rose (cause.Full table) = o ≡ refused old (cause.Full table)
+IsCause old o budget bound ran rose cause.Real = o ≡ refused old cause.Real
+IsCause old o budget bound ran rose cause.Overflow = o ≡ refused old cause.Overflow
+IsCause old o budget bound ran rose cause.NotText = o ≡ refused old cause.NotText
+IsCause old o budget bound ran rose cause.Escape = o ≡ refused old cause.Escape
+IsCause old o budget bound ran rose cause.TooBig = o ≡ refused old cause.TooBig
 IsCause old o budget bound ran rose (cause.Interrupted n) = (n ≡ budget) × (ran ≡ n) × (n < bound)
 IsCause old o budget bound ran rose cause.SinkFault = rose
 

@@ -19,6 +19,11 @@ Happened budget most ran rose cause.SinkFault = rose
 Happened budget most ran rose (cause.Interrupted n) = (n ≡ budget) × (ran ≡ n) × (n < most)
 Happened budget most ran rose cause.NotYet = ⊥
 Happened budget most ran rose (cause.Full table) = ⊥
+Happened budget most ran rose cause.Real = ⊥
+Happened budget most ran rose cause.Overflow = ⊥
+Happened budget most ran rose cause.NotText = ⊥
+Happened budget most ran rose cause.Escape = ⊥
+Happened budget most ran rose cause.TooBig = ⊥
 
 -- the run ends with causes, of which this is one
 abbrev pub IsNamed : Ending → Cause → Type 0

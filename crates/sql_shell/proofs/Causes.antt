@@ -35,6 +35,11 @@ module _ (hosts : HostMeanings) (state : State) (text : List ℕ) (within : IsWi
   refused_as_meant budget ran cause.Mem b none is = inl refl
   refused_as_meant budget ran cause.NotYet b none is = inr is
   refused_as_meant budget ran (cause.Full table) b none is = inr is
+  refused_as_meant budget ran cause.Real b none is = inr is
+  refused_as_meant budget ran cause.Overflow b none is = inr is
+  refused_as_meant budget ran cause.NotText b none is = inr is
+  refused_as_meant budget ran cause.Escape b none is = inr is
+  refused_as_meant budget ran cause.TooBig b none is = inr is
   refused_as_meant budget ran (cause.Interrupted n) b none is =
       absurd (elim budget_enough [ inl e ↦ (let idle = none e in omega arith) | inr enough ↦ omega arith ])
   refused_as_meant budget ran cause.SinkFault b none is = absurd (omega arith)

@@ -31,7 +31,7 @@ fn print_cause(why: Cause, lines: &mut Vec<u8>) -> Result<(), Stop>
 {
     match why {
         Cause::Mem => Err(Stop::Memory),
-        Cause::NotYet | Cause::Full(_) | Cause::Interrupted(_) | Cause::SinkFault => {
+        _ => {
             print_refusal(&why, lines)?;
             Ok(())
         }

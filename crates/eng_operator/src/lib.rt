@@ -1,0 +1,26 @@
+//! The operators of SQL on what their operands came to: values, or the causes why they are bad.
+//!
+//! An operand is an `Out`, and so is a result. An operator is bad where an operand is, with the causes of all of them, but for AND
+//! and OR, where one operand can decide alone, and for a choice, where the condition does. What each operator gives stands in
+//! eng_value's definitions (Operators, Truths, Comparisons), and each function here has that as its one clause. Only memory can
+//! fail, and a text that an operator only reads is not copied. Begin with `numbers`; `spelling` says how a text is read.
+#![tactic(auto)]
+
+mod bits;
+mod comparing;
+mod escapes;
+mod joining;
+mod matching;
+mod numbers;
+mod spelling;
+mod truths;
+
+pub use bits::{integers, inverse};
+pub use comparing::{comparison, is};
+pub use joining::concatenation;
+pub use matching::{glob, like, like_escaped};
+pub use numbers::{arithmetic, negative};
+pub use truths::{and, choice, not, or, truth_is};
+
+#[cfg(test)]
+mod tests;

@@ -1,0 +1,72 @@
+// How an operator reads the text of an operand.
+ghost use Rattle.std.specs.Prelude.{◌≡◌, IfOk, MatchOption};
+ghost use Rattle.eng_operator.specs.Spellings.{out_of, value_of};
+ghost use Rattle.eng_value.specs.Casts.{to_text};
+ghost use Rattle.eng_value.specs.Outs.{turned};
+ghost use Rattle.eng_value.specs.declared.value.Value.TheVariants as sql;
+
+use eng_value::{Blob, Cause, Causes, Out, Text, Value};
+use std::alloc::{AllocError, Global};
+use std::str;
+
+/// The text of a value: lent by the value that holds it, or made for this operator alone.
+#[derive(Drop)]
+pub(crate) enum Spelling<'v> {
+    Null,
+    Lent(&'v str),
+    Made(Text),
+}
+
+/// The text of an operand, or the causes why there is none.
+#[derive(Drop)]
+pub(crate) enum OperandText<'v> {
+    Good(Spelling<'v>),
+    Bad(Causes),
+}
+
+impl<'v> OperandText<'v> {
+    /// As CAST to TEXT makes it: a text and a blob in UTF-8 are lent, and an integer's digits are made.
+    pub(crate) fn of(alloc: Global, operand: &'v Out) -> Result<OperandText<'v>, AllocError>
+        ensures { IfOk result (λ text. out_of text ≡ turned to_text operand.now) }
+    {
+        match operand {
+            Out::Good(value) => OperandText::of_value(alloc, value),
+            Out::Bad(causes) => Ok(OperandText::Bad(causes.clone()?)),
+        }
+    }
+
+    fn of_value(alloc: Global, value: &'v Value) -> Result<OperandText<'v>, AllocError>
+        ensures { IfOk result (λ text. out_of text ≡ to_text value.now) }
+    {
+        match value {
+            Value::Null => Ok(OperandText::Good(Spelling::Null)),
+            Value::Integer(n) => Ok(OperandText::Good(Spelling::Made(Text::of_integer(
+                alloc, *n,
+            )?))),
+            Value::Text(text) => Ok(OperandText::Good(Spelling::Lent(text.as_str()))),
+            Value::Blob(blob) => Ok(OperandText::of_blob(alloc, blob)),
+        }
+    }
+
+    fn of_blob(alloc: Global, blob: &'v Blob) -> OperandText<'v>
+        ensures { out_of result ≡ to_text (sql.Blob blob.now) }
+    {
+        match str::from_utf8(blob.as_slice()) {
+            Ok(text) => OperandText::Good(Spelling::Lent(text)),
+            Err(_) => OperandText::Bad(Causes::one(alloc, Cause::NotText)),
+        }
+    }
+}
+
+impl<'v> Spelling<'v> {
+    /// The text, none for NULL.
+    pub(crate) fn as_str(&self) -> Option<&str>
+        ensures { MatchOption result (value_of self.now ≡ sql.Null) (λ text. value_of self.now ≡ sql.Text text.now) }
+    {
+        match self {
+            Spelling::Null => None,
+            Spelling::Lent(text) => Some(text),
+            Spelling::Made(text) => Some(text.as_str()),
+        }
+    }
+}

@@ -1,0 +1,9 @@
+pub mod ArgumentLaws
+pub mod CharLaws
+pub mod ExtremeLaws
+pub mod PartLaws
+pub mod PlaceLaws
+pub mod SpellingLaws
+pub mod TextLaws
+pub mod TrimLaws
+pub mod TruthLaws

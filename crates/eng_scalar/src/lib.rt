@@ -1,0 +1,28 @@
+//! The built-in functions of SQL (SQL Language Expressions, "Built-in Scalar SQL Functions").
+//!
+//! `call` is all of it: what a function gives for some arguments is what eng_value's specs/Functions.antt says. Begin with
+//! `calling`, which names the body of each function. The bodies stand by subject: `characters`, `choosing`, `extremes`,
+//! `numbers`, `parts`, `places`, `replacing`, `spelling` and `trimming`. `arguments` says what an argument is where a text or an integer
+//! is wanted.
+#![tactic(auto)]
+
+mod arguments;
+mod calling;
+mod characters;
+mod choosing;
+mod extremes;
+mod numbers;
+mod parts;
+mod places;
+mod replacing;
+mod spelling;
+mod text_ends;
+mod texts;
+mod trimming;
+
+pub use calling::call;
+
+#[cfg(test)]
+mod part_tests;
+#[cfg(test)]
+mod tests;

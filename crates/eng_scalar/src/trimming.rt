@@ -1,0 +1,115 @@
+// Texts without some characters at their ends.
+ghost use Rattle.std.specs.Prelude.{◌≡◌, ◌==◌, codes, encode_utf8_all, IfOk};
+ghost use Rattle.std.specs.List.{list_any};
+ghost use Rattle.std.specs.Option.{option_map};
+ghost use Rattle.std.specs.Str.{chars};
+ghost use Rattle.eng_value.specs.Functions.{on_text, on_texts, text_of_chars, trim_by, trim_of, without_back, without_front};
+ghost use Rattle.eng_value.specs.declared.out.Out.TheVariants.{Good};
+ghost use Rattle.eng_scalar.specs.Texts.{on_both_given};
+ghost use Rattle.eng_scalar.specs.Trims.{trimmed};
+
+use crate::arguments::{Argument, text_of};
+use crate::text_ends::last_char;
+use crate::texts::given;
+use eng_text::first_char;
+use eng_value::{Builtin, Cause, Out, Text, Value};
+use std::alloc::{AllocError, Global};
+
+/// X without the spaces at its ends, or without the characters of Y there: trim(X) and trim(X,Y), ltrim at the beginning and rtrim
+/// at the end alone (Built-in Scalar SQL Functions). `which` tells the three apart.
+pub(crate) fn trim(alloc: Global, which: Builtin, args: &[Value]) -> Result<Out, AllocError>
+    ensures { IfOk result (λ out. out ≡ trim_of which args.now) }
+{
+    match args {
+        [x] => trim_spaces(alloc, which, x),
+        [x, y, ..] => trim_these(alloc, which, x, y),
+        [] => Ok(Out::Good(Value::Null)),
+    }
+}
+
+#[tactic(auto, using(crate::proofs::TrimLaws::chars_space))]
+fn trim_spaces(alloc: Global, which: Builtin, value: &Value) -> Result<Out, AllocError>
+    ensures { IfOk result (λ out. out ≡ on_text (λ t. Good (text_of_chars (trim_by which (codes " ") (chars t)))) value.now) }
+{
+    match text_of(alloc, value)? {
+        Argument::Null => Ok(Out::Good(Value::Null)),
+        Argument::Text(text) => trim_text(alloc, which, &text, " "),
+        Argument::NotText => Ok(Out::bad(alloc, Cause::NotText)),
+    }
+}
+
+fn trim_these(alloc: Global, which: Builtin, x: &Value, y: &Value) -> Result<Out, AllocError>
+    ensures { IfOk result (λ out. out ≡ on_texts (trimmed which) x.now y.now) }
+{
+    let text = text_of(alloc, x)?;
+    let these = text_of(alloc, y)?;
+    trim_given(alloc, which, given(&text), given(&these))
+}
+
+fn trim_given(
+    alloc: Global,
+    which: Builtin,
+    text: Option<&str>,
+    these: Option<&str>,
+) -> Result<Out, AllocError>
+    ensures { IfOk result (λ out. out ≡ on_both_given (trimmed which) (option_map (λ t. t.now) text.entry) (option_map (λ t. t.now) these.entry)) }
+{
+    match (text, these) {
+        (Some(text), Some(these)) => trim_text(alloc, which, text, these),
+        _ => Ok(Out::bad(alloc, Cause::NotText)),
+    }
+}
+
+fn trim_text(alloc: Global, which: Builtin, text: &str, these: &str) -> Result<Out, AllocError>
+    ensures { IfOk result (λ out. out ≡ trimmed which text.now these.now) }
+{
+    let kept = without_ends(which, text, these);
+    Ok(Out::Good(Value::Text(Text::from_str(alloc, kept)?)))
+}
+
+#[tactic(auto, using(crate::proofs::TextLaws::spelled))]
+fn without_ends<'t>(which: Builtin, text: &'t str, these: &str) -> &'t str
+    ensures { result.now ≡ encode_utf8_all (trim_by which (chars these.now) (chars text.now)) }
+{
+    match which {
+        Builtin::TrimLeft => without_front(text, these),
+        Builtin::TrimRight => without_back(text, these),
+        _ => without_back(without_front(text, these), these),
+    }
+}
+
+// The text without the longest beginning of these characters.
+#[tactic(auto, using(crate::proofs::TrimLaws::front_steps))]
+fn without_front<'t>(text: &'t str, these: &str) -> &'t str
+    ensures { chars result.now ≡ without_front (chars these.now) (chars text.now) }
+{
+    let mut rest = text;
+    while let Some((c, more)) = first_char(rest) {
+        if !is_among(c, these) {
+            return rest;
+        }
+        rest = more;
+    }
+    rest
+}
+
+// The text without the longest end of these characters.
+#[tactic(auto, using(crate::proofs::TrimLaws::back_steps))]
+fn without_back<'t>(text: &'t str, these: &str) -> &'t str
+    ensures { chars result.now ≡ without_back (chars these.now) (chars text.now) }
+{
+    let mut rest = text;
+    while let Some((c, more)) = last_char(rest) {
+        if !is_among(c, these) {
+            return rest;
+        }
+        rest = more;
+    }
+    rest
+}
+
+fn is_among(c: char, these: &str) -> bool
+    ensures { result ≡ list_any (λ t. t == c) (chars these.now) }
+{
+    these.chars().any(|t| t == c)
+}
