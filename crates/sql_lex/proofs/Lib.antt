@@ -1,0 +1,5 @@
+mod Cuts
+mod Following
+mod Numbering
+mod Signing
+mod Widths

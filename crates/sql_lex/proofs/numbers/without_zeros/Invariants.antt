@@ -1,0 +1,6 @@
+use Rattle.std.proofs.Common.{◌≡◌, drop}
+use Rattle.sql_lex.specs.Pieces.{without_zeros}
+use Rattle.sql_lex.proofs.numbers.without_zeros.Given as goal
+
+abbrev pub invariant-loop-i : goal.invariant-loop-i
+invariant-loop-i l = without_zeros (drop l.i l.bytes) ≡ without_zeros l.bytes

@@ -1,0 +1,4 @@
+pub mod Pieces
+pub mod Signs
+pub mod Tokens
+pub mod Widths

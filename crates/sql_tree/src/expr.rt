@@ -1,0 +1,105 @@
+// Trees of expressions (SQL Language Expressions). Names and literals are told by their tokens.
+use crate::Token;
+use sqlite_items::{Boxed, Items};
+
+/// An operator in front of its operand, or a test behind it.
+#[derive(Clone, Copy, Debug, PartialEq, Eq)]
+pub enum UnaryOp {
+    Negative,
+    Positive,
+    BitNot,
+    Not,
+    IsNull,
+    NotNull,
+}
+
+/// An operator between two operands.
+#[derive(Clone, Copy, Debug, PartialEq, Eq)]
+pub enum BinaryOp {
+    Or,
+    And,
+    Equal,
+    NotEqual,
+    /// `IS`, and `IS NOT DISTINCT FROM`
+    Is,
+    /// `IS NOT`, and `IS DISTINCT FROM`
+    IsNot,
+    Glob,
+    Less,
+    LessEqual,
+    Greater,
+    GreaterEqual,
+    BitAnd,
+    BitOr,
+    ShiftLeft,
+    ShiftRight,
+    Add,
+    Subtract,
+    Multiply,
+    Divide,
+    Remainder,
+    Concatenate,
+}
+
+/// What stands between the parentheses of a call.
+#[derive(Clone, Copy, Debug, PartialEq, Eq)]
+pub enum Arguments {
+    /// `*`
+    Star,
+    /// Arguments, or none.
+    All,
+    /// DISTINCT and arguments.
+    Distinct,
+}
+
+/// A number with its sign, if any.
+#[derive(Clone, Copy, Debug, PartialEq, Eq)]
+pub struct SignedNumber {
+    pub sign: Option<Token>,
+    pub number: Token,
+}
+
+/// A type as a column or a CAST names it: words, and at most two sizes in parentheses.
+#[derive(Debug, Drop)]
+pub struct TypeName {
+    pub words: Items<Token>,
+    pub sizes: Items<SignedNumber>,
+}
+
+/// An expression. NOT in front of BETWEEN, LIKE, GLOB and IN is a `Not` around the test. Parentheses leave nothing in the tree.
+#[cycle(syntax)]
+#[derive(Debug, Drop)]
+pub enum Expr {
+    /// A number, a text, a blob, NULL, TRUE or FALSE.
+    Literal(Token),
+    Parameter(Token),
+    Column(Token),
+    /// A column of a table, by the names of both.
+    TableColumn(Token, Token),
+    Unary(UnaryOp, Boxed<Expr>),
+    Binary(BinaryOp, Boxed<Expr>, Boxed<Expr>),
+    /// `a BETWEEN b AND c`
+    Between(Boxed<Expr>, Boxed<Expr>, Boxed<Expr>),
+    /// `a LIKE b`, with its ESCAPE if any
+    Like(Boxed<Expr>, Boxed<Expr>, Option<Boxed<Expr>>),
+    /// `a IN (b, ..)`
+    In(Boxed<Expr>, Items<Expr>),
+    Collate(Boxed<Expr>, Token),
+    Cast(Boxed<Expr>, TypeName),
+    /// A call by its name, with its FILTER if any.
+    Call(Token, Arguments, Items<Expr>, Option<Boxed<Expr>>),
+    /// The operand, the arms and what ELSE gives.
+    Case(Option<Boxed<Expr>>, Items<Arm>, Option<Boxed<Expr>>),
+    /// RAISE(IGNORE)
+    RaiseIgnore,
+    /// RAISE(ABORT, text)
+    RaiseAbort(Token),
+}
+
+/// `WHEN condition THEN value`
+#[cycle(syntax)]
+#[derive(Debug, Drop)]
+pub struct Arm {
+    pub condition: Expr,
+    pub value: Expr,
+}
