@@ -5,3 +5,9 @@ pub mod Whole
 pub mod Alike
 pub mod Clear
 pub mod ExpressionLaws
+pub mod StatementLaws
+pub mod SizeClauses
+pub mod Weights
+pub mod ExpressionSizes
+pub mod StatementSizes
+pub mod SizeLaws

@@ -14,10 +14,10 @@ use Rattle.sql_grammar.specs.Answers.{Answer, Tree, Syntax, whole}
 use Rattle.sql_grammar.specs.Grammar.{Name, rules, expr, all_rules}
 
 -- a token of this kind in the n-th place
-abbrev t : TokenKind → ℕ → Token
+abbrev pub t : TokenKind → ℕ → Token
 t k n = record { kind = k; span = record { start = n; end = suc n }; parameter = None }
 
-abbrev tokens_from : ℕ → List TokenKind → List Token
+abbrev pub tokens_from : ℕ → List TokenKind → List Token
 tokens_from n [] = []
 tokens_from n (k ∷ ks) = t k n ∷ tokens_from (suc n) ks
 
@@ -25,7 +25,7 @@ abbrev read : List TokenKind → Answer Expr
 read ks = whole (reads Name rules 100 expr start (tokens_from 0 ks))
 
 -- the name in the n-th place
-abbrev a : ℕ → Expr
+abbrev pub a : ℕ → Expr
 a n = e.Column (t kind.Word n)
 
 -- NOT a = b

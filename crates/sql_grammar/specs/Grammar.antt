@@ -1,4 +1,4 @@
--- The grammar of expressions, as rules with the trees that they make (SQL Language Expressions).
+-- The grammar of expressions, as rules with the trees that they make (SQL Language Expressions), and what stands in brackets anywhere.
 use Rattle.std.specs.Prelude.{List, [], ◌∷◌, Option, Some, None, fold}
 use Rattle.sql_tree.specs.declared.token.Token.{Token}
 use Rattle.sql_tree.specs.declared.token.TokenKind.{TokenKind}
@@ -14,6 +14,8 @@ use Rattle.sql_tree.specs.declared.expr.SignedNumber.{SignedNumber}
 use Rattle.sql_tree.specs.declared.expr.TypeName.{TypeName}
 use Rattle.sql_tree.specs.declared.expr.UnaryOp.{UnaryOp}
 use Rattle.sql_tree.specs.declared.expr.UnaryOp.TheVariants as unary
+use Rattle.sql_tree.specs.declared.statement.ColumnDefinition.{ColumnDefinition}
+use Rattle.sql_tree.specs.declared.statement.SignedLiteral.{SignedLiteral}
 use Rattle.sql_grammar.specs.declared.counts.Role.{Role}
 use Rattle.sql_grammar.specs.declared.counts.Role.TheVariants as role
 use Rattle.sql_grammar.specs.Rules.{Rule, tok, pure, seq, alt, many, to, nest, Kinds}
@@ -36,6 +38,10 @@ pub data Name : Type 0 → Type 1 where
   sizes : Name (List SignedNumber)
   -- `RAISE ( .. )`
   raise : Name Expr
+  -- `CREATE TABLE name ( .. )`
+  columns : Name (List ColumnDefinition)
+  -- `VALUES ( .. )`
+  row : Name (List SignedLiteral)
 
 abbrev pub Of : Type 0 → Type 1
 Of A = Rule Name A
@@ -53,6 +59,10 @@ after m k r = to (λ p. p.1) (seq (tok m (k ∷ [])) r)
 -- x {"," x}
 abbrev pub list_of : {A : Type 0} → Of A → Of (List A)
 list_of r = to (λ p. p.0 ∷ p.1) (seq r (many (after role.Outside kind.Comma r)))
+
+-- "(" .. ")" in no expression
+abbrev pub in_brackets : {A : Type 0} → Name A → Of A
+in_brackets n = nest role.Opening (kind.LeftParen ∷ []) n role.Closing (kind.RightParen ∷ [])
 
 -- "(" .. ")" of an expression
 abbrev pub in_parentheses : {A : Type 0} → Name A → Of A
@@ -95,7 +105,7 @@ or_none None = []
 or_none (Some xs) = xs
 
 unfoldable pub type_sizes : Of (List SignedNumber)
-type_sizes = to or_none (maybe (nest role.Opening (kind.LeftParen ∷ []) sizes role.Closing (kind.RightParen ∷ [])))
+type_sizes = to or_none (maybe (in_brackets sizes))
 
 unfoldable pub type_words : Of (List Token)
 type_words = to (λ p. p.0 ∷ p.1) (seq name (many name))
@@ -376,6 +386,27 @@ some_arguments =
 unfoldable pub raise_what : Of Expr
 raise_what = alt (to (λ t. e.RaiseIgnore) (tok role.Quiet (kind.Ignore ∷ []))) (to e.RaiseAbort (after role.Quiet kind.Abort (after role.Quiet kind.Comma (tok role.Quiet (kind.Text ∷ [])))))
 
+-- ---- between brackets of a statement
+
+-- name [type] (CREATE TABLE, Column Definitions)
+unfoldable pub column : Of ColumnDefinition
+column = to (λ p. record { name = p.0; type_name = p.1 }) (seq name (maybe type_name))
+
+-- column {"," column}
+unfoldable pub all_columns : Of (List ColumnDefinition)
+all_columns = list_of column
+
+abbrev pub unsigned_kinds : Kinds
+unsigned_kinds = kind.Text ∷ kind.Blob ∷ kind.Null ∷ kind.True ∷ kind.False ∷ []
+
+-- text | blob | NULL | TRUE | FALSE | [+ | -] number
+unfoldable pub signed_literal : Of SignedLiteral
+signed_literal = alt (to (λ t. record { sign = None; literal = t }) (tok role.Outside unsigned_kinds)) (to (λ n. record { sign = n.sign; literal = n.number }) signed)
+
+-- literal {"," literal}
+unfoldable pub all_literals : Of (List SignedLiteral)
+all_literals = list_of signed_literal
+
 abbrev pub rules : (A : Type 0) → Name A → Of A
 rules A parenthesized = expr
 rules A arguments = to or_no_arguments (maybe some_arguments)
@@ -385,8 +416,10 @@ rules A choice = case
 rules A members = to or_none (maybe exprs)
 rules A sizes = two_sizes
 rules A raise = raise_what
+rules A columns = all_columns
+rules A row = all_literals
 
 -- opens every rule where a proof computes with them
 unfoldable pub all_rules : Unit {0}
-unfolding signed two_sizes type_sizes type_words type_name literal parameter filter call of_table behind_name named enclosed casting choosing raising primary signs signed_primary collation collations collated more_concatenation concatenation more_product product more_sum sum more_bits bits more_relation relation equal_to distinct_from is_test between like glob member_of positive_test null_test negated test tests equality nots negation more_conjunction conjunction more_expr expr exprs arm arms otherwise case some_arguments raise_what
+unfolding signed two_sizes type_sizes type_words type_name literal parameter filter call of_table behind_name named enclosed casting choosing raising primary signs signed_primary collation collations collated more_concatenation concatenation more_product product more_sum sum more_bits bits more_relation relation equal_to distinct_from is_test between like glob member_of positive_test null_test negated test tests equality nots negation more_conjunction conjunction more_expr expr exprs arm arms otherwise case some_arguments raise_what column all_columns signed_literal all_literals
 all_rules = tt

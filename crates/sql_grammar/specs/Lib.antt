@@ -4,5 +4,8 @@ pub mod Rules
 pub mod Exact
 pub mod Answers
 pub mod Grammar
-pub mod Examples
 pub mod Expressions
+pub mod Statements
+pub mod StatementTexts
+pub mod Examples
+pub mod StatementExamples

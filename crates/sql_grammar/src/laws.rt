@@ -1,23 +1,37 @@
-// What the grammar of expressions promises whoever parses it. Nothing here runs: each contract is a law.
-ghost use Rattle.std.specs.Prelude.{◌≡◌, ℕ, List};
+// What the grammar promises whoever parses it, a clause for expressions and one for statements. Nothing here runs: each contract is a law.
+ghost use Rattle.std.specs.Prelude.{◌≡◌, ℕ, ◌≤◌, List, length};
+ghost use Rattle.sql_tree.specs.Sizes.{size_of, size_of_statement};
 ghost use Rattle.sql_tree.specs.declared.expr.Expr.{Expr};
+ghost use Rattle.sql_tree.specs.declared.statement.Statement.{Statement};
 ghost use Rattle.sql_tree.specs.declared.token.Token.{Token};
 ghost use Rattle.sql_grammar.specs.Answers.{Answer, whole};
-ghost use Rattle.sql_grammar.specs.Expressions.{AnswersAs, Expression, HasTree, read_expr};
+ghost use Rattle.sql_grammar.specs.Expressions as expressions;
+ghost use Rattle.sql_grammar.specs.Expressions.{Expression, read_expr};
 ghost use Rattle.sql_grammar.specs.Marks.{Marked, plain, start};
+ghost use Rattle.sql_grammar.specs.StatementTexts as statements;
+ghost use Rattle.sql_grammar.specs.StatementTexts.{IsStatement, read_statement};
 
 /// Each list of tokens has an answer: a tree, where one is derived within the limits; or the first token such that nothing derived
 /// begins with the tokens up to and with it, the end counting as one; or, earlier, the first that passes a limit.
 pub fn each_text_has_an_answer()
-    ensures { (tokens : List Token) → (x : Answer Expr) × AnswersAs tokens x }
+    ensures expression { (tokens : List Token) → (x : Answer Expr) × expressions.AnswersAs tokens x }
+    ensures statement { (tokens : List Token) → (x : Answer Statement) × statements.AnswersAs tokens x }
 {}
 
 /// Tokens with a tree have no other, whatever their marks.
 pub fn no_text_has_two_trees()
-    ensures { (tokens : List Token) (a b : Expr) → HasTree tokens a → (e : ℕ) (w : List Marked) → tokens ≡ plain w → Expression e w b → a ≡ b }
+    ensures expression { (tokens : List Token) (a b : Expr) → expressions.HasTree tokens a → (e : ℕ) (w : List Marked) → tokens ≡ plain w → Expression e w b → a ≡ b }
+    ensures statement { (tokens : List Token) (a b : Statement) → statements.HasTree tokens a → (e : ℕ) (w : List Marked) → tokens ≡ plain w → IsStatement e w b → a ≡ b }
 {}
 
 /// One token of look-ahead reads the answer, and so there is only one.
 pub fn reading_gives_the_answer()
-    ensures { (tokens : List Token) (x : Answer Expr) → AnswersAs tokens x → whole (read_expr start tokens) ≡ x }
+    ensures expression { (tokens : List Token) (x : Answer Expr) → expressions.AnswersAs tokens x → whole (read_expr start tokens) ≡ x }
+    ensures statement { (tokens : List Token) (x : Answer Statement) → statements.AnswersAs tokens x → whole (read_statement start tokens) ≡ x }
+{}
+
+/// A tree is no larger than the number of its tokens: each node stands for a token of its own, and a CASE for its two words.
+pub fn no_tree_is_larger_than_its_text()
+    ensures expression { (tokens : List Token) (tree : Expr) → expressions.HasTree tokens tree → size_of tree ≤ length tokens }
+    ensures statement { (tokens : List Token) (tree : Statement) → statements.HasTree tokens tree → size_of_statement tree ≤ length tokens }
 {}

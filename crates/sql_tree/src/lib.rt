@@ -2,7 +2,11 @@
 #![tactic(auto)]
 
 mod expr;
+mod statement;
 mod token;
 
 pub use expr::{Arguments, Arm, BinaryOp, Expr, SignedNumber, TypeName, UnaryOp};
+pub use statement::{
+    ColumnDefinition, CreateTable, Insert, ResultColumn, Select, SignedLiteral, Statement,
+};
 pub use token::{Span, Token, TokenKind};
