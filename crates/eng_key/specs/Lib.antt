@@ -1,1 +1,2 @@
 pub mod Rowids
+pub mod Values

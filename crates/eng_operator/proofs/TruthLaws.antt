@@ -9,7 +9,7 @@ use Rattle.eng_value.specs.declared.value.Value.TheVariants.{Null, Integer, Text
 use Rattle.eng_value.specs.Compare.{value_cmp}
 use Rattle.eng_value.specs.Casts.{to_number}
 use Rattle.eng_value.specs.Outs.{turned, truth_value}
-use Rattle.eng_value.specs.Truths.{is_truth_of, truth_in, truth_of, truth_of_number}
+use Rattle.eng_value.specs.Truths.{is_truth_of, out_of, truth_in, truth_of, truth_of_number}
 
 -- what IS TRUE or IS FALSE gives for a truth
 abbrev pub told : Bool → Truth → Out
@@ -38,3 +38,20 @@ told-number wanted (Bad causes) = refl
 pub told_by_truth : (wanted : Bool) (a : Out) → is_truth_of wanted a ≡ told wanted (truth_in (truth_of a))
 unfolding is_truth_of truth_of
 told_by_truth wanted a = told-number wanted (turned to_number a)
+
+-- ---- a truth, spelled as a value
+
+out_of-truth_value : (zero : Bool) → out_of (truth_in (Good (truth_value (not zero)))) ≡ Good (truth_value (not zero))
+out_of-truth_value true = refl
+out_of-truth_value false = refl
+
+out_of-number : (number : Out) → let truth = turned (λ v. Good (truth_of_number v)) number in out_of (truth_in truth) ≡ truth
+out_of-number (Good Null) = refl
+out_of-number (Good (Integer n)) = out_of-truth_value (int_eq n (pos 0))
+out_of-number (Good (Text text)) = refl
+out_of-number (Good (Blob bytes)) = refl
+out_of-number (Bad causes) = refl
+
+pub truth_spelled : (a : Out) → out_of (truth_in (truth_of a)) ≡ truth_of a
+unfolding truth_of
+truth_spelled a = out_of-number (turned to_number a)

@@ -3,9 +3,11 @@
 //! An operand is an `Out`, and so is a result. An operator is bad where an operand is, with the causes of all of them, but for AND
 //! and OR, where one operand can decide alone, and for a choice, where the condition does. What each operator gives stands in
 //! eng_value's definitions (Operators, Truths, Comparisons), and each function here has that as its one clause. Only memory can
-//! fail, and a text that an operator only reads is not copied. Begin with `numbers`; `spelling` says how a text is read.
+//! fail, and a text that an operator only reads is not copied. `applying` calls an operator by what it is told apart by. Begin with
+//! `numbers`; `spelling` says how a text is read.
 #![tactic(auto)]
 
+mod applying;
 mod bits;
 mod comparing;
 mod escapes;
@@ -15,6 +17,7 @@ mod numbers;
 mod spelling;
 mod truths;
 
+pub use applying::{binary, unary};
 pub use bits::{integers, inverse};
 pub use comparing::{comparison, is};
 pub use joining::concatenation;

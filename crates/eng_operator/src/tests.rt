@@ -1,4 +1,5 @@
 // Rows that SQL's rules give, as the rows of sqlite3 where it has the same rules.
+mod applying;
 mod bits;
 mod comparing;
 mod matching;

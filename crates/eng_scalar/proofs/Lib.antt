@@ -1,4 +1,5 @@
 pub mod ArgumentLaws
+pub mod CalledLaws
 pub mod CharLaws
 pub mod ExtremeLaws
 pub mod PartLaws

@@ -1,4 +1,5 @@
 pub mod Arguments
+pub mod Called
 pub mod Extremes
 pub mod Parts
 pub mod Places

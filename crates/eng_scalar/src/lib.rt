@@ -1,11 +1,13 @@
 //! The built-in functions of SQL (SQL Language Expressions, "Built-in Scalar SQL Functions").
 //!
-//! `call` is all of it: what a function gives for some arguments is what eng_value's specs/Functions.antt says. Begin with
-//! `calling`, which names the body of each function. The bodies stand by subject: `characters`, `choosing`, `extremes`,
+//! `call` is all of it: what a function gives for some arguments is what eng_value's specs/Functions.antt says. `function` is
+//! `call` on what the arguments came to, values or causes (specs/Called.antt). Begin with `calling`, which names the body of each
+//! function. The bodies stand by subject: `characters`, `choosing`, `extremes`,
 //! `numbers`, `parts`, `places`, `replacing`, `spelling` and `trimming`. `arguments` says what an argument is where a text or an integer
 //! is wanted.
 #![tactic(auto)]
 
+mod applying;
 mod arguments;
 mod calling;
 mod characters;
@@ -20,8 +22,11 @@ mod text_ends;
 mod texts;
 mod trimming;
 
+pub use applying::function;
 pub use calling::call;
 
+#[cfg(test)]
+mod function_tests;
 #[cfg(test)]
 mod part_tests;
 #[cfg(test)]

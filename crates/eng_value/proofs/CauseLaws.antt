@@ -1,5 +1,5 @@
 -- Laws of sets of causes.
-use Rattle.std.proofs.Common.{◌≡◌, ℕ, zero, suc, List, [], ◌∷◌, ◌++◌, map, ◌||◌, nat_cmp, true, refl, sym, ap, ◌∙◌}
+use Rattle.std.proofs.Common.{◌≡◌, ℕ, nat_eq, if◌then◌else◌, List, [], ◌∷◌, ◌++◌, map, ◌||◌, nat_cmp, Bool, true, false, refl, sym, ap, ◌∙◌}
 use Rattle.std.specs.Cmp.Lexicographic.{slice_cmp, nat_list_cmp_total}
 use Rattle.std.specs.FinSet as set
 use Rattle.std.specs.Ordering.{eq_by_cmp, is_eq}
@@ -9,8 +9,10 @@ use Rattle.std.specs.Cmp.{Equal-is}
 use Rattle.std.proofs.lemmas.List.{append_assoc}
 use Rattle.std.specs.declared.cmp.Ordering.TheVariants.{Equal}
 use Rattle.eng_value.specs.declared.cause.Cause.{Cause}
-use Rattle.eng_value.specs.declared.cause.Cause.TheVariants.{NotYet, Mem, Interrupted, SinkFault, Real, Overflow, NotText, Escape, TooBig, Full}
-use Rattle.eng_value.specs.Causes.{CauseSet, cause_key, only, has_cause}
+use Rattle.eng_value.specs.declared.cause.Cause.TheVariants.{NotYet, Mem, Interrupted, SinkFault, Real, Overflow, NotText, Escape, TooBig, Full, Unknown, Exists, Reserved, Arity, Misuse, TooManyColumns}
+use Rattle.eng_value.specs.declared.cause.NameKind.{NameKind}
+use Rattle.eng_value.specs.declared.cause.NameKind.TheVariants as kind
+use Rattle.eng_value.specs.Causes.{CauseSet, cause_key, kind_key, only, has_cause}
 
 -- the set of a list of causes
 abbrev pub set_of : List Cause → CauseSet
@@ -47,20 +49,43 @@ union-comm s t = same_causes _ _ (λ q. set.contains-union nat_list_cmp_total s 
 pub union-assoc : (s t u : CauseSet) → set.union s (set.union t u) ≡ set.union (set.union s t) u
 union-assoc s t u = same_causes _ _ (λ q. simp (set.contains-union nat_list_cmp_total) (sym (or_assoc (set.contains s q) (set.contains t q) (set.contains u q))))
 
+-- what a key tells behind its number
+abbrev first_or_0 : List ℕ → ℕ
+first_or_0 [] = 0
+first_or_0 (n ∷ rest) = n
+
+abbrev rest_of : List ℕ → List ℕ
+rest_of [] = []
+rest_of (n ∷ rest) = rest
+
+abbrev kind_of : ℕ → NameKind
+kind_of n = if nat_eq n 0 then kind.Table else if nat_eq n 1 then kind.Column else if nat_eq n 2 then kind.Function else kind.Collation
+
 -- the cause of a key
 abbrev cause_of : List ℕ → Cause
 cause_of [] = NotYet
-cause_of (zero ∷ rest) = NotYet
-cause_of (suc zero ∷ rest) = Mem
-cause_of (suc (suc zero) ∷ []) = NotYet
-cause_of (suc (suc zero) ∷ n ∷ rest) = Interrupted n
-cause_of (suc (suc (suc zero)) ∷ rest) = SinkFault
-cause_of (suc (suc (suc (suc zero))) ∷ rest) = Full rest
-cause_of (suc (suc (suc (suc (suc zero)))) ∷ rest) = Real
-cause_of (suc (suc (suc (suc (suc (suc zero))))) ∷ rest) = Overflow
-cause_of (suc (suc (suc (suc (suc (suc (suc zero)))))) ∷ rest) = NotText
-cause_of (suc (suc (suc (suc (suc (suc (suc (suc zero))))))) ∷ rest) = Escape
-cause_of (suc (suc (suc (suc (suc (suc (suc (suc (suc k)))))))) ∷ rest) = TooBig
+cause_of (n ∷ rest) =
+    if nat_eq n 1 then Mem else
+    if nat_eq n 2 then Interrupted (first_or_0 rest) else
+    if nat_eq n 3 then SinkFault else
+    if nat_eq n 4 then Full rest else
+    if nat_eq n 5 then Real else
+    if nat_eq n 6 then Overflow else
+    if nat_eq n 7 then NotText else
+    if nat_eq n 8 then Escape else
+    if nat_eq n 9 then TooBig else
+    if nat_eq n 10 then TooManyColumns else
+    if nat_eq n 11 then Reserved rest else
+    if nat_eq n 12 then Arity rest else
+    if nat_eq n 13 then Misuse rest else
+    if nat_eq n 14 then Unknown (kind_of (first_or_0 rest)) (rest_of rest) else
+    if nat_eq n 15 then Exists (kind_of (first_or_0 rest)) (rest_of rest) else NotYet
+
+kind_of-kind_key : (k : NameKind) → kind_of (kind_key k) ≡ k
+kind_of-kind_key kind.Table = refl
+kind_of-kind_key kind.Column = refl
+kind_of-kind_key kind.Function = refl
+kind_of-kind_key kind.Collation = refl
 
 cause_of-cause_key : (c : Cause) → cause_of (cause_key c) ≡ c
 cause_of-cause_key NotYet = refl
@@ -73,6 +98,12 @@ cause_of-cause_key Overflow = refl
 cause_of-cause_key NotText = refl
 cause_of-cause_key Escape = refl
 cause_of-cause_key TooBig = refl
+cause_of-cause_key TooManyColumns = refl
+cause_of-cause_key (Reserved name) = refl
+cause_of-cause_key (Arity name) = refl
+cause_of-cause_key (Misuse name) = refl
+cause_of-cause_key (Unknown k name) = ap (λ m. Unknown m name) (kind_of-kind_key k)
+cause_of-cause_key (Exists k name) = ap (λ m. Exists m name) (kind_of-kind_key k)
 
 -- no two causes have the same key
 pub cause_key-injective : (c d : Cause) → cause_key c ≡ cause_key d → c ≡ d
@@ -102,3 +133,11 @@ only-has_cause c d has =
     let is : eq_by_cmp (slice_cmp nat_cmp) (cause_key d) (cause_key c) ≡ true = sym (contains-only (cause_key c) (cause_key d)) ∙ has in
     let tied : slice_cmp nat_cmp (cause_key d) (cause_key c) ≡ Equal = (Equal-is (slice_cmp nat_cmp (cause_key d) (cause_key c))).0 is in
     cause_key-injective d c (keys_tied (cause_key d) (cause_key c) tied)
+
+-- what a set holds already leaves it as it is
+pub insert-has_cause : (s : CauseSet) (c : Cause) → has_cause s c ≡ true → set.insert s (cause_key c) ≡ s
+insert-has_cause s c has = same_causes _ _ (λ q. set.contains-insert nat_list_cmp_total s (cause_key c) q ∙ held q (eq_by_cmp (slice_cmp nat_cmp) q (cause_key c)) refl)
+  where
+    held : (q : List ℕ) (b : Bool) → eq_by_cmp (slice_cmp nat_cmp) q (cause_key c) ≡ b → (eq_by_cmp (slice_cmp nat_cmp) q (cause_key c) || set.contains s q) ≡ set.contains s q
+    held q true is = rw is (sym (ap (set.contains s) (keys_tied q (cause_key c) ((Equal-is (slice_cmp nat_cmp q (cause_key c))).0 is)) ∙ has))
+    held q false is = rw is refl

@@ -2,7 +2,9 @@
 use Rattle.std.specs.Prelude.{ℕ, List, [], ◌++◌, codes}
 use Rattle.std.specs.Fmt.{decimal}
 use Rattle.eng_value.specs.declared.cause.Cause.{Cause}
-use Rattle.eng_value.specs.declared.cause.Cause.TheVariants.{NotYet, Mem, Interrupted, SinkFault, Real, Overflow, NotText, Escape, TooBig, Full}
+use Rattle.eng_value.specs.declared.cause.Cause.TheVariants.{NotYet, Mem, Interrupted, SinkFault, Real, Overflow, NotText, Escape, TooBig, Full, Unknown, Exists, Reserved, Arity, Misuse, TooManyColumns}
+use Rattle.eng_value.specs.declared.cause.NameKind.{NameKind}
+use Rattle.eng_value.specs.declared.cause.NameKind.TheVariants as kind
 
 abbrev pub code_of : Cause → ℕ
 code_of NotYet = 1
@@ -15,6 +17,18 @@ code_of NotText = 1
 code_of Escape = 1
 code_of TooBig = 18
 code_of (Full table) = 13
+code_of (Unknown k name) = 1
+code_of (Exists k name) = 1
+code_of (Reserved name) = 1
+code_of (Arity name) = 1
+code_of (Misuse name) = 1
+code_of TooManyColumns = 1
+
+abbrev pub kind_word : NameKind → List ℕ
+kind_word kind.Table = codes "table"
+kind_word kind.Column = codes "column"
+kind_word kind.Function = codes "function"
+kind_word kind.Collation = codes "collation"
 
 abbrev pub text_of : Cause → List ℕ
 text_of NotYet = codes "not built yet"
@@ -27,3 +41,9 @@ text_of NotText = codes "blob is not text"
 text_of Escape = codes "ESCAPE must be one character"
 text_of TooBig = codes "value longer than 1000000 bytes"
 text_of (Full table) = codes "table is full: " ++ table
+text_of (Unknown k name) = codes "no such " ++ kind_word k ++ codes ": " ++ name
+text_of (Exists k name) = kind_word k ++ codes " already exists: " ++ name
+text_of (Reserved name) = codes "reserved name: " ++ name
+text_of (Arity name) = codes "wrong number of values: " ++ name
+text_of (Misuse name) = codes "misuse of: " ++ name
+text_of TooManyColumns = codes "limit of 100 columns"

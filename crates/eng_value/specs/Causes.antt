@@ -4,7 +4,15 @@ use Rattle.std.specs.Ordering.{nat_cmp}
 use Rattle.std.specs.Cmp.Lexicographic.{slice_cmp}
 use Rattle.std.specs.FinSet as set
 use Rattle.eng_value.specs.declared.cause.Cause.{Cause}
-use Rattle.eng_value.specs.declared.cause.Cause.TheVariants.{NotYet, Mem, Interrupted, SinkFault, Real, Overflow, NotText, Escape, TooBig, Full}
+use Rattle.eng_value.specs.declared.cause.Cause.TheVariants.{NotYet, Mem, Interrupted, SinkFault, Real, Overflow, NotText, Escape, TooBig, Full, Unknown, Exists, Reserved, Arity, Misuse, TooManyColumns}
+use Rattle.eng_value.specs.declared.cause.NameKind.{NameKind}
+use Rattle.eng_value.specs.declared.cause.NameKind.TheVariants as kind
+
+abbrev pub kind_key : NameKind → ℕ
+kind_key kind.Table = 0
+kind_key kind.Column = 1
+kind_key kind.Function = 2
+kind_key kind.Collation = 3
 
 -- no two causes have the same key
 abbrev pub cause_key : Cause → List ℕ
@@ -18,6 +26,12 @@ cause_key Overflow = 6 ∷ []
 cause_key NotText = 7 ∷ []
 cause_key Escape = 8 ∷ []
 cause_key TooBig = 9 ∷ []
+cause_key TooManyColumns = 10 ∷ []
+cause_key (Reserved name) = 11 ∷ name
+cause_key (Arity name) = 12 ∷ name
+cause_key (Misuse name) = 13 ∷ name
+cause_key (Unknown k name) = 14 ∷ kind_key k ∷ name
+cause_key (Exists k name) = 15 ∷ kind_key k ∷ name
 
 -- a finite set of causes, by their keys
 abbrev pub CauseSet : Type 0

@@ -11,4 +11,5 @@ pub mod Operators
 pub mod Truths
 pub mod Comparisons
 pub mod Functions
+pub mod Applied
 pub mod Literals

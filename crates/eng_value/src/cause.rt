@@ -1,12 +1,35 @@
 // Why a statement is refused.
 ghost use Rattle.std.specs.Prelude.{◌≡◌, ◌++◌, codes, OnOk};
 ghost use Rattle.std.specs.Fmt.{decimal};
-ghost use Rattle.eng_value.specs.CauseText.{code_of, text_of};
+ghost use Rattle.eng_value.specs.CauseText.{code_of, kind_word, text_of};
 ghost use Rattle.eng_value.specs.declared.cause.Cause.TheVariants.{Mem};
 
 use crate::Text;
 use itoa::Buffer;
 use std::alloc::AllocError;
+
+/// What a name is the name of.
+#[derive(Clone, Copy, Debug, PartialEq, Eq)]
+pub enum NameKind {
+    Table,
+    Column,
+    Function,
+    Collation,
+}
+
+impl NameKind {
+    /// The word for it.
+    pub fn word(self) -> &'static str
+        ensures { result.now ≡ kind_word self }
+    {
+        match self {
+            NameKind::Table => "table",
+            NameKind::Column => "column",
+            NameKind::Function => "function",
+            NameKind::Collation => "collation",
+        }
+    }
+}
 
 /// Why a statement is refused. Each cause has a result code (Result and Error Codes) and a text.
 #[derive(Debug, Drop)]
@@ -31,6 +54,18 @@ pub enum Cause {
     TooBig,
     /// A row of this table would need a rowid above the largest.
     Full(Text),
+    /// Nothing of this kind has the name.
+    Unknown(NameKind, Text),
+    /// Something of this kind has the name already.
+    Exists(NameKind, Text),
+    /// The name is none that a statement may give.
+    Reserved(Text),
+    /// What the name stands for is given another number of values than it takes.
+    Arity(Text),
+    /// What the name stands for may not stand there.
+    Misuse(Text),
+    /// A table, a result or a list of values has more than `MAX_COLUMNS` columns.
+    TooManyColumns,
 }
 
 impl Cause {
@@ -39,12 +74,12 @@ impl Cause {
         ensures { result ≡ code_of self.now }
     {
         match self {
-            Cause::NotYet | Cause::Real | Cause::Overflow | Cause::NotText | Cause::Escape => 1,
             Cause::Mem => 7,
             Cause::Interrupted(_) => 9,
             Cause::SinkFault => 10,
             Cause::Full(_) => 13,
             Cause::TooBig => 18,
+            _ => 1,
         }
     }
 
@@ -63,6 +98,12 @@ impl Cause {
             Cause::Escape => out.extend_from_slice(b"ESCAPE must be one character"),
             Cause::TooBig => out.extend_from_slice(b"value longer than 1000000 bytes"),
             Cause::Full(table) => append_both(out, b"table is full: ", table.as_bytes()),
+            Cause::Unknown(kind, name) => append_unknown(out, *kind, name),
+            Cause::Exists(kind, name) => append_exists(out, *kind, name),
+            Cause::Reserved(name) => append_both(out, b"reserved name: ", name.as_bytes()),
+            Cause::Arity(name) => append_both(out, b"wrong number of values: ", name.as_bytes()),
+            Cause::Misuse(name) => append_both(out, b"misuse of: ", name.as_bytes()),
+            Cause::TooManyColumns => out.extend_from_slice(b"limit of 100 columns"),
         }
     }
 }
@@ -73,6 +114,25 @@ fn append_both(out: &mut Vec<u8>, first: &[u8], second: &[u8]) -> Result<(), All
 {
     out.extend_from_slice(first)?;
     out.extend_from_slice(second)?;
+    Ok(())
+}
+
+/// Writes that nothing of this kind has the name.
+fn append_unknown(out: &mut Vec<u8>, kind: NameKind, name: &Text) -> Result<(), AllocError>
+    ensures { OnOk result (out.new.items ≡ out.old.items ++ (codes "no such " ++ kind_word kind ++ codes ": " ++ name.now)) }
+{
+    out.extend_from_slice(b"no such ")?;
+    out.extend_from_slice(kind.word().as_bytes())?;
+    append_both(out, b": ", name.as_bytes())
+}
+
+/// Writes that something of this kind has the name already.
+fn append_exists(out: &mut Vec<u8>, kind: NameKind, name: &Text) -> Result<(), AllocError>
+    ensures { OnOk result (out.new.items ≡ out.old.items ++ (kind_word kind ++ (codes " already exists: " ++ name.now))) }
+{
+    out.extend_from_slice(kind.word().as_bytes())?;
+    out.extend_from_slice(b" already exists: ")?;
+    out.extend_from_slice(name.as_bytes())?;
     Ok(())
 }
 
@@ -102,6 +162,12 @@ impl Clone for Cause {
             Cause::Escape => Ok(Cause::Escape),
             Cause::TooBig => Ok(Cause::TooBig),
             Cause::Full(table) => Ok(Cause::Full(table.clone()?)),
+            Cause::Unknown(kind, name) => Ok(Cause::Unknown(*kind, name.clone()?)),
+            Cause::Exists(kind, name) => Ok(Cause::Exists(*kind, name.clone()?)),
+            Cause::Reserved(name) => Ok(Cause::Reserved(name.clone()?)),
+            Cause::Arity(name) => Ok(Cause::Arity(name.clone()?)),
+            Cause::Misuse(name) => Ok(Cause::Misuse(name.clone()?)),
+            Cause::TooManyColumns => Ok(Cause::TooManyColumns),
         }
     }
 }

@@ -31,7 +31,7 @@ pub use blob::Blob;
 pub use built::Built;
 pub use builtin::Builtin;
 pub use casts::{apply, cast, changed_beside, store_as, to_blob, to_integer, to_number, to_text};
-pub use cause::Cause;
+pub use cause::{Cause, NameKind};
 pub use causes::Causes;
 pub use collations::compare;
 pub use compare_op::CompareOp;
@@ -41,7 +41,7 @@ pub use laws::{
 };
 pub use limits::{DEFAULT_BUDGET, MAX_COLUMNS, MAX_ROWID, MAX_SCRIPT_BYTES, MAX_VALUE_BYTES};
 pub use meanings::Meanings;
-pub use operators::{ArithmeticOp, IntegerOp, Sides};
+pub use operators::{ArithmeticOp, BinaryOperator, IntegerOp, Sides, UnaryOperator};
 pub use out::Out;
 pub use row::{Row, Rows};
 pub use steps::Steps;

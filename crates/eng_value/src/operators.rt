@@ -1,5 +1,5 @@
 // What the operators are told apart by.
-use crate::{Affinity, Built};
+use crate::{Affinity, Built, CompareOp};
 
 /// The operators on two numbers that may leave the 64 bits (SQL Language Expressions, section 2).
 #[derive(Clone, Copy, Debug, PartialEq, Eq)]
@@ -26,4 +26,36 @@ pub struct Sides {
     pub left: Affinity,
     pub right: Affinity,
     pub collation: Built,
+}
+
+/// The operators with one operand, casts among them.
+#[derive(Clone, Copy, Debug, PartialEq, Eq)]
+pub enum UnaryOperator {
+    /// Whether it is true: NULL, 1 or 0.
+    Truth,
+    Negative,
+    BitNot,
+    Not,
+    IsNull,
+    NotNull,
+    /// `IS TRUE`, and `IS FALSE`.
+    IsTruth(bool),
+    /// A cast to a type of this affinity.
+    Cast(Affinity),
+}
+
+/// The operators with two operands.
+#[derive(Clone, Copy, Debug, PartialEq, Eq)]
+pub enum BinaryOperator {
+    Arithmetic(ArithmeticOp),
+    Integers(IntegerOp),
+    Concatenate,
+    And,
+    Or,
+    Compare(CompareOp, Sides),
+    /// NULL counts as a value.
+    Is(Sides),
+    /// A text, and the pattern that it may have.
+    Like,
+    Glob,
 }

@@ -58,6 +58,7 @@ fn causes_have_codes_and_texts(rt: HostRuntime) -> Result<(), Fail> {
     causes.push(Cause::NotText)?;
     causes.push(Cause::Escape)?;
     causes.push(Cause::TooBig)?;
+    push_named(alloc, &mut causes)?;
     let wanted = [
         (1, "not built yet"),
         (7, "out of memory"),
@@ -69,6 +70,16 @@ fn causes_have_codes_and_texts(rt: HostRuntime) -> Result<(), Fail> {
         (1, "blob is not text"),
         (1, "ESCAPE must be one character"),
         (18, "value longer than 1000000 bytes"),
+        (1, "no such table: n"),
+        (1, "no such column: n"),
+        (1, "no such function: n"),
+        (1, "no such collation: n"),
+        (1, "table already exists: n"),
+        (1, "column already exists: n"),
+        (1, "reserved name: n"),
+        (1, "wrong number of values: n"),
+        (1, "misuse of: n"),
+        (1, "limit of 100 columns"),
     ];
     for (cause, (code, text)) in causes.iter().zip(wanted) {
         let mut written = vec![in alloc; b'>']?;
@@ -76,6 +87,26 @@ fn causes_have_codes_and_texts(rt: HostRuntime) -> Result<(), Fail> {
         assert_eq!(rt; cause.code(), code);
         assert_eq!(rt; &written[1..], text.as_bytes());
     }
+    Ok(())
+}
+
+// The causes that name something.
+fn push_named(alloc: Global, causes: &mut Vec<Cause>) -> Result<(), AllocError> {
+    let name = Text::from_str(alloc, "n")?;
+    for kind in [
+        NameKind::Table,
+        NameKind::Column,
+        NameKind::Function,
+        NameKind::Collation,
+    ] {
+        causes.push(Cause::Unknown(kind, name.clone()?))?;
+    }
+    causes.push(Cause::Exists(NameKind::Table, name.clone()?))?;
+    causes.push(Cause::Exists(NameKind::Column, name.clone()?))?;
+    causes.push(Cause::Reserved(name.clone()?))?;
+    causes.push(Cause::Arity(name.clone()?))?;
+    causes.push(Cause::Misuse(name))?;
+    causes.push(Cause::TooManyColumns)?;
     Ok(())
 }
 

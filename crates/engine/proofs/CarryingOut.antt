@@ -1,51 +1,91 @@
--- What a statement's run says, in the words of the text's meaning.
-use Rattle.std.proofs.Common.{◌≡◌, ℕ, ◌-◌, ◌≤◌, List, [], Ok, Err, refl, sym, ap, ◌∙◌, subst, arith, ◌⊎◌, inl, inr, ⊎_elim}
-use Rattle.std.specs.declared.option.Option.{Option}
-use Rattle.std.specs.declared.result.Result.{Result}
-use Rattle.eng_value.specs.HostMeanings.{HostMeanings}
+-- What a statement's run says, from what its program's run says.
+use Rattle.std.proofs.Common.{◌≡◌, ℕ, ◌-◌, ◌≤◌, List, [], Result, Option, Some, None, Ok, Err, refl, sym, ap, ◌∙◌, subst, arith, length, true}
+use Rattle.eng_value.specs.Causes.{CauseSet, has_cause, only}
 use Rattle.eng_value.specs.declared.cause.Cause.{Cause}
 use Rattle.eng_value.specs.declared.cause.Cause.TheVariants as cause
-use Rattle.sql_meaning.specs.Statement.{Outcome, refused, text_outcome}
+use Rattle.eng_value.specs.declared.value.Value.{Value}
+use Rattle.eng_value.proofs.CauseLaws.{has_cause-only}
+use Rattle.gen_query.specs.Queries.{ending_by}
+use Rattle.sql_meaning.specs.Script.{IsNamed}
+use Rattle.sql_meaning.specs.Statement.{Outcome, refused}
 use Rattle.sql_meaning.specs.World.{State}
-use Rattle.sql_meaning.proofs.StatementLaws.{refused_why}
+use Rattle.vm_code.specs.Machine.{World, Shared, Ending, Finished, Failed}
 use Rattle.engine.specs.declared.answers.Done.{Done}
-use Rattle.engine.specs.Connected.{IsCause, Carries, CarriesOut}
-use Rattle.engine.specs.Taking.{Rows}
+use Rattle.engine.specs.declared.running.Completed.{Completed}
+use Rattle.engine.specs.Causes.{IsCause, no_memory, used_up, sink_failed, meant}
+use Rattle.engine.specs.Connected.{Carries, CarriesOut}
+use Rattle.engine.specs.Executing.{Refuses, no_memory as free, used_up as spent, sink_failed as sunk, failed, ExecutesAs}
+use Rattle.engine.specs.Taking.{Rows, Adds}
 use Rattle.engine.proofs.Takings.{adds_none}
 
--- what a text is refused for is its cause
-refused_cause : (hosts : HostMeanings) (state : State) (text : List ℕ) (budget bound ran : ℕ) (rose : Type 0) (why : Cause) → (why ≡ cause.Mem) ⊎ (text_outcome hosts state text ≡ refused state why) → IsCause state (text_outcome hosts state text) budget bound ran rose why
-refused_cause hosts state text budget bound ran rose why (inl is) =
-    subst (IsCause state (text_outcome hosts state text) budget bound ran rose) (sym is) tt
-refused_cause hosts state text budget bound ran rose why (inr e) =
-    ⊎_elim (λ is. subst (IsCause state (text_outcome hosts state text) budget bound ran rose) (sym is) (e ∙ ap (refused state) is)) (λ full. subst (IsCause state (text_outcome hosts state text) budget bound ran rose) (sym full.1) (e ∙ ap (refused state) full.1)) (refused_why hosts state text why (ap (λ (o : Outcome). o.refusal) e))
+-- ---- a program that does what a statement means
 
--- a text that is refused before its program is made runs nothing
-pub refused_carries : (hosts : HostMeanings) (state : State) (text : List ℕ) (budget bound steps : ℕ) (t : Option Rows) (rose : Type 0) (why : Cause) → (why ≡ cause.Mem) ⊎ (text_outcome hosts state text ≡ refused state why) → CarriesOut (text_outcome hosts state text) state state budget bound (steps - steps) t t rose (Err why)
-refused_carries hosts state text budget bound steps t rose why e = record {
-  answer = (refl, refused_cause hosts state text budget bound (steps - steps) rose why e);
-  front = ([], (text_outcome hosts state text).given, refl, adds_none t);
+-- its run ends as the statement does, and gives the statement's rows
+pub record Shows (o : Outcome) (e : Ending) (x : Shared) : Type 0 where
+  pub ended : e ≡ ending_by o.refusal
+  pub given : x.given ≡ o.given
+
+named_by : (refusal : Option CauseSet) (e : Ending) (causes : CauseSet) (k : Cause) → e ≡ ending_by refusal → e ≡ Failed causes → has_cause causes k ≡ true → IsNamed refusal (Some k)
+named_by None e causes k is fails has = absurd (let both : Finished ≡ Failed causes = sym is ∙ fails in cc)
+named_by (Some others) e causes k is fails has = let both : Failed others ≡ Failed causes = sym is ∙ fails in let same : others ≡ causes = cc in rw same has
+
+refusal_none : (refusal : Option CauseSet) (e : Ending) → e ≡ ending_by refusal → e ≡ Finished → refusal ≡ None
+refusal_none None e is ends = refl
+refusal_none (Some causes) e is ends = absurd (let both : Failed causes ≡ Finished = sym is ∙ ends in cc)
+
+module _ (o : Outcome) (e : Ending) (x : Shared) (shows : Shows o e x) (most bound budget ran : ℕ) (w0 w : World) (t0 t : Option Rows) (rose : Type 0) (le : most ≤ bound) where
+  caused : (k : Cause) → Refuses e x most budget ran t0 t rose k → IsCause o budget bound ran t0 t rose k
+  caused _ free = no_memory
+  caused _ (spent a b) = used_up a (omega arith)
+  caused _ (sunk r) = sink_failed r
+  caused _ (failed k causes is has took) = meant k (named_by o.refusal e causes k shows.ended is has) (rw (← shows.given) took)
+
+  -- where the program does not run to its end
+  pub carries_Err : (old now : State) (k : Cause) → now ≡ old → ExecutesAs e x most budget ran w0 w t0 t rose (Err k) → CarriesOut o old now budget bound ran t0 t rose (Err k)
+  carries_Err old now k same a = record {
+    answer = (same, caused k a.answer.1);
+    front = rw (← shows.given) a.front;
+    within = omega (arith, a.within);
+  }
+
+  -- where it does
+  pub carries_Ok : (old now : State) (c : Completed) (d : Done) → now ≡ o.next → d.given ≡ c.given → d.changed ≡ o.changed → ExecutesAs e x most budget ran w0 w t0 t rose (Ok c) → CarriesOut o old now budget bound ran t0 t rose (Ok d)
+  carries_Ok old now c d next given changed a = record {
+    answer = (refusal_none o.refusal e shows.ended a.answer.0, next, rw (← shows.given) a.answer.2, given ∙ a.answer.3 ∙ ap length shows.given, changed);
+    front = rw (← shows.given) a.front;
+    within = omega (arith, a.within);
+  }
+
+-- ---- what runs nothing
+
+-- no memory was found before the program ran
+pub carries_Mem : (o : Outcome) (state : State) (budget bound steps : ℕ) (t : Option Rows) (rose : Type 0) → CarriesOut o state state budget bound (steps - steps) t t rose (Err cause.Mem)
+carries_Mem o state budget bound steps t rose = record {
+  answer = (refl, no_memory);
+  front = ([], o.given, refl, adds_none t);
   within = omega arith;
 }
 
--- more instructions are allowed
-more_allowed : (state : State) (o : Outcome) (budget most bound ran : ℕ) (rose : Type 0) (k : Cause) → most ≤ bound → IsCause state o budget most ran rose k → IsCause state o budget bound ran rose k
-more_allowed state o budget most bound ran rose cause.NotYet le c = c
-more_allowed state o budget most bound ran rose cause.Mem le c = tt
-more_allowed state o budget most bound ran rose (cause.Interrupted n) le (a, b, c) = (a, b, omega arith)
-more_allowed state o budget most bound ran rose cause.SinkFault le c = c
-more_allowed state o budget most bound ran rose (cause.Full t) le c = c
-more_allowed state o budget most bound ran rose cause.Real le c = c
-more_allowed state o budget most bound ran rose cause.Overflow le c = c
-more_allowed state o budget most bound ran rose cause.NotText le c = c
-more_allowed state o budget most bound ran rose cause.Escape le c = c
-more_allowed state o budget most bound ran rose cause.TooBig le c = c
+-- the statement is refused
+pub carries_refused : (o : Outcome) (state : State) (budget bound steps : ℕ) (t : Option Rows) (rose : Type 0) (why : Cause) → o ≡ refused state (only why) → CarriesOut o state state budget bound (steps - steps) t t rose (Err why)
+carries_refused o state budget bound steps t rose why is = record {
+  answer = (refl, meant why (rw is (has_cause-only why)) (rw is (adds_none t)));
+  front = ([], o.given, refl, adds_none t);
+  within = omega arith;
+}
+
+-- ---- the same of an outcome that is this one, with more instructions allowed
+
+more_cause : (o : Outcome) (budget most bound ran : ℕ) (t0 t : Option Rows) (rose : Type 0) (k : Cause) → most ≤ bound → IsCause o budget most ran t0 t rose k → IsCause o budget bound ran t0 t rose k
+more_cause o budget most bound ran t0 t rose _ le no_memory = no_memory
+more_cause o budget most bound ran t0 t rose _ le (used_up a b) = used_up a (omega arith)
+more_cause o budget most bound ran t0 t rose _ le (sink_failed r) = sink_failed r
+more_cause o budget most bound ran t0 t rose _ le (meant k names took) = meant k names took
 
 carries_more : (o : Outcome) (old now : State) (budget most bound ran : ℕ) (t0 t : Option Rows) (rose : Type 0) (r : Result Done Cause) → most ≤ bound → Carries o old now budget most ran t0 t rose r → Carries o old now budget bound ran t0 t rose r
 carries_more o old now budget most bound ran t0 t rose (Ok d) le c = c
-carries_more o old now budget most bound ran t0 t rose (Err k) le (same, c) = (same, more_allowed old o budget most bound ran rose k le c)
+carries_more o old now budget most bound ran t0 t rose (Err k) le (same, c) = (same, more_cause o budget most bound ran t0 t rose k le c)
 
--- the run of the bound statement is that of its text
-pub bound_carries : (o p : Outcome) (old now : State) (budget most bound ran : ℕ) (t0 t : Option Rows) (rose : Type 0) (r : Result Done Cause) → o ≡ p → most ≤ bound → CarriesOut p old now budget most ran t0 t rose r → CarriesOut o old now budget bound ran t0 t rose r
-bound_carries o p old now budget most bound ran t0 t rose r is le c =
+pub carries_as : (o p : Outcome) (old now : State) (budget most bound ran : ℕ) (t0 t : Option Rows) (rose : Type 0) (r : Result Done Cause) → o ≡ p → most ≤ bound → CarriesOut p old now budget most ran t0 t rose r → CarriesOut o old now budget bound ran t0 t rose r
+carries_as o p old now budget most bound ran t0 t rose r is le c =
     subst (λ q. CarriesOut q old now budget bound ran t0 t rose r) (sym is) (record { answer = carries_more p old now budget most bound ran t0 t rose r le c.answer; front = c.front; within = omega (arith, c.within) })

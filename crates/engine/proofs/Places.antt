@@ -7,11 +7,12 @@ use Rattle.std.specs.List.{find, position_or_len}
 use Rattle.eng_value.specs.StoredRows.{StoredRow}
 use Rattle.vm_code.specs.Machine.{World as Lists, rows_of}
 use Rattle.sql_meaning.specs.Names.{is_same_name}
-use Rattle.sql_meaning.specs.World.{TableEntry, entry_named, rows_of as rows_under, with_rows}
+use Rattle.sql_meaning.specs.declared.column.TableEntry.{TableEntry}
+use Rattle.sql_meaning.specs.World.{entry_named, rows_of as rows_under, with_rows}
 use Rattle.sql_meaning.proofs.LookUps.{position_finds}
 use Rattle.sql_meaning.proofs.NameLaws.{is_same_name-left}
 use Rattle.engine.specs.Held.{named_rows}
-use Rattle.engine.specs.Places.{place_named}
+use Rattle.bind_stmt.specs.Binds.{place_named}
 
 -- the first place of a name, or the number of the entries
 abbrev first_place : List TableEntry → List ℕ → ℕ

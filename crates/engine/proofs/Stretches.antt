@@ -1,6 +1,7 @@
 -- One stretch of a run and the next, and what a run comes to whose stretches are known.
-use Rattle.std.proofs.Common.{◌≡◌, ℕ, zero, suc, ◌+◌, ◌-◌, ◌<◌, ◌≤◌, Bool, true, false, [], ◌∷◌, ◌++◌, length, None, Ok, Err, Option, Result, refl, sym, ap, ◌∙◌, subst, arith, append_assoc, append-nil, length-append, ⊎_elim}
+use Rattle.std.proofs.Common.{◌≡◌, ℕ, zero, suc, ◌+◌, ◌-◌, ◌<◌, ◌≤◌, Bool, true, false, List, [], ◌∷◌, ◌++◌, length, None, Ok, Err, Option, Result, refl, sym, ap, ◌∙◌, subst, arith, append_assoc, append-nil, length-append, ⊎_elim}
 use Rattle.std.proofs.lemmas.Bool.{cases_lt}
+use Rattle.eng_value.specs.declared.value.Value.{Value}
 use Rattle.vm_code.specs.declared.program.Program.{Program}
 use Rattle.vm_code.specs.Machine.{Row, World, Setting, Shared, State, Ending, Finished, Failed, Next, On, End, Ends, after, start}
 use Rattle.vm_code.proofs.Given.{over, one_end, still_on, next_stretch, under}
@@ -207,5 +208,5 @@ module _ {first p : Paused} {w0 w : World} {old mid : Option Rows} {i given : �
     }
 
 -- a machine that was made of a program runs as the program does
-pub of_program : (p : Paused) (prog : Program) (w : World) (P : Setting → State → Type 0) → p ≡ at_start prog → P (record { prog = p.prog }) (state_of p w []) → P (record { prog = prog }) (start prog w)
-of_program p prog w P made h = subst (λ (y : Paused). P (record { prog = y.prog }) (state_of y w [])) made h
+pub of_program : (p : Paused) (prog : Program) (params : List Value) (w : World) (P : Setting → State → Type 0) → p ≡ at_start prog params → P (record { prog = p.prog }) (state_of p w []) → P (record { prog = prog }) (start prog params w)
+of_program p prog params w P made h = subst (λ (y : Paused). P (record { prog = y.prog }) (state_of y w [])) made h

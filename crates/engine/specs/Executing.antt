@@ -1,7 +1,5 @@
 -- What the run of a statement's program comes to, by causes.
-use Rattle.std.specs.Prelude.{◌≡◌, ◌<◌, ◌≤◌, ◌⊎◌, ℕ, ⊤, true, length, None, Ok, Err}
-use Rattle.std.specs.declared.option.Option.{Option}
-use Rattle.std.specs.declared.result.Result.{Result}
+use Rattle.std.specs.Prelude.{◌≡◌, ◌<◌, ◌≤◌, ℕ, true, length, Option, None, Result, Ok, Err}
 use Rattle.eng_value.specs.Causes.{CauseSet, has_cause}
 use Rattle.eng_value.specs.declared.cause.Cause.{Cause}
 use Rattle.eng_value.specs.declared.cause.Cause.TheVariants as cause
@@ -12,22 +10,13 @@ use Rattle.engine.specs.declared.running.Stop.TheVariants as stop
 use Rattle.engine.specs.Running.{put_count, last_put}
 use Rattle.engine.specs.Taking.{Rows, Adds, AddsFront}
 
--- the cause has happened in this call: the budget was used up before the run's end, or the sink failed; want of memory is free
-abbrev pub Happened : ℕ → ℕ → ℕ → Type 0 → Cause → Type 0
-Happened budget most ran rose cause.Mem = ⊤
-Happened budget most ran rose cause.SinkFault = rose
-Happened budget most ran rose (cause.Interrupted n) = (n ≡ budget) × (ran ≡ n) × (n < most)
-Happened budget most ran rose cause.NotYet = ⊥
-Happened budget most ran rose (cause.Full table) = ⊥
-Happened budget most ran rose cause.Real = ⊥
-Happened budget most ran rose cause.Overflow = ⊥
-Happened budget most ran rose cause.NotText = ⊥
-Happened budget most ran rose cause.Escape = ⊥
-Happened budget most ran rose cause.TooBig = ⊥
-
--- the run ends with causes, of which this is one
-abbrev pub IsNamed : Ending → Cause → Type 0
-IsNamed e k = (causes : CauseSet) × (e ≡ Failed causes) × (has_cause causes k ≡ true)
+-- Why a program did not run to its end, where the machine over lists ends so with this shared.
+pub data Refuses (e : Ending) (x : Shared) (most budget ran : ℕ) (t0 t : Option Rows) (rose : Type 0) : Cause → Type 0 where
+  no_memory : Refuses e x most budget ran t0 t rose cause.Mem
+  used_up : ran ≡ budget → budget < most → Refuses e x most budget ran t0 t rose (cause.Interrupted budget)
+  sink_failed : rose → Refuses e x most budget ran t0 t rose cause.SinkFault
+  -- the run ends with causes, of which this is one
+  failed : (why : Cause) (causes : CauseSet) → e ≡ Failed causes → has_cause causes why ≡ true → Adds t0 t x.given → Refuses e x most budget ran t0 t rose why
 
 -- the cause of a stop, and one of several
 abbrev pub NamesStop : Stop → Cause → Type 0
@@ -36,11 +25,11 @@ NamesStop (stop.Interrupted n) k = k ≡ cause.Interrupted n
 NamesStop stop.SinkFault k = k ≡ cause.SinkFault
 NamesStop stop.Mem k = k ≡ cause.Mem
 
--- what a statement's run says, where the machine over lists ends so with this shared, from these tables and this sink to those
+-- what a program's run says, where the machine over lists ends so with this shared, from these tables and this sink to those
 abbrev pub AnswersAs : Ending → Shared → ℕ → ℕ → ℕ → World → World → Option Rows → Option Rows → Type 0 → Result Completed Cause → Type 0
 AnswersAs e x most budget ran w0 w t0 t rose (Ok c) =
     (e ≡ Finished) × (w ≡ x.world) × Adds t0 t x.given × (c.given ≡ length x.given) × (c.changed ≡ put_count x.changes) × (c.last_rowid ≡ last_put None x.changes)
-AnswersAs e x most budget ran w0 w t0 t rose (Err k) = (w ≡ w0) × (Happened budget most ran rose k ⊎ IsNamed e k)
+AnswersAs e x most budget ran w0 w t0 t rose (Err k) = (w ≡ w0) × Refuses e x most budget ran t0 t rose k
 
 -- the same, with a front of the rows taken and no more instructions run than the machine over lists needs
 pub record ExecutesAs (e : Ending) (x : Shared) (most budget ran : ℕ) (w0 w : World) (t0 t : Option Rows) (rose : Type 0) (result : Result Completed Cause) : Type 0 where

@@ -3,7 +3,8 @@ use Rattle.std.specs.Prelude.{ℕ, List, [], ℤ, map}
 use Rattle.std.specs.List.{zip}
 use Rattle.eng_value.specs.StoredRows.{StoredRow}
 use Rattle.vm_code.specs.Machine.{World as Lists}
-use Rattle.sql_meaning.specs.World.{TableEntry, State}
+use Rattle.sql_meaning.specs.declared.column.TableEntry.{TableEntry}
+use Rattle.sql_meaning.specs.World.{State}
 
 -- the rows of each table under its name: the catalog and the lists of rows have one order
 abbrev pub named_rows : List TableEntry → Lists → List (List ℕ × List StoredRow)

@@ -1,8 +1,10 @@
 // A connection.
 ghost use Rattle.std.specs.Prelude.{◌≡◌, ◌≤◌, ◌+◌, ◌-◌, length, map, None, Some, OnOk, OnErr, IfOk, IfErr};
-ghost use Rattle.eng_value.specs.declared.cause.Cause.TheVariants.{Mem, NotYet};
-ghost use Rattle.engine.specs.Connected.{IsCause};
+ghost use Rattle.eng_value.specs.declared.cause.Cause.TheVariants.{Mem};
+ghost use Rattle.engine.specs.Causes.{IsCause};
+ghost use Rattle.engine.specs.Prepared.{IsUnbuilt};
 ghost use Rattle.engine.specs.Taking.{Adds, AddsFront};
+ghost use Rattle.bind_stmt.specs.Binds.{place_named};
 ghost use Rattle.host_traits.specs.Faults.{Rose};
 ghost use Rattle.sql_meaning.specs.Statement.{text_outcome};
 ghost use Rattle.sql_meaning.specs.Work.{instruction_bound};
@@ -14,6 +16,7 @@ use crate::answers::{Done, Refusal};
 use crate::database::{Database, run_text};
 use crate::row_sink::RowSink;
 use eng_value::{Cause, Row, Rows, Steps, StoredRow, Value};
+use sql_meaning::TableEntry;
 use std::alloc::{AllocError, Global};
 use std::marker::Model;
 use std::sync::ledger::Ledger;
@@ -29,7 +32,7 @@ pub struct Connection {
 
 impl Model for Connection {
     ghost use Rattle.std.specs.Prelude.{◌≡◌, length};
-    ghost use Rattle.engine.specs.Connected.{Held};
+    ghost use Rattle.engine.specs.Causes.{Held};
     ghost use Rattle.engine.specs.Held.{state_of};
 
     ghost Value = { Held };
@@ -54,15 +57,15 @@ impl Connection {
         }
     }
 
-    /// Runs one statement and hands its rows to the sink. A statement that is refused changes nothing; rows that it gave before
-    /// are a front of what it means.
+    /// Runs one statement and hands its rows to the sink. A parameter that is missing is NULL. A statement that is refused changes
+    /// nothing; rows that it gave before are a front of what it means.
     ///
     /// - Ok: the statement did what it means, and all its rows were taken;
-    /// - NotYet, Full: that is what it means;
     /// - Interrupted: the budget of instructions is used up. It never comes where the budget is at least the bound of size and
     ///   work;
     /// - SinkFault: the sink failed;
-    /// - Mem: no memory was found.
+    /// - Mem: no memory was found;
+    /// - any other cause: that is one of those that it means, and the rows in front of it were taken.
     pub fn run<R: RowSink, L: Ledger>(
         &mut self,
         alloc: Global,
@@ -73,23 +76,23 @@ impl Connection {
         steps: &mut Steps<L>,
     ) -> Result<Done, Refusal>
         // Ok: what the statement means.
-        ensures done { OnOk result ((text_outcome (meant hosts.old) self.old.state sql.now).refusal ≡ None) }
-        ensures next { OnOk result (self.new.state ≡ (text_outcome (meant hosts.old) self.old.state sql.now).next) }
+        ensures done { OnOk result ((text_outcome (meant hosts.old) self.old.state params.now sql.now).refusal ≡ None) }
+        ensures next { OnOk result (self.new.state ≡ (text_outcome (meant hosts.old) self.old.state params.now sql.now).next) }
         ensures rows { OnOk result (Adds (R.taken rows.old) (R.taken rows.new)
-            (text_outcome (meant hosts.old) self.old.state sql.now).given) }
-        ensures given { IfOk result (λ d. d.given ≡ length (text_outcome (meant hosts.old) self.old.state sql.now).given) }
-        ensures changed { IfOk result (λ d. d.changed ≡ (text_outcome (meant hosts.old) self.old.state sql.now).changed) }
+            (text_outcome (meant hosts.old) self.old.state params.now sql.now).given) }
+        ensures given { IfOk result (λ d. d.given ≡ length (text_outcome (meant hosts.old) self.old.state params.now sql.now).given) }
+        ensures changed { IfOk result (λ d. d.changed ≡ (text_outcome (meant hosts.old) self.old.state params.now sql.now).changed) }
 
         // A refusal changes nothing and has its cause.
         ensures kept { OnErr result (self.new ≡ self.old) }
-        ensures cause { IfErr result (λ r. IsCause self.old.state (text_outcome (meant hosts.old) self.old.state sql.now)
+        ensures cause { IfErr result (λ r. IsCause (text_outcome (meant hosts.old) self.old.state params.now sql.now)
             self.old.budget (instruction_bound self.old.state sql.now) (steps.new - steps.old)
-            (Rose (R.fault_count rows.old) (R.fault_count rows.new)) r.cause) }
-        ensures not_yet { (text_outcome (meant hosts.old) self.old.state sql.now).refusal ≡ Some NotYet → steps.new ≡ steps.old }
+            (R.taken rows.old) (R.taken rows.new) (Rose (R.fault_count rows.old) (R.fault_count rows.new)) r.cause) }
+        ensures unbuilt { IsUnbuilt sql.now → steps.new ≡ steps.old }
 
         // Whatever the answer.
         ensures front { AddsFront (R.taken rows.old) (R.taken rows.new)
-            (text_outcome (meant hosts.old) self.old.state sql.now).given }
+            (text_outcome (meant hosts.old) self.old.state params.now sql.now).given }
         ensures bound { steps.new ≤ steps.old + instruction_bound self.old.state sql.now }
         ensures ticks { steps.old ≤ steps.new }
         ensures faults { R.fault_count rows.old ≤ R.fault_count rows.new }
@@ -100,7 +103,8 @@ impl Connection {
             alloc,
             &mut self.database,
             self.budget,
-            sql.as_bytes(),
+            sql,
+            params,
             rows,
             steps,
         ) {
@@ -115,7 +119,7 @@ impl Connection {
         ensures table { IfOk result (λ found. found ≡ table_rows self.now.state name.now) }
         ensures memory { IfErr result (λ r. r.cause ≡ Mem) }
     {
-        let Some(place) = self.database.catalog.place(name.as_bytes()) else {
+        let Some(place) = place_named(self.database.catalog.entries(), name) else {
             return Ok(None);
         };
         match numbered(alloc, &self.database.tables, place) {
@@ -145,6 +149,13 @@ impl Connection {
         let _budget = self.budget;
         false
     }
+}
+
+/// The place of the first table of this name.
+fn place_named(catalog: &[TableEntry], name: &str) -> Option<usize>
+    ensures { result ≡ place_named catalog.now name.now }
+{
+    catalog.iter().position(|t| t.name.as_bytes().eq_ignore_ascii_case(name.as_bytes()))
 }
 
 /// The rows of a table with their rowids in front.

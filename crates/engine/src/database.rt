@@ -1,23 +1,27 @@
-// What a connection holds, and how a bound statement changes it.
-ghost use Rattle.std.specs.Prelude.{◌≡◌, ◌≤◌, ◌-◌, ◌<◌, [], length, pos, Some};
+// What a connection holds, and how a statement changes it.
+ghost use Rattle.std.specs.Prelude.{◌≡◌, ◌≤◌, ◌-◌, ◌<◌, ◌∷◌, ◌++◌, [], length, pos, unwrap_or};
 ghost use Rattle.eng_value.specs.HostMeanings.{HostMeanings};
-ghost use Rattle.eng_value.specs.declared.cause.Cause.TheVariants.{NotYet};
-ghost use Rattle.engine.specs.Binding.{IsWithin, bound_outcome, created, inserted, selected};
-ghost use Rattle.engine.specs.Connected.{CarriesOut, bound_steps};
+ghost use Rattle.engine.specs.Connected.{CarriesOut};
 ghost use Rattle.engine.specs.Held.{state_of};
-ghost use Rattle.engine.specs.Programs.{create_steps, put_steps, scan_steps};
+ghost use Rattle.engine.specs.Outcomes.{create_outcome_in, put_outcome_in, query_outcome_in};
+ghost use Rattle.engine.specs.Prepared.{IsUnbuilt};
+ghost use Rattle.gen_query.specs.Queries.{query_steps};
+ghost use Rattle.gen_write.specs.Writes.{create_steps, put_steps};
 ghost use Rattle.host_traits.specs.Faults.{Rose};
-ghost use Rattle.sql_meaning.specs.Expression.{tree_of};
 ghost use Rattle.sql_meaning.specs.Statement.{text_outcome};
 ghost use Rattle.sql_meaning.specs.Work.{instruction_bound};
+ghost use Rattle.vm_code.specs.Machine.{IsOrdered};
 
 use crate::answers::Done;
-use crate::binding::{Bound, BoundInsert, BoundSelect};
-use crate::catalog::{Catalog, TableEntry};
-use crate::executing::{create_table, insert_row, select_rows};
+use crate::catalog::Catalog;
+use crate::executing::execute;
 use crate::preparing::prepare;
 use crate::row_sink::RowSink;
-use eng_value::{Cause, Steps};
+use crate::running::Completed;
+use bind_stmt::Bound;
+use eng_value::{Cause, Steps, Value};
+use gen_write::{compile_create, compile_insert};
+use sql_meaning::{BoundInsert, BoundSelect, TableEntry};
 use std::alloc::Global;
 use std::sync::ledger::Ledger;
 use vm_core::Tables;
@@ -46,6 +50,19 @@ impl Database {
             last_rowid: 0,
         }
     }
+
+    /// Keeps how many rows a write put and the rowid of the last one, where it put one.
+    fn keep(&mut self, completed: &Completed)
+        ensures catalog { self.new.catalog ≡ self.old.catalog }
+        ensures tables { self.new.tables ≡ self.old.tables }
+        ensures changes { self.new.changes ≡ completed.now.changed }
+        ensures last_rowid { self.new.last_rowid ≡ unwrap_or completed.now.last_rowid self.old.last_rowid }
+    {
+        self.changes = completed.changed;
+        if let Some(rowid) = completed.last_rowid {
+            self.last_rowid = rowid;
+        }
+    }
 }
 
 /// Runs the statement of a text. One that is refused changes nothing.
@@ -53,7 +70,8 @@ pub(crate) fn run_text<R: RowSink, L: Ledger>(
     alloc: Global,
     database: &mut Database,
     budget: u64,
-    text: &[u8],
+    text: &str,
+    params: &[Value],
     rows: &mut R,
     steps: &mut Steps<L>,
 ) -> Result<Done, Cause>
@@ -61,7 +79,7 @@ pub(crate) fn run_text<R: RowSink, L: Ledger>(
     ensures in_line { length database.new.tables ≡ length database.new.catalog }
     ensures carried { (hosts : HostMeanings) → CarriesOut
         (text_outcome hosts
-        (state_of database.old.catalog database.old.tables database.old.changes database.old.last_rowid) text.now)
+        (state_of database.old.catalog database.old.tables database.old.changes database.old.last_rowid) params.now text.now)
         (state_of database.old.catalog database.old.tables database.old.changes database.old.last_rowid)
         (state_of database.new.catalog database.new.tables database.new.changes database.new.last_rowid)
         budget
@@ -69,48 +87,22 @@ pub(crate) fn run_text<R: RowSink, L: Ledger>(
         (state_of database.old.catalog database.old.tables database.old.changes database.old.last_rowid) text.now)
         (steps.new - steps.old) (R.taken rows.old) (R.taken rows.new)
         (Rose (R.fault_count rows.old) (R.fault_count rows.new)) result }
-    ensures not_yet { (hosts : HostMeanings) →
-        (text_outcome hosts
-        (state_of database.old.catalog database.old.tables database.old.changes database.old.last_rowid) text.now).refusal
-        ≡ Some NotYet → steps.new ≡ steps.old }
+    ensures unbuilt { IsUnbuilt text.now → steps.new ≡ steps.old }
     ensures ticks { steps.old ≤ steps.new }
     ensures faults { R.fault_count rows.old ≤ R.fault_count rows.new }
 {
+    database.tables.order();
     match prepare(alloc, &database.catalog, text) {
-        Ok(bound) => run_bound(alloc, database, budget, bound, rows, steps),
+        Ok(Bound::CreateTable(entry)) => run_create(alloc, database, budget, entry, rows, steps),
+        Ok(Bound::Insert(insert)) => run_insert(alloc, database, budget, &insert, rows, steps),
+        Ok(Bound::Select(select)) => {
+            run_select(alloc, database, budget, &select, params, rows, steps)
+        }
         Err(cause) => Err(cause),
     }
 }
 
-/// Runs a bound statement. One that is refused changes nothing.
-pub(crate) fn run_bound<R: RowSink, L: Ledger>(
-    alloc: Global,
-    database: &mut Database,
-    budget: u64,
-    bound: Bound,
-    rows: &mut R,
-    steps: &mut Steps<L>,
-) -> Result<Done, Cause>
-    requires within { IsWithin database.old.catalog bound }
-    requires in_line { length database.old.tables ≡ length database.old.catalog }
-    ensures in_line { length database.new.tables ≡ length database.new.catalog }
-    ensures carried { CarriesOut
-        (bound_outcome database.old.catalog bound database.old.tables database.old.changes database.old.last_rowid)
-        (state_of database.old.catalog database.old.tables database.old.changes database.old.last_rowid)
-        (state_of database.new.catalog database.new.tables database.new.changes database.new.last_rowid)
-        budget (bound_steps bound database.old.tables) (steps.new - steps.old) (R.taken rows.old) (R.taken rows.new)
-        (Rose (R.fault_count rows.old) (R.fault_count rows.new)) result }
-    ensures ticks { steps.old ≤ steps.new }
-    ensures faults { R.fault_count rows.old ≤ R.fault_count rows.new }
-{
-    match bound {
-        Bound::CreateTable(entry) => run_create(alloc, database, budget, entry, rows, steps),
-        Bound::Insert(insert) => run_insert(alloc, database, budget, &insert, rows, steps),
-        Bound::Select(select) => run_select(alloc, database, budget, &select, rows, steps),
-    }
-}
-
-/// Runs a CREATE TABLE.
+/// Runs a CREATE TABLE: the table's entry comes into the catalog, and its list of rows into the tables.
 fn run_create<R: RowSink, L: Ledger>(
     alloc: Global,
     database: &mut Database,
@@ -120,9 +112,10 @@ fn run_create<R: RowSink, L: Ledger>(
     steps: &mut Steps<L>,
 ) -> Result<Done, Cause>
     requires in_line { length database.old.tables ≡ length database.old.catalog }
+    requires ordered { IsOrdered database.old.tables }
     ensures in_line { length database.new.tables ≡ length database.new.catalog }
     ensures carried { CarriesOut
-        (created database.old.catalog entry database.old.tables database.old.changes database.old.last_rowid)
+        (create_outcome_in database.old.catalog database.old.tables database.old.changes database.old.last_rowid entry)
         (state_of database.old.catalog database.old.tables database.old.changes database.old.last_rowid)
         (state_of database.new.catalog database.new.tables database.new.changes database.new.last_rowid)
         budget (create_steps database.old.tables) (steps.new - steps.old) (R.taken rows.old) (R.taken rows.new)
@@ -130,16 +123,27 @@ fn run_create<R: RowSink, L: Ledger>(
     ensures ticks { steps.old ≤ steps.new }
     ensures faults { R.fault_count rows.old ≤ R.fault_count rows.new }
 {
-    let Database {
-        catalog,
-        tables,
-        ..
-    } = database;
-    let completed = create_table(alloc, catalog, tables, budget, entry, rows, steps)?;
-    Ok(Done {
-        given: completed.given,
-        changed: 0,
-    })
+    let Ok(program) = compile_create(alloc) else {
+        return Err(Cause::Mem);
+    };
+    let Ok(()) = database.catalog.push(entry) else {
+        return Err(Cause::Mem);
+    };
+    match execute(
+        alloc,
+        program,
+        &[],
+        &mut database.tables,
+        budget,
+        rows,
+        steps,
+    ) {
+        Ok(completed) => Ok(done(&completed, 0)),
+        Err(cause) => {
+            let _ = database.catalog.pop();
+            Err(cause)
+        }
+    }
 }
 
 /// Runs an INSERT, and keeps how many rows it put and the last rowid.
@@ -151,53 +155,84 @@ fn run_insert<R: RowSink, L: Ledger>(
     rows: &mut R,
     steps: &mut Steps<L>,
 ) -> Result<Done, Cause>
-    requires within { insert.now.table < length database.old.catalog }
     requires in_line { length database.old.tables ≡ length database.old.catalog }
+    requires ordered { IsOrdered database.old.tables }
     ensures in_line { length database.new.tables ≡ length database.new.catalog }
     ensures carried { CarriesOut
-        (inserted database.old.catalog insert.now database.old.tables database.old.changes database.old.last_rowid)
+        (put_outcome_in database.old.catalog database.old.tables database.old.changes database.old.last_rowid insert.now)
         (state_of database.old.catalog database.old.tables database.old.changes database.old.last_rowid)
         (state_of database.new.catalog database.new.tables database.new.changes database.new.last_rowid)
-        budget (put_steps insert.now.literals database.old.tables) (steps.new - steps.old)
+        budget (put_steps insert.now database.old.tables) (steps.new - steps.old)
         (R.taken rows.old) (R.taken rows.new) (Rose (R.fault_count rows.old) (R.fault_count rows.new)) result }
     ensures ticks { steps.old ≤ steps.new }
     ensures faults { R.fault_count rows.old ≤ R.fault_count rows.new }
 {
-    let completed = insert_row(alloc, &mut database.tables, budget, insert, rows, steps)?;
-    database.changes = completed.changed;
-    if let Some(rowid) = completed.last_rowid {
-        database.last_rowid = rowid;
+    let Ok(program) = compile_insert(alloc, insert) else {
+        return Err(Cause::Mem);
+    };
+    match execute(
+        alloc,
+        program,
+        &[],
+        &mut database.tables,
+        budget,
+        rows,
+        steps,
+    ) {
+        Ok(completed) => {
+            database.keep(&completed);
+            Ok(done(&completed, completed.changed))
+        }
+        Err(cause) => Err(cause),
     }
-    Ok(Done {
-        given: completed.given,
-        changed: completed.changed,
-    })
 }
 
-/// Runs a SELECT.
+/// Runs a SELECT. The tables stay.
 fn run_select<R: RowSink, L: Ledger>(
     alloc: Global,
     database: &mut Database,
     budget: u64,
     select: &BoundSelect,
+    params: &[Value],
     rows: &mut R,
     steps: &mut Steps<L>,
 ) -> Result<Done, Cause>
     requires in_line { length database.old.tables ≡ length database.old.catalog }
+    requires ordered { IsOrdered database.old.tables }
     ensures in_line { length database.new.tables ≡ length database.new.catalog }
     ensures carried { CarriesOut
-        (selected database.old.catalog select.now database.old.tables database.old.changes database.old.last_rowid)
+        (query_outcome_in database.old.catalog database.old.tables database.old.changes database.old.last_rowid params.now select.now)
         (state_of database.old.catalog database.old.tables database.old.changes database.old.last_rowid)
         (state_of database.new.catalog database.new.tables database.new.changes database.new.last_rowid)
-        budget (scan_steps select.now.table select.now.shown (tree_of select.now.filter) database.old.tables)
-        (steps.new - steps.old) (R.taken rows.old) (R.taken rows.new)
-        (Rose (R.fault_count rows.old) (R.fault_count rows.new)) result }
+        budget (query_steps select.now database.old.tables) (steps.new - steps.old)
+        (R.taken rows.old) (R.taken rows.new) (Rose (R.fault_count rows.old) (R.fault_count rows.new)) result }
     ensures ticks { steps.old ≤ steps.new }
     ensures faults { R.fault_count rows.old ≤ R.fault_count rows.new }
 {
-    let completed = select_rows(alloc, &mut database.tables, budget, select, rows, steps)?;
-    Ok(Done {
+    let Ok(program) = gen_query::compile(alloc, select) else {
+        return Err(Cause::Mem);
+    };
+    match execute(
+        alloc,
+        program,
+        params,
+        &mut database.tables,
+        budget,
+        rows,
+        steps,
+    ) {
+        Ok(completed) => Ok(done(&completed, 0)),
+        Err(cause) => Err(cause),
+    }
+}
+
+/// What a statement did whose program ran to its end and that changed so many rows.
+fn done(completed: &Completed, changed: u64) -> Done
+    ensures given { result.given ≡ completed.now.given }
+    ensures changed { result.changed ≡ changed }
+{
+    Done {
         given: completed.given,
-        changed: 0,
-    })
+        changed,
+    }
 }

@@ -1,21 +1,22 @@
-//! The engine behind `Connection`. The text of a statement becomes tokens (`lexing`), a tree (`parsing`) and places of tables and
-//! columns (`binding`); then a program (`compiling`), which the machine runs (`running`), with its rows to the sink and its changes
-//! in the tables; what it came to becomes the answer (`executing`, `database`, `connection`).
+//! The engine behind `Connection`. The text of a statement becomes tokens (sql_lex), a tree (parse_stmt) and a bound statement
+//! (bind_stmt), all in `preparing`; then a program (gen_query, gen_write), which the machine runs (`running`), with its rows to the
+//! sink and its changes in the tables; what it came to becomes the answer (`executing`, `database`, `connection`).
 #![tactic(auto)]
 
 mod answers;
-mod binding;
 mod catalog;
-mod compiling;
 mod connection;
 mod database;
 mod executing;
-mod lexing;
-mod names;
-mod parsing;
 mod preparing;
 mod row_sink;
 mod running;
+
+pub use answers::{Done, Refusal};
+pub use connection::Connection;
+pub use row_sink::{RowSink, Took};
+pub use vm_core::Hosts;
+
 #[cfg(test)]
 mod test_sinks;
 #[cfg(test)]
@@ -26,8 +27,3 @@ mod tests_database;
 mod tests_preparing;
 #[cfg(test)]
 mod tests_running;
-
-pub use answers::{Done, Refusal};
-pub use connection::Connection;
-pub use row_sink::{RowSink, Took};
-pub use vm_core::Hosts;

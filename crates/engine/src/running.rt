@@ -1,16 +1,16 @@
 // Running a program to its end.
-ghost use Rattle.std.specs.Prelude.{◌≡◌, ◌≤◌, ◌+◌, ◌-◌, ℕ, [], None};
+ghost use Rattle.std.specs.Prelude.{IfOk, ◌≡◌, ◌≤◌, ◌+◌, ◌-◌, ℕ, [], None};
 ghost use Rattle.engine.specs.Running.{RunsAs, put_count, last_put};
 ghost use Rattle.engine.specs.Stretches.{DriveIs, NextIs, TakesOne};
 ghost use Rattle.host_traits.specs.Faults.{Rose};
 ghost use Rattle.vm_code.specs.Changes.{before};
 ghost use Rattle.vm_code.specs.Machine.{Ending, Ends, Shared, start};
 ghost use Rattle.vm_core.specs.Events.{NoneInVain};
-ghost use Rattle.vm_core.specs.Paused.{state_of};
+ghost use Rattle.vm_core.specs.Paused.{at_start, state_of};
 
 use crate::row_sink::{RowSink, Took};
-use eng_value::{Causes, Row, Steps};
-use std::alloc::Global;
+use eng_value::{Causes, Row, Steps, Value};
+use std::alloc::{AllocError, Global};
 use std::sync::ledger::Ledger;
 use vm_code::{Change, Program};
 use vm_core::{Budget, Event, Machine, Tables};
@@ -38,18 +38,19 @@ pub(crate) enum Stop {
 pub(crate) fn run_program<R: RowSink, L: Ledger>(
     alloc: Global,
     program: Program,
+    params: &[Value],
     tables: &mut Tables,
     budget: u64,
     rows: &mut R,
     steps: &mut Steps<L>,
 ) -> Result<Completed, Stop>
-    ensures runs { (most : ℕ) (e : Ending) (x : Shared) → Ends (record { prog = program }) most (start program tables.old) e x →
+    ensures runs { (most : ℕ) (e : Ending) (x : Shared) → Ends (record { prog = program }) most (start program params.now tables.old) e x →
         RunsAs e x most budget (steps.new - steps.old) tables.old tables.new (R.taken rows.old) (R.taken rows.new)
         (Rose (R.fault_count rows.old) (R.fault_count rows.new)) result }
     ensures ticks { steps.old ≤ steps.new }
     ensures faults { R.fault_count rows.old ≤ R.fault_count rows.new }
 {
-    let mut machine = match Machine::new(alloc, program) {
+    let mut machine = match machine(alloc, program, params) {
         Ok(machine) => machine,
         Err(_) => return Err(Stop::Mem),
     };
@@ -60,6 +61,13 @@ pub(crate) fn run_program<R: RowSink, L: Ledger>(
             Err(stop)
         }
     }
+}
+
+/// A machine for a program with copies of the parameters.
+fn machine(alloc: Global, program: Program, params: &[Value]) -> Result<Machine, AllocError>
+    ensures { IfOk result (λ m. m ≡ at_start program params.now) }
+{
+    Machine::new(alloc, program, Row::new(params.to_vec(alloc)?))
 }
 
 /// Runs a machine to its end and hands each row over; answers how many rows there were.

@@ -37,22 +37,15 @@ fn run_counted<L: Ledger>(
     alloc: Global,
     connection: &mut Connection,
     sql: &String,
+    params: &[Value],
     rows: &mut MemoryRows,
 ) -> Outcome
     requires name { blank.name ≡ L.name }
     requires parts { blank.parts ≡ L.parts }
     requires some { 0 < blank.parts }
 {
-    let params: Vec<Value> = Vec::new(alloc);
     let mut steps = Steps::<L>::new(blank);
-    outcome_of(connection.run(
-        alloc,
-        &mut Hosts {},
-        sql.as_str(),
-        params.as_slice(),
-        rows,
-        &mut steps,
-    ))
+    outcome_of(connection.run(alloc, &mut Hosts {}, sql.as_str(), params, rows, &mut steps))
 }
 
 fn run(
@@ -61,8 +54,19 @@ fn run(
     sql: &str,
     rows: &mut MemoryRows,
 ) -> Result<Outcome, AllocError> {
+    run_with(alloc, connection, sql, &[], rows)
+}
+
+// With parameters.
+fn run_with(
+    alloc: Global,
+    connection: &mut Connection,
+    sql: &str,
+    params: &[Value],
+    rows: &mut MemoryRows,
+) -> Result<Outcome, AllocError> {
     let sql = sql.to_string(alloc)?;
-    Ok(run_counted::<Brand>(Blank::new(1), alloc, connection, &sql, rows))
+    Ok(run_counted::<Brand>(Blank::new(1), alloc, connection, &sql, params, rows))
 }
 
 fn no_rows(alloc: Global) -> MemoryRows {
@@ -142,6 +146,13 @@ fn statements_do_what_they_mean(rt: HostRuntime) -> Result<(), Fail> {
                 changed: 0,
             },
         ),
+        (
+            "INSERT INTO t VALUES(4, 40), ('5', 50)",
+            Outcome::Done {
+                given: 0,
+                changed: 2,
+            },
+        ),
     ] {
         assert_eq!(rt;
             run(alloc, &mut connection, sql, &mut rows)?,
@@ -155,10 +166,10 @@ fn statements_do_what_they_mean(rt: HostRuntime) -> Result<(), Fail> {
     );
     assert_eq!(rt;
         contents(alloc, &connection, "T")?.as_slice(),
-        [1, 1, 10, 2, 3, 20, 3, 2, 30].as_slice()
+        [1, 1, 10, 2, 3, 20, 3, 2, 30, 4, 4, 40, 5, 5, 50].as_slice()
     );
-    assert_eq!(rt; connection.changes(), 1);
-    assert_eq!(rt; connection.last_rowid(), 3);
+    assert_eq!(rt; connection.changes(), 2);
+    assert_eq!(rt; connection.last_rowid(), 5);
     assert_eq!(rt; connection.in_transaction(), false);
     Ok(())
 }
@@ -169,15 +180,18 @@ fn a_refused_statement_changes_nothing(rt: HostRuntime) -> Result<(), Fail> {
     let mut connection = three_rows(alloc)?;
     for sql in [
         "",
-        "INSERT INTO t VALUES('seven')",
+        "INSERT INTO t VALUES(7), ('1.5')",
+        "INSERT INTO t VALUES(7), (1.5)",
         "INSERT INTO t VALUES(7, 8)",
         "INSERT INTO u VALUES(7)",
         "CREATE TABLE T(b TEXT)",
+        "CREATE TABLE u(b REAL)",
         "SELECT b FROM t WHERE a > 1",
+        "SELECT a FROM t WHERE a || x'ff'",
     ] {
         let mut rows = no_rows(alloc);
         let outcome = run(alloc, &mut connection, sql, &mut rows)?;
-        assert_eq!(rt; outcome, Outcome::Refused(Cause::NotYet.code()), "{sql}");
+        assert_eq!(rt; outcome, Outcome::Refused(1), "{sql}");
         assert_eq!(rt; rows.rows().len(), 0, "{sql}");
         assert_eq!(rt;
             contents(alloc, &connection, "t")?.as_slice(),
@@ -239,11 +253,50 @@ fn a_sink_that_takes_no_row_ends_the_statement(rt: HostRuntime) -> Result<(), Fa
     Ok(())
 }
 
-// A row of one column takes six instructions, one of two columns seven; a scan of one row takes eleven.
+// The good rows in front of a bad one come, and then the refusal.
+#[test]
+fn rows_in_front_of_a_bad_one_are_given(rt: HostRuntime) -> Result<(), Fail> {
+    let alloc = rt.alloc();
+    let mut connection = three_rows(alloc)?;
+    let mut rows = no_rows(alloc);
+    let sql = "SELECT a, CASE a WHEN 6 THEN 1.5 END FROM t";
+    let outcome = run(alloc, &mut connection, sql, &mut rows)?;
+    assert_eq!(rt; outcome, Outcome::Refused(Cause::Real.code()));
+    assert_eq!(rt;
+        integers(alloc, rows.rows())?.as_slice(),
+        [4, -1].as_slice()
+    );
+    Ok(())
+}
+
+// A parameter by its number; one that is missing is NULL.
+#[test]
+fn parameters_have_their_values(rt: HostRuntime) -> Result<(), Fail> {
+    let alloc = rt.alloc();
+    let mut connection = three_rows(alloc)?;
+    let mut rows = no_rows(alloc);
+    let params = vec![in alloc; Value::Integer(5), Value::Integer(7)]?;
+    let sql = "SELECT a, ?2, ? IS NULL FROM t WHERE a >= ?1";
+    let outcome = run_with(alloc, &mut connection, sql, &params, &mut rows)?;
+    assert_eq!(rt;
+        outcome,
+        Outcome::Done {
+            given: 2,
+            changed: 0
+        }
+    );
+    assert_eq!(rt;
+        integers(alloc, rows.rows())?.as_slice(),
+        [6, 7, 1, 5, 7, 1].as_slice()
+    );
+    Ok(())
+}
+
+// A row of one column takes eleven instructions, one of two columns fourteen; a scan of one row with a WHERE seventeen.
 #[test]
 fn a_statement_stops_at_the_budget(rt: HostRuntime) -> Result<(), Fail> {
     let alloc = rt.alloc();
-    let mut connection = Connection::new(alloc, 6);
+    let mut connection = Connection::new(alloc, 12);
     for (sql, wanted) in [
         (
             "CREATE TABLE t(a INTEGER)",
@@ -260,8 +313,8 @@ fn a_statement_stops_at_the_budget(rt: HostRuntime) -> Result<(), Fail> {
             },
         ),
         ("INSERT INTO t VALUES(7)", WROTE),
-        ("INSERT INTO u VALUES(8, 9)", Outcome::Interrupted(6)),
-        ("SELECT a FROM t WHERE a > 1", Outcome::Interrupted(6)),
+        ("INSERT INTO u VALUES(8, 9)", Outcome::Interrupted(12)),
+        ("SELECT a FROM t WHERE a > 1", Outcome::Interrupted(12)),
     ] {
         let outcome = run(alloc, &mut connection, sql, &mut no_rows(alloc))?;
         assert_eq!(rt; outcome, wanted, "{sql}");

@@ -30,7 +30,8 @@ fn run_counted<L: Ledger>(
         alloc,
         database,
         DEFAULT_BUDGET,
-        sql.as_bytes(),
+        sql.as_str(),
+        &[],
         rows,
         &mut steps,
     )
@@ -93,7 +94,7 @@ fn a_table_without_a_free_rowid_is_full(rt: HostRuntime) -> Result<(), Fail> {
         4,
         &mut rows,
     );
-    assert_eq!(rt; database.tables.len(), database.catalog.len());
+    assert_eq!(rt; database.tables.len(), database.catalog.entries().len());
     for (sql, wanted) in [
         ("INSERT INTO last VALUES(8)", ""),
         ("INSERT INTO last VALUES(9)", "table is full: Last"),

@@ -62,7 +62,7 @@ fn run_counted<L: Ledger>(
         units: Items::new(alloc),
     };
     let mut steps = Steps::<L>::new(blank);
-    outcome_of(run_program(alloc, program, tables, budget, rows, &mut steps))
+    outcome_of(run_program(alloc, program, &[], tables, budget, rows, &mut steps))
 }
 
 // Runs a main unit with three registers and a cursor.

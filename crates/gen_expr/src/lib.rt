@@ -1,12 +1,17 @@
 //! The bytecode of expressions.
 //!
 //! `emit` writes the code of an expression; its contract, `Leaves`, says that in every program that the code becomes part of it
-//! leaves the value of the expression in a register and keeps the others that are taken. What an expression's value is
-//! says sql_meaning (`value_in`). Begin with `emit`.
+//! leaves what the expression comes to in a register and keeps the others that are taken, in at most so many instructions
+//! (specs/Steps.antt). What an expression comes to says sql_meaning (`value_of`). Operands are evaluated from left to right, each
+//! once; CASE and coalesce jump past what does not count, and all other code goes straight on. Begin with `emit`; specs/Parts.antt
+//! says what the parts of its code do.
 #![tactic(auto)]
 
 mod emitting;
+mod literals;
+mod parts;
 #[cfg(test)]
 mod tests;
 
-pub use emitting::{emit, emit_literal};
+pub use emitting::emit;
+pub use literals::emit_literal;

@@ -5,8 +5,7 @@ use Rattle.std.specs.List.{join_with_byte}
 use Rattle.std.proofs.lemmas.Bool.{not-true, and_parts, cond_both}
 use Rattle.std.proofs.lemmas.List.Elements.{All-nil, All-cons, All-head, All-tail}
 use Rattle.sql_meaning.specs.Cuts.{quotes, IsClosed, IsWhole, IsCut}
-use Rattle.sql_meaning.specs.Script.{onto, texts_between, all_but_last}
-use Rattle.sql_meaning.specs.Tokens.{is_quote}
+use Rattle.sql_meaning.specs.Script.{is_quote, onto, texts_between, all_but_last}
 
 -- inside quotes or not, behind one more byte
 abbrev turned : Bool → ℕ → Bool

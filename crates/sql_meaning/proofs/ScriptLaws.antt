@@ -1,53 +1,56 @@
--- What is due for a script grows with the script.
-use Rattle.std.proofs.Common.{◌≡◌, Some, None, append-nil, ◌≢◌, ◌↔◌, Any, not, ◌&&◌, nat_eq, if◌then◌else◌, arith, ℕ, ◌-◌, List, [], ◌∷◌, ◌++◌, Bool, true, false, cond, length, take, drop, refl, sym, ◌∙◌, ap, filter, flat_map, take-append-drop}
-use Rattle.std.proofs.lemmas.Grind.{flat_map-append}
+-- The outcomes of a script that goes on, and its status.
+use Rattle.std.proofs.Common.{◌≡◌, ◌≢◌, ◌↔◌, ℕ, ◌-◌, List, [], ◌∷◌, ◌++◌, Bool, true, false, not, ◌&&◌, cond, Some, None, Any, nat_eq, if◌then◌else◌, length, take, drop, refl, sym, ◌∙◌, ap, subst, arith, filter, take-append-drop}
 use Rattle.std.specs.List.{list_any}
-use Rattle.eng_value.specs.declared.cause.Cause.{Cause}
+use Rattle.std.proofs.lemmas.List.Elements.{filter-append}
+use Rattle.std.proofs.lemmas.List.Folds.{Any-from_list_any, list_any-from_Any}
 use Rattle.eng_value.specs.HostMeanings.{HostMeanings}
-use Rattle.eng_value.specs.declared.limits.TheConstants.{MAX_SCRIPT_BYTES}
+use Rattle.eng_value.specs.declared.limits.TheConstants.{DEFAULT_BUDGET, MAX_SCRIPT_BYTES}
+use Rattle.sql_meaning.specs.declared.ending.Ending.{Ending}
 use Rattle.sql_meaning.specs.declared.ending.Ending.TheVariants.{End, ReadFault, TooLong}
-use Rattle.sql_meaning.specs.Runs.{last_state, IsFrontOf}
-use Rattle.sql_meaning.specs.Script.{onto, row_line, refusal_line, refusal_lines, ending_told, is_refused, script_status, texts_between, all_but_last, is_statement, outcomes, script_outcomes, outcome_lines, script_lines}
-use Rattle.sql_meaning.specs.Statement.{Outcome, text_outcome}
-use Rattle.sql_meaning.specs.Tokens.{is_quote}
-use Rattle.sql_meaning.specs.World.{State, new_state}
+use Rattle.sql_meaning.specs.Runs.{last_state, AreAsMeant, IsEnough, IsFrontOf}
+use Rattle.sql_meaning.specs.Script.{AreOutcomes, Came, Come, all_but_last, ending_told, is_quote, is_refused, is_statement, onto, statements_of, status_by, texts_between}
+use Rattle.sql_meaning.specs.World.{new_state}
 use Rattle.sql_meaning.proofs.CuttingLaws.{but_last, texts_between-some}
-use Rattle.sql_meaning.proofs.LookUps.{list_any-true}
-use Rattle.sql_meaning.proofs.StatementLaws.{refused_keeps}
+use Rattle.sql_meaning.proofs.OutcomeLaws.{AreAsMeant-Come, Come-append, Come-front, Come-only, Come-some}
 
--- statements run one after another: the later ones begin where the earlier ones end
-pub outcomes-append : (hosts : HostMeanings) (state : State) (xs ys : List (List ℕ)) → outcomes hosts state (xs ++ ys) ≡ outcomes hosts state xs ++ outcomes hosts (last_state state (outcomes hosts state xs)) ys
-outcomes-append hosts state [] ys = refl
-outcomes-append hosts state (x ∷ xs) ys = ap (λ os. text_outcome hosts state x ∷ os) (outcomes-append hosts (text_outcome hosts state x).next xs ys)
+-- ---- outcomes of texts
 
-filter_at : {X : Type 0} (c : Bool) (x : X) (fs gs hs : List X) → fs ≡ gs ++ hs → cond c (x ∷ fs) fs ≡ cond c (x ∷ gs) gs ++ hs
-filter_at true x fs gs hs e = ap (λ zs. x ∷ zs) e
-filter_at false x fs gs hs e = e
+-- the outcomes of texts from no tables on, where those of white space alone are left out
+abbrev AreOf : HostMeanings → List (List ℕ) → List Came → Type 0
+AreOf hosts texts os = Come hosts DEFAULT_BUDGET new_state (filter is_statement texts) os
 
-filter-append : {X : Type 0} (p : X → Bool) (xs ys : List X) → filter p (xs ++ ys) ≡ filter p xs ++ filter p ys
-filter-append p [] ys = refl
-filter-append p (x ∷ xs) ys = filter_at (p x) x (filter p (xs ++ ys)) (filter p xs) (filter p ys) (filter-append p xs ys)
+-- the outcomes go on where the texts do
+goes_on : (hosts : HostMeanings) (xs ys all : List (List ℕ)) (os : List Came) → xs ++ ys ≡ all → AreOf hosts xs os → (more : List Came) × AreOf hosts all (os ++ more)
+goes_on hosts xs ys all os e c =
+    let rest = filter is_statement ys in
+    let more = Come-some hosts DEFAULT_BUDGET (last_state new_state os) rest in (
+      more.0,
+      subst (λ ts. AreOf hosts ts (os ++ more.0)) e
+          (subst (λ ts. Come hosts DEFAULT_BUDGET new_state ts (os ++ more.0)) (sym (filter-append is_statement xs ys))
+          (Come-append hosts DEFAULT_BUDGET new_state (filter is_statement xs) rest os more.0 c more.1)),
+    )
 
--- the lines of texts that are due
-abbrev lines_of : HostMeanings → State → List (List ℕ) → List ℕ
-lines_of hosts state texts = flat_map outcome_lines (outcomes hosts state (filter is_statement texts))
+-- and the texts in front have outcomes in front
+begins : (hosts : HostMeanings) (xs ys all : List (List ℕ)) (os : List Came) → xs ++ ys ≡ all → AreOf hosts all os → (front : List Came) × AreOf hosts xs front × IsFrontOf front os
+begins hosts xs ys all os e c =
+    Come-front hosts DEFAULT_BUDGET new_state (filter is_statement xs) (filter is_statement ys) os
+    (subst (λ ts. Come hosts DEFAULT_BUDGET new_state ts os) (filter-append is_statement xs ys) (subst (λ ts. AreOf hosts ts os) (sym e) c))
 
-lines-append : (hosts : HostMeanings) (state : State) (xs ys : List (List ℕ)) → IsFrontOf (lines_of hosts state xs) (lines_of hosts state (xs ++ ys))
-lines-append hosts state xs ys =
-    let done = outcomes hosts state (filter is_statement xs) in
-    let more = outcomes hosts (last_state state done) (filter is_statement ys) in
-    let all : outcomes hosts state (filter is_statement (xs ++ ys)) ≡ done ++ more = ap (outcomes hosts state) (filter-append is_statement xs ys) ∙ outcomes-append hosts state (filter is_statement xs) (filter is_statement ys) in
-    (flat_map outcome_lines more, sym (ap (flat_map outcome_lines) all ∙ flat_map-append outcome_lines done more))
+-- ---- each script has outcomes
 
-lines_front : (hosts : HostMeanings) (xs ys all : List (List ℕ)) → xs ++ ys ≡ all → IsFrontOf (lines_of hosts new_state xs) (lines_of hosts new_state all)
-lines_front hosts xs ys all e = rw (← e) (lines-append hosts new_state xs ys)
+pub AreOutcomes-some : (hosts : HostMeanings) (bytes : List ℕ) (ending : Ending) → (os : List Came) × AreOutcomes hosts bytes ending os
+unfolding AreOutcomes
+AreOutcomes-some hosts bytes ending = Come-some hosts DEFAULT_BUDGET new_state (statements_of bytes ending)
 
--- what is due before a read fault is a front of what is due at the end
-pub script_lines-ReadFault : (hosts : HostMeanings) (bytes : List ℕ) → IsFrontOf (script_lines hosts bytes ReadFault) (script_lines hosts bytes End)
-unfolding script_lines script_outcomes
-script_lines-ReadFault hosts bytes =
-    let texts = texts_between false bytes in
-    lines_front hosts (all_but_last texts) (drop (length texts - 1) texts) texts (take-append-drop (length texts - 1) texts)
+-- what its statements mean is among them
+pub AreOutcomes-meant : (hosts : HostMeanings) (bytes : List ℕ) (ending : Ending) (os : List Came) → AreAsMeant hosts new_state (statements_of bytes ending) os → AreOutcomes hosts bytes ending os
+unfolding AreOutcomes
+AreOutcomes-meant hosts bytes ending os c = AreAsMeant-Come hosts DEFAULT_BUDGET new_state (statements_of bytes ending) os c
+
+-- and nothing else is, where the budget is enough for each
+pub AreOutcomes-only : (hosts : HostMeanings) (bytes : List ℕ) (ending : Ending) (os : List Came) → IsEnough hosts DEFAULT_BUDGET new_state (statements_of bytes ending) → AreOutcomes hosts bytes ending os → AreAsMeant hosts new_state (statements_of bytes ending) os
+unfolding AreOutcomes
+AreOutcomes-only hosts bytes ending os enough c = Come-only hosts DEFAULT_BUDGET new_state (statements_of bytes ending) os enough c
 
 -- ---- a script that goes on
 
@@ -87,18 +90,32 @@ all_but_last-append (x ∷ []) [] some = absurd (some refl)
 all_but_last-append (x ∷ []) (y ∷ ys) some = but_last x y ys
 all_but_last-append (x ∷ x' ∷ xs) ys some = but_last x x' (xs ++ ys) ∙ ap (λ ts. x ∷ ts) (all_but_last-append (x' ∷ xs) ys some)
 
--- what is due before a read fault stays due, whatever the script goes on with
-pub script_lines-append : (hosts : HostMeanings) (bytes more : List ℕ) → IsFrontOf (script_lines hosts bytes ReadFault) (script_lines hosts (bytes ++ more) ReadFault)
-unfolding script_lines script_outcomes
-script_lines-append hosts bytes more =
+-- what came before a read fault may go on to the end
+pub AreOutcomes-ReadFault : (hosts : HostMeanings) (bytes : List ℕ) (os : List Came) → AreOutcomes hosts bytes ReadFault os → (more : List Came) × AreOutcomes hosts bytes End (os ++ more)
+unfolding AreOutcomes
+AreOutcomes-ReadFault hosts bytes os c =
+    let texts = texts_between false bytes in
+    goes_on hosts (all_but_last texts) (drop (length texts - 1) texts) texts os (take-append-drop (length texts - 1) texts) c
+
+-- and what came at the end began so
+pub AreOutcomes-End : (hosts : HostMeanings) (bytes : List ℕ) (os : List Came) → AreOutcomes hosts bytes End os → (front : List Came) × AreOutcomes hosts bytes ReadFault front × IsFrontOf front os
+unfolding AreOutcomes
+AreOutcomes-End hosts bytes os c =
+    let texts = texts_between false bytes in
+    begins hosts (all_but_last texts) (drop (length texts - 1) texts) texts os (take-append-drop (length texts - 1) texts) c
+
+-- what came before a read fault may go on, whatever the script goes on with
+pub AreOutcomes-append : (hosts : HostMeanings) (bytes more : List ℕ) (os : List Came) → AreOutcomes hosts bytes ReadFault os → (others : List Came) × AreOutcomes hosts (bytes ++ more) ReadFault (os ++ others)
+unfolding AreOutcomes
+AreOutcomes-append hosts bytes more os c =
     let g = texts_between-grows false bytes more in
     let front = all_but_last (texts_between false bytes) in
-    lines_front hosts front (all_but_last g.0) (all_but_last (texts_between false (bytes ++ more))) (sym (all_but_last-append front g.0 g.2) ∙ ap all_but_last g.1)
+    goes_on hosts front (all_but_last g.0) (all_but_last (texts_between false (bytes ++ more))) os (sym (all_but_last-append front g.0 g.2) ∙ ap all_but_last g.1) c
 
 -- past the limit no byte is looked at
-pub script_lines-TooLong : (hosts : HostMeanings) (bytes : List ℕ) → script_lines hosts bytes TooLong ≡ script_lines hosts (take MAX_SCRIPT_BYTES bytes) ReadFault
-unfolding script_lines script_outcomes
-script_lines-TooLong hosts bytes = refl
+pub AreOutcomes-TooLong : (hosts : HostMeanings) (bytes : List ℕ) (os : List Came) → AreOutcomes hosts bytes TooLong os ↔ AreOutcomes hosts (take MAX_SCRIPT_BYTES bytes) ReadFault os
+unfolding AreOutcomes
+AreOutcomes-TooLong hosts bytes os = (λ c. c, λ c. c)
 
 -- ---- the status
 
@@ -110,42 +127,25 @@ one_or_zero true = (λ e. refl, λ e. refl)
 one_or_zero false = (λ e. absurd (omega arith), λ e. cc)
 
 -- at the end the status is 1 exactly where a statement was refused
-pub script_status-End : (hosts : HostMeanings) (bytes : List ℕ) → (script_status hosts bytes End ≡ 1) ↔ Any (λ o. is_refused o ≡ true) (script_outcomes hosts bytes End)
-unfolding script_status
-script_status-End hosts bytes =
-    let some = one_or_zero (list_any is_refused (script_outcomes hosts bytes End)) in
-    let one = list_any-true is_refused (script_outcomes hosts bytes End) in
-    (λ e. one.0 (some.0 e), λ a. some.1 (one.1 a))
+pub status_by-End : (os : List Came) → (status_by End os ≡ 1) ↔ Any (λ o. is_refused o ≡ true) os
+unfolding status_by
+status_by-End os =
+    let some = one_or_zero (list_any is_refused os) in
+    (λ e. Any-from_list_any is_refused os (some.0 e), λ a. some.1 (list_any-from_Any is_refused os a))
 
 told : (b : Bool) → ending_told (bit b) ≡ Some End
 told true = refl
 told false = refl
 
 -- the status tells of the ending, but of a read fault
-pub ending_told-End : (hosts : HostMeanings) (bytes : List ℕ) → ending_told (script_status hosts bytes End) ≡ Some End
-unfolding script_status
-ending_told-End hosts bytes = told (list_any is_refused (script_outcomes hosts bytes End))
+pub ending_told-End : (os : List Came) → ending_told (status_by End os) ≡ Some End
+unfolding status_by
+ending_told-End os = told (list_any is_refused os)
 
-pub ending_told-TooLong : (hosts : HostMeanings) (bytes : List ℕ) → (script_status hosts bytes TooLong ≡ 5) × (ending_told (script_status hosts bytes TooLong) ≡ Some TooLong)
-unfolding script_status
-ending_told-TooLong hosts bytes = (refl, refl)
+pub ending_told-TooLong : (os : List Came) → (status_by TooLong os ≡ 5) × (ending_told (status_by TooLong os) ≡ Some TooLong)
+unfolding status_by
+ending_told-TooLong os = (refl, refl)
 
-pub ending_told-ReadFault : (hosts : HostMeanings) (bytes : List ℕ) → (script_status hosts bytes ReadFault ≡ 3) × (ending_told (script_status hosts bytes ReadFault) ≡ None)
-unfolding script_status
-ending_told-ReadFault hosts bytes = (refl, refl)
-
--- ---- the lines of a statement
-
-lines_refused : (o : Outcome) (c : Cause) → o.refusal ≡ Some c → o.given ≡ [] → outcome_lines o ≡ refusal_line c
-lines_refused o c e g = rw (e, g)
-
-lines_done : (o : Outcome) → o.refusal ≡ None → outcome_lines o ≡ flat_map row_line o.given
-lines_done o e = ap (λ r. flat_map row_line o.given ++ refusal_lines r) e ∙ append-nil (flat_map row_line o.given)
-
--- a refused statement writes the line of its refusal alone
-pub outcome_lines-refused : (hosts : HostMeanings) (state : State) (text : List ℕ) (c : Cause) → (text_outcome hosts state text).refusal ≡ Some c → outcome_lines (text_outcome hosts state text) ≡ refusal_line c
-outcome_lines-refused hosts state text c e = lines_refused (text_outcome hosts state text) c e (refused_keeps hosts state text c e).1
-
--- and any other a line for each row that it gives
-pub outcome_lines-done : (hosts : HostMeanings) (state : State) (text : List ℕ) → (text_outcome hosts state text).refusal ≡ None → outcome_lines (text_outcome hosts state text) ≡ flat_map row_line (text_outcome hosts state text).given
-outcome_lines-done hosts state text e = lines_done (text_outcome hosts state text) e
+pub ending_told-ReadFault : (os : List Came) → (status_by ReadFault os ≡ 3) × (ending_told (status_by ReadFault os) ≡ None)
+unfolding status_by
+ending_told-ReadFault os = (refl, refl)

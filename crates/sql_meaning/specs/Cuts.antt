@@ -1,8 +1,7 @@
 -- How a script is cut into texts, said of the texts.
 use Rattle.std.specs.Prelude.{◌≡◌, ◌≢◌, ℕ, ◌%◌, List, [], Some, All, length, take, slice_get}
 use Rattle.std.specs.List.{filter, join_with_byte}
-use Rattle.sql_meaning.specs.Script.{all_but_last}
-use Rattle.sql_meaning.specs.Tokens.{is_quote}
+use Rattle.sql_meaning.specs.Script.{all_but_last, is_quote}
 
 -- how many quotes stand in it
 abbrev pub quotes : List ℕ → ℕ

@@ -6,7 +6,7 @@ use Rattle.eng_value.specs.HostMeanings.{HostMeanings}
 use Rattle.eng_value.specs.declared.limits.TheConstants.{MAX_SCRIPT_BYTES}
 use Rattle.sql_meaning.specs.declared.ending.Ending.{Ending}
 use Rattle.sql_meaning.specs.declared.ending.Ending.TheVariants.{End, ReadFault, TooLong}
-use Rattle.sql_meaning.specs.Script.{script_lines, script_status}
+use Rattle.sql_meaning.specs.Script.{Came, AreOutcomes, lines_of, status_by}
 
 -- a source that tells had these bytes in front of what it has left
 abbrev pub IsRead : Option (List ℕ) → Option (List ℕ) → List ℕ → Type 0
@@ -32,11 +32,17 @@ MayEnd bytes left End = IsAtEnd left
 MayEnd bytes left ReadFault = ⊤
 MayEnd bytes left TooLong = length bytes ≡ MAX_SCRIPT_BYTES + 1
 
--- all that is due for these bytes was written, and the status is theirs
+-- the statements of these bytes came to some outcomes; their lines were written, and the status is theirs
 pub record IsScript (hosts : HostMeanings) (bytes : List ℕ) (ending : Ending) (old new : Option (List ℕ)) (status : ℕ) : Type 0 where
-  pub lines : Appends old new (script_lines hosts bytes ending)
-  pub result : status ≡ script_status hosts bytes ending
+  pub came : List Came
+  pub outcomes : AreOutcomes hosts bytes ending came
+  pub lines : Appends old new (lines_of came)
+  pub result : status ≡ status_by ending came
 
--- a front of what is due for these bytes was written
-abbrev pub IsFrontOfScript : HostMeanings → List ℕ → Option (List ℕ) → Option (List ℕ) → Option (List ℕ) → Type 0
-IsFrontOfScript hosts bytes left old new = (ending : Ending) × MayEnd bytes left ending × CutShort old new (script_lines hosts bytes ending)
+-- a front of the lines of outcomes to which the statements of these bytes can come was written
+pub record IsFrontOfScript (hosts : HostMeanings) (bytes : List ℕ) (left old new : Option (List ℕ)) : Type 0 where
+  pub ending : Ending
+  pub may_end : MayEnd bytes left ending
+  pub came : List Came
+  pub outcomes : AreOutcomes hosts bytes ending came
+  pub front : CutShort old new (lines_of came)

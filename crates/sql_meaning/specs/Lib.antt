@@ -1,18 +1,18 @@
 -- in the order in which they are read
 pub mod Names
-pub mod Tokens
-pub mod Layout
-pub mod Grammar
-pub mod Spelling
+pub mod Spelled
 pub mod World
-pub mod NotYet
-pub mod Validity
-pub mod Statement
+pub mod Binding
+pub mod Built
 pub mod Expression
+pub mod Clauses
+pub mod Statement
 pub mod Work
-pub mod Effects
+pub mod Sizes
 pub mod Script
 pub mod Cuts
-pub mod Runs
 pub mod Due
+pub mod Runs
 pub mod Examples
+pub mod BindingClauses
+pub mod QueryExamples

@@ -1,8 +1,7 @@
--- Names and reserved words. Neither regards the case of ASCII letters.
+-- Names. They do not regard the case of ASCII letters.
 use Rattle.std.specs.Prelude.{◌≡◌, ℕ, List, Bool, true, false, codes, refl, take}
 use Rattle.std.specs.List.{list_any}
 use Rattle.std.specs.Str.{str_eq_ignore_ascii_case}
-use Rattle.sql_meaning.specs.declared.token.TheConstants.{RESERVED_WORDS}
 
 -- two names name one thing
 abbrev pub is_same_name : List ℕ → List ℕ → Bool
@@ -12,22 +11,12 @@ is_same_name a b = str_eq_ignore_ascii_case a b
 abbrev pub is_named_in : List (List ℕ) → List ℕ → Bool
 is_named_in names name = list_any (λ n. is_same_name n name) names
 
--- the word is no name
-abbrev pub is_reserved_word : List ℕ → Bool
-is_reserved_word word = list_any (λ r. is_same_name r.now word) RESERVED_WORDS
-
 -- no created thing bears such a name: it begins with `sqlite_`
 abbrev pub is_reserved_name : List ℕ → Bool
 is_reserved_name name = is_same_name (take 7 name) (codes "sqlite_")
 
 names_by_letters : is_same_name (codes "Total_7") (codes "tOTAL_7") ≡ true
 names_by_letters = refl
-
-where_is_reserved : is_reserved_word (codes "Where") ≡ true
-where_is_reserved = refl
-
-integer_is_a_name : is_reserved_word (codes "INTEGER") ≡ false
-integer_is_a_name = refl
 
 begins_reserved : is_reserved_name (codes "SQLite_master") ≡ true
 begins_reserved = refl

@@ -1,22 +1,33 @@
 -- What a script writes, and its status.
-use Rattle.std.specs.Prelude.{ℕ, ◌+◌, ◌-◌, List, [], ◌∷◌, ◌++◌, take, length, Bool, false, nat_eq, nat_lt, not, ◌&&◌, if◌then◌else◌, map, is_some, Some, None, codes}
+use Rattle.std.specs.Prelude.{◌≡◌, ◌<◌, ℕ, ◌+◌, ◌-◌, List, [], ◌∷◌, ◌++◌, take, length, Bool, true, false, ⊤, nat_eq, nat_lt, not, ◌&&◌, ◌||◌, if◌then◌else◌, map, is_some, Some, None, codes}
 use Rattle.std.specs.List.{filter, flat_map, list_any, join_with_byte}
 use Rattle.std.specs.Fmt.{decimal, signed_decimal}
 use Rattle.std.specs.declared.option.Option.{Option}
+use Rattle.eng_value.specs.Causes.{CauseSet, has_cause}
 use Rattle.eng_value.specs.CauseText.{code_of, text_of}
 use Rattle.eng_value.specs.HostMeanings.{HostMeanings}
 use Rattle.eng_value.specs.declared.cause.Cause.{Cause}
 use Rattle.eng_value.specs.declared.value.Value.{Value}
 use Rattle.eng_value.specs.declared.value.Value.TheVariants.{Null, Integer, Text, Blob}
-use Rattle.eng_value.specs.declared.limits.TheConstants.{MAX_SCRIPT_BYTES}
+use Rattle.eng_value.specs.declared.cause.Cause.TheVariants.{Interrupted}
+use Rattle.eng_value.specs.declared.limits.TheConstants.{DEFAULT_BUDGET, MAX_SCRIPT_BYTES}
 use Rattle.sql_meaning.specs.declared.ending.Ending.{Ending}
 use Rattle.sql_meaning.specs.declared.ending.Ending.TheVariants.{End, ReadFault, TooLong}
-use Rattle.sql_meaning.specs.Tokens.{is_space, is_quote, is_semicolon}
 use Rattle.sql_meaning.specs.World.{State, new_state}
 use Rattle.sql_meaning.specs.Statement.{Outcome, text_outcome}
 use Rattle.sql_meaning.specs.Work.{instruction_bound}
 
 -- ---- the statements of a script
+
+-- space, tab, LF, FF, CR
+abbrev pub is_space : ℕ → Bool
+is_space b = nat_eq b 32 || nat_eq b 9 || nat_eq b 10 || nat_eq b 12 || nat_eq b 13
+
+abbrev pub is_quote : ℕ → Bool
+is_quote b = nat_eq b 39
+
+abbrev pub is_semicolon : ℕ → Bool
+is_semicolon b = nat_eq b 59
 
 -- a byte in front of the first text
 abbrev pub onto : ℕ → List (List ℕ) → List (List ℕ)
@@ -54,24 +65,52 @@ is_statement text = list_any (λ b. not (is_space b)) text
 abbrev pub statements_of : List ℕ → Ending → List (List ℕ)
 statements_of bytes ending = filter is_statement (due_of ending (texts_between false (looked_at ending bytes)))
 
--- the outcomes of statements that run one after another
-abbrev pub outcomes : HostMeanings → State → List (List ℕ) → List Outcome
-outcomes hosts state [] = []
-outcomes hosts state (text ∷ texts) = text_outcome hosts state text ∷ outcomes hosts (text_outcome hosts state text).next texts
+-- ---- what they come to
 
--- the outcomes of a script's statements, from no tables on
-unfoldable pub script_outcomes : HostMeanings → List ℕ → Ending → List Outcome
-script_outcomes hosts bytes ending = outcomes hosts new_state (statements_of bytes ending)
+-- what a run of a statement came to: the cause that was named, if it was refused, the rows that it gave, and what the connection then holds
+pub record Came : Type 0 where
+  pub refusal : Option Cause
+  pub given : List (List Value)
+  pub next : State
 
--- the most instructions of statements that run one after another
-abbrev pub bound_together : HostMeanings → State → List (List ℕ) → ℕ
-bound_together hosts state [] = 0
-bound_together hosts state (text ∷ texts) =
-    instruction_bound state text + bound_together hosts (text_outcome hosts state text).next texts
+-- one of the causes is named
+abbrev pub IsNamed : Option CauseSet → Option Cause → Type 0
+IsNamed None None = ⊤
+IsNamed (Some causes) (Some why) = has_cause causes why ≡ true
+IsNamed _ _ = ⊥
+
+abbrev pub as_named : Outcome → Option Cause → Came
+as_named o why = record { refusal = why; given = o.given; next = o.next }
+
+-- a statement that used its budget up gave a front of its rows, and changed nothing
+abbrev pub interrupted : State → ℕ → List (List Value) → Came
+interrupted state budget front = record { refusal = Some (Interrupted budget); given = front; next = state }
+
+-- a statement comes to what it means; or it is interrupted behind a front of its rows, but never where the budget is enough for its size and its work
+pub data Comes (hosts : HostMeanings) (budget : ℕ) (state : State) (text : List ℕ) : Came → Type 0 where
+  as_meant : (why : Option Cause) → IsNamed (text_outcome hosts state [] text).refusal why → Comes hosts budget state text (as_named (text_outcome hosts state [] text) why)
+  cut_off : (front rest : List (List Value)) → front ++ rest ≡ (text_outcome hosts state [] text).given → budget < instruction_bound state text
+      → Comes hosts budget state text (interrupted state budget front)
+
+-- statements come to these, one after another
+abbrev pub Come : HostMeanings → ℕ → State → List (List ℕ) → List Came → Type 0
+Come hosts budget state [] os = os ≡ []
+Come hosts budget state (text ∷ texts) [] = ⊥
+Come hosts budget state (text ∷ texts) (o ∷ os) = Comes hosts budget state text o × Come hosts budget o.next texts os
+
+-- the statements of a script come to these outcomes, from no tables on
+unfoldable pub AreOutcomes : HostMeanings → List ℕ → Ending → List Came → Type 0
+AreOutcomes hosts bytes ending os = Come hosts DEFAULT_BUDGET new_state (statements_of bytes ending) os
+
+-- the most instructions of statements that came to these outcomes
+abbrev pub bound_together : State → List (List ℕ) → List Came → ℕ
+bound_together state [] os = 0
+bound_together state (text ∷ texts) [] = instruction_bound state text
+bound_together state (text ∷ texts) (o ∷ os) = instruction_bound state text + bound_together o.next texts os
 
 -- the most instructions of a script's statements
-unfoldable pub script_bound : HostMeanings → List ℕ → Ending → ℕ
-script_bound hosts bytes ending = bound_together hosts new_state (statements_of bytes ending)
+unfoldable pub script_bound : List ℕ → Ending → List Came → ℕ
+script_bound bytes ending os = bound_together new_state (statements_of bytes ending) os
 
 -- ---- what is written
 
@@ -101,24 +140,24 @@ refusal_lines None = []
 refusal_lines (Some why) = refusal_line why
 
 -- a line for each row that is given, and then the line of the refusal
-abbrev pub outcome_lines : Outcome → List ℕ
-outcome_lines o = flat_map row_line o.given ++ refusal_lines o.refusal
+abbrev pub came_lines : Came → List ℕ
+came_lines o = flat_map row_line o.given ++ refusal_lines o.refusal
 
-abbrev pub is_refused : Outcome → Bool
+abbrev pub is_refused : Came → Bool
 is_refused o = is_some o.refusal
 
--- the lines that are due for these bytes
-unfoldable pub script_lines : HostMeanings → List ℕ → Ending → List ℕ
-script_lines hosts bytes ending = flat_map outcome_lines (script_outcomes hosts bytes ending)
+-- the lines of outcomes
+unfoldable pub lines_of : List Came → List ℕ
+lines_of os = flat_map came_lines os
 
 abbrev pub status_of : Ending → Bool → ℕ
 status_of End refused = if refused then 1 else 0
 status_of ReadFault refused = 3
 status_of TooLong refused = 5
 
--- the exit status for these bytes: 1 where the line of a refusal was due
-unfoldable pub script_status : HostMeanings → List ℕ → Ending → ℕ
-script_status hosts bytes ending = status_of ending (list_any is_refused (script_outcomes hosts bytes ending))
+-- the exit status: 1 where the line of a refusal was due
+unfoldable pub status_by : Ending → List Came → ℕ
+status_by ending os = status_of ending (list_any is_refused os)
 
 -- the ending that a status tells of: 0 and 1 of the end, 5 of a byte past the limit
 abbrev pub ending_told : ℕ → Option Ending

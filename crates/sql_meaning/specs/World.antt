@@ -6,13 +6,8 @@ use Rattle.std.specs.declared.option.Option.{Option}
 use Rattle.eng_value.specs.StoredRows.{StoredRow}
 use Rattle.eng_value.specs.declared.value.Value.{Value}
 use Rattle.eng_value.specs.declared.value.Value.TheVariants.{Integer}
-use Rattle.sql_meaning.specs.declared.statement.Column.{Column}
+use Rattle.sql_meaning.specs.declared.column.TableEntry.{TableEntry}
 use Rattle.sql_meaning.specs.Names.{is_same_name}
-
--- what the catalog keeps of a table: its name and its columns as declared
-pub record TableEntry : Type 0 where
-  pub name : List ℕ
-  pub columns : List Column
 
 -- a world: the catalog, oldest entry first, and a finite map from the tables' names to their rows by ascending rowid
 pub record World : Type 0 where

@@ -1,13 +1,73 @@
-// Expressions whose names are bound.
-use crate::Literal;
-use eng_value::CompareOp;
-use sqlite_items::Boxed;
+// Expressions and statements whose names are bound.
+use eng_value::{
+    Affinity, BinaryOperator, Built, Builtin, Cause, Sides, Text, UnaryOperator, Value,
+};
+use sqlite_items::{Boxed, Items};
+
+/// What a literal stands for: a value, or why it has none.
+#[derive(Debug, Drop)]
+pub enum Literal {
+    Value(Value),
+    Bad(Cause),
+}
 
 /// An expression over the rows of a FROM, with columns by their places.
+#[cycle(bound)]
 #[derive(Debug, Drop)]
 pub enum BoundExpr {
     Literal(Literal),
     /// A column of an item of the FROM: the item's place, leftmost 0, and the column's place in it.
     Column { item: u32, column: u32 },
-    Compare(CompareOp, Boxed<BoundExpr>, Boxed<BoundExpr>),
+    /// The parameter of this number, from 1 on.
+    Parameter(u32),
+    Unary(UnaryOperator, Boxed<BoundExpr>),
+    Binary(BinaryOperator, Boxed<BoundExpr>, Boxed<BoundExpr>),
+    /// `a LIKE b ESCAPE c`
+    LikeEscaped(Boxed<BoundExpr>, Boxed<BoundExpr>, Boxed<BoundExpr>),
+    /// `a BETWEEN b AND c`, with the sides of `a >= b` and of `a <= c`.
+    Between(Sides, Sides, Boxed<BoundExpr>, Boxed<BoundExpr>, Boxed<BoundExpr>),
+    /// `a IN (b, ..)`, where each is compared with `a` so.
+    In(Sides, Boxed<BoundExpr>, Items<BoundExpr>),
+    /// The first that is not NULL.
+    Coalesce(Items<BoundExpr>),
+    /// The value of the first arm whose condition is true, else the last one.
+    Choose(Items<BoundArm>, Boxed<BoundExpr>),
+    /// The value of the first arm whose operand is equal to the first expression, else the last one.
+    Match(Boxed<BoundExpr>, Items<BoundMatch>, Boxed<BoundExpr>),
+    /// A built-in function, which compares texts under the collation.
+    Call(Builtin, Built, Items<BoundExpr>),
+}
+
+/// `WHEN condition THEN value`
+#[cycle(bound)]
+#[derive(Debug, Drop)]
+pub struct BoundArm {
+    pub condition: BoundExpr,
+    pub value: BoundExpr,
+}
+
+/// `WHEN operand THEN value`, where the operand is compared so.
+#[cycle(bound)]
+#[derive(Debug, Drop)]
+pub struct BoundMatch {
+    pub sides: Sides,
+    pub operand: BoundExpr,
+    pub value: BoundExpr,
+}
+
+/// Rows of literals for the table in a place of the catalog: its name as declared, and the affinities of its columns.
+#[derive(Debug, Drop)]
+pub struct BoundInsert {
+    pub table: u32,
+    pub name: Text,
+    pub affinities: Items<Affinity>,
+    pub rows: Items<Items<Literal>>,
+}
+
+/// A query over the table in a place of the catalog, or over none: what each row has to pass, and what is shown of it.
+#[derive(Debug, Drop)]
+pub struct BoundSelect {
+    pub table: Option<u32>,
+    pub conjuncts: Items<BoundExpr>,
+    pub results: Items<BoundExpr>,
 }

@@ -2,8 +2,7 @@
 use Rattle.std.proofs.Common.{◌≡◌, ℕ, Bool, true, false, List, [], ◌∷◌, ◌++◌, refl, sym, ◌∙◌, ap, append_assoc, append-nil, take, drop, get_or, length, ◌<◌, ◌≤◌, ◌+◌, ◌-◌}
 use Rattle.std.proofs.lemmas.List.{drop_more, take_more, take_all, drop_all, take_rest, drop-drop}
 use Rattle.std.specs.Prelude.{nat_eq, not, ◌&&◌, cond}
-use Rattle.sql_meaning.specs.Script.{onto, texts_between}
-use Rattle.sql_meaning.specs.Tokens.{is_quote}
+use Rattle.sql_meaning.specs.Script.{is_quote, onto, texts_between}
 
 -- the texts, where the first has begun with these bytes
 abbrev pub begun : List ℕ → List (List ℕ) → List (List ℕ)

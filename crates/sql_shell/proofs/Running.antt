@@ -1,37 +1,187 @@
--- The outcomes of a script's texts, one after another.
-use Rattle.std.proofs.Common.{◌≡◌, ◌≢◌, ◌≤◌, ℕ, ◌+◌, ◌-◌, suc, Bool, true, false, List, [], ◌∷◌, ◌++◌, length, take, refl, sym, ◌∙◌, ap, subst, append-nil, arith}
-use Rattle.std.specs.Prelude.{cond, ◌||◌}
-use Rattle.std.specs.List.{filter}
+-- What statements came to, one after another.
+use Rattle.std.proofs.Common.{◌≡◌, ◌≢◌, ◌≤◌, ◌⊎◌, inl, inr, ℕ, ◌+◌, ◌-◌, suc, Bool, true, false, ◌||◌, List, [], ◌∷◌, ◌++◌, length, take, filter, refl, sym, ◌∙◌, ap, subst, append-nil, append_assoc, arith}
+use Rattle.std.specs.Prelude.{cond, is_some}
+use Rattle.std.specs.List.{flat_map, list_any}
+use Rattle.std.proofs.KnownBytes.{Appends-nil, Appends-trans}
 use Rattle.std.proofs.lemmas.Grind.{flat_map-append}
+use Rattle.std.proofs.lemmas.List.Elements.{filter-append}
 use Rattle.std.specs.declared.option.Option.{Option}
 use Rattle.std.specs.Io.KnownBytes.{Appends}
 use Rattle.eng_value.specs.HostMeanings.{HostMeanings}
+use Rattle.eng_value.specs.declared.cause.Cause.{Cause}
+use Rattle.eng_value.specs.declared.limits.TheConstants.{DEFAULT_BUDGET}
+use Rattle.eng_value.specs.declared.value.Value.{Value}
 use Rattle.sql_meaning.specs.declared.ending.Ending.{Ending}
 use Rattle.sql_meaning.specs.declared.ending.Ending.TheVariants.{End, ReadFault, TooLong}
 use Rattle.sql_meaning.specs.Due.{Along, CutShort}
-use Rattle.sql_meaning.specs.Script.{all_but_last, bound_together, due_of, is_refused, is_statement, outcome_lines, outcomes, texts_between}
-use Rattle.sql_meaning.specs.Statement.{Outcome, text_outcome}
-use Rattle.sql_meaning.specs.Validity.{IsWithin}
+use Rattle.sql_meaning.specs.Runs.{last_state}
+use Rattle.sql_meaning.specs.Script.{Came, Come, all_but_last, bound_together, came_lines, due_of, is_refused, is_statement, lines_of, refusal_lines, row_line, texts_between}
 use Rattle.sql_meaning.specs.Work.{instruction_bound}
-use Rattle.sql_meaning.specs.World.{State}
-use Rattle.sql_shell.specs.Running.{lines_of, some_refused, outcomes_of_text, outcomes_of_rest, outcomes_of_pending, statements_in_pending, statements_in_rest, statements_in_text, state_behind}
+use Rattle.sql_meaning.specs.World.{State, new_state}
+use Rattle.sql_shell.specs.Running.{CameTo, Ran, RanPartly, statements_in_pending, statements_in_rest, statements_in_text}
 use Rattle.sql_meaning.proofs.CuttingLaws.{texts_between-some}
-use Rattle.sql_meaning.proofs.WithinLaws.{IsWithin-more, text_outcome-within}
-use Rattle.sql_shell.proofs.Due.{along_more, along_end, cut_more}
+use Rattle.sql_meaning.proofs.OutcomeLaws.{Come-append, Come-some, Comes-some, bound_together-append, last_state-append}
+use Rattle.sql_shell.proofs.Due.{along_start, along_more, cut_at_start, cut_more, cut_short}
 
--- ---- one text
+-- ---- lines
 
-lines_of_one : (b : Bool) (h : HostMeanings) (s : State) (t : List ℕ) → b ≡ true → lines_of (outcomes h s (cond b (t ∷ []) [])) ≡ outcome_lines (text_outcome h s t) ++ []
-lines_of_one b h s t e = ap (λ c. lines_of (outcomes h s (cond c (t ∷ []) []))) e
+lines_of-append : (os ps : List Came) → lines_of (os ++ ps) ≡ lines_of os ++ lines_of ps
+unfolding lines_of
+lines_of-append os ps = flat_map-append came_lines os ps
 
--- what is written of the lines that were printed from nothing is a front of what the text comes to
-pub cut_in_text : (u v : Option (List ℕ)) (h : HostMeanings) (s : State) (t start lines piece : List ℕ) → is_statement t ≡ true → start ≡ [] → lines ≡ start ++ outcome_lines (text_outcome h s t) → piece ≡ lines → CutShort u v piece → CutShort u v (lines_of (outcomes_of_text h s t))
-cut_in_text u v h s t start lines piece statement e printed same p =
-    let due = outcome_lines (text_outcome h s t) in
-    let whole : piece ≡ due = same ∙ (printed ∙ ap (λ front. front ++ due) e) in
-    subst (λ all. CutShort u v all) (whole ∙ (sym (append-nil due) ∙ sym (lines_of_one (is_statement t) h s t statement))) p
+lines_of-none : lines_of [] ≡ []
+unfolding lines_of
+lines_of-none = refl
 
--- ---- from one text to the next
+lines_of-one : (o : Came) → lines_of (o ∷ []) ≡ came_lines o
+unfolding lines_of
+lines_of-one o = append-nil (came_lines o)
+
+-- a front of them is a front of more
+front_of_more : (u v : Option (List ℕ)) (os ps : List Came) → CutShort u v (lines_of os) → CutShort u v (lines_of (os ++ ps))
+front_of_more u v os ps p =
+    subst (λ all. CutShort u v all) (sym (lines_of-append os ps)) (cut_more u u v (lines_of os) (lines_of ps) (lines_of os ++ lines_of ps) (along_start u (lines_of os ++ lines_of ps)) p)
+
+-- what was written whole, and then a front of the others
+front_behind : (u v w : Option (List ℕ)) (os ps : List Came) → Appends u v (lines_of os) → CutShort v w (lines_of ps) → CutShort u w (lines_of (os ++ ps))
+front_behind u v w os ps p q =
+    let due = lines_of os ++ lines_of ps in
+    let rest = along_more u u v (lines_of os) (lines_of ps) due (along_start u due) p in
+    let all : lines_of ps ≡ lines_of ps ++ [] = sym (append-nil (lines_of ps)) in
+    subst (λ xs. CutShort u w xs) (sym (lines_of-append os ps)) (cut_more u v w (lines_of ps) [] due (subst (λ r. Along u v r due) all rest) q)
+
+-- ---- whether one was refused
+
+or_assoc : (a b c : Bool) → (a || (b || c)) ≡ ((a || b) || c)
+or_assoc true b c = refl
+or_assoc false b c = refl
+
+refused-append : (os ps : List Came) → list_any is_refused (os ++ ps) ≡ (list_any is_refused os || list_any is_refused ps)
+refused-append [] ps = refl
+refused-append (o ∷ os) ps = ap (λ b. is_refused o || b) (refused-append os ps) ∙ or_assoc (is_refused o) (list_any is_refused os) (list_any is_refused ps)
+
+or-false : (b : Bool) → (b || false) ≡ b
+or-false true = refl
+or-false false = refl
+
+-- ---- no statement
+
+pub ran_none : (h : HostMeanings) (s : State) (u : Option (List ℕ)) (n : ℕ) → Ran h s s [] u u n n false
+ran_none h s u n = record {
+  came = [];
+  outcomes = refl;
+  state_is = refl;
+  lines = subst (λ all. Appends u u all) (sym lines_of-none) (Appends-nil u);
+  refusals = refl;
+  most = omega arith;
+}
+
+-- ---- one statement
+
+module _ (h : HostMeanings) (s next : State) (t : List ℕ) (rows : List (List Value)) (refusal : Option Cause) (came_to : CameTo h s t rows refusal next) where
+  abbrev it : Came
+  it = record { refusal = refusal; given = rows; next = next }
+
+  due : (piece start : List ℕ) → start ≡ [] → piece ≡ start ++ (flat_map row_line rows ++ refusal_lines refusal) → piece ≡ lines_of (it ∷ [])
+  due piece start none printed = printed ∙ (ap (λ front. front ++ came_lines it) none ∙ sym (lines_of-one it))
+
+  pub ran_one : (u v : Option (List ℕ)) (before after : ℕ) (piece start : List ℕ) (refused : Bool) → start ≡ [] → piece ≡ start ++ (flat_map row_line rows ++ refusal_lines refusal)
+      → Appends u v piece → refused ≡ is_some refusal → after ≤ before + instruction_bound s t → Ran h s next (t ∷ []) u v before after refused
+  ran_one u v before after piece start refused none printed written is most = record {
+    came = it ∷ [];
+    outcomes = (came_to, refl);
+    state_is = refl;
+    lines = subst (λ all. Appends u v all) (due piece start none printed) written;
+    refusals = is ∙ sym (or-false (is_some refusal));
+    most = omega arith;
+  }
+
+  pub ran_one_partly : (u v : Option (List ℕ)) (before after : ℕ) (piece start : List ℕ) → start ≡ [] → piece ≡ start ++ (flat_map row_line rows ++ refusal_lines refusal)
+      → CutShort u v piece → after ≤ before + instruction_bound s t → RanPartly h s (t ∷ []) u v before after
+  ran_one_partly u v before after piece start none printed written most = record {
+    came = it ∷ [];
+    outcomes = (came_to, refl);
+    front = subst (λ all. CutShort u v all) (due piece start none printed) written;
+    most = omega arith;
+  }
+
+-- nothing of its lines was written
+pub ran_unwritten : (h : HostMeanings) (s : State) (t : List ℕ) (u : Option (List ℕ)) (before after : ℕ) → after ≤ before + instruction_bound s t → RanPartly h s (t ∷ []) u u before after
+ran_unwritten h s t u before after most =
+    let o = Comes-some h DEFAULT_BUDGET s t in
+    record {
+      came = o.0 ∷ [];
+      outcomes = (o.1, refl);
+      front = cut_at_start u (lines_of (o.0 ∷ []));
+      most = omega arith;
+    }
+
+-- a text of white space alone has none
+pub in_text : (t : List ℕ) → is_statement t ≡ true → statements_in_text t ≡ t ∷ []
+in_text t e = ap (λ b. cond b (t ∷ []) []) e
+
+pub no_statement : (t : List ℕ) → is_statement t ≡ false → statements_in_text t ≡ []
+no_statement t e = ap (λ b. cond b (t ∷ []) []) e
+
+-- what is pending runs only where the bytes end
+pub pending_none : (ending : Ending) (t : List ℕ) → (ending ≡ ReadFault) ⊎ (ending ≡ TooLong) → statements_in_pending ending t ≡ []
+pending_none ending t (inl e) = ap (λ k. statements_in_pending k t) e
+pending_none ending t (inr e) = ap (λ k. statements_in_pending k t) e
+
+-- ---- statements, and then others
+
+pub ran_append : (h : HostMeanings) (s s' s'' : State) (xs ys : List (List ℕ)) (u v w : Option (List ℕ)) (a b c : ℕ) (r r' : Bool) → Ran h s s' xs u v a b r → Ran h s' s'' ys v w b c r' → Ran h s s'' (xs ++ ys) u w a c (r || r')
+ran_append h s s' s'' xs ys u v w a b c r r' p q =
+    let others : Come h DEFAULT_BUDGET (last_state s p.came) ys q.came = subst (λ x. Come h DEFAULT_BUDGET x ys q.came) p.state_is q.outcomes in
+    let parts = bound_together-append h DEFAULT_BUDGET s xs ys p.came q.came p.outcomes in
+    let same : bound_together s' ys q.came ≡ bound_together (last_state s p.came) ys q.came = ap (λ x. bound_together x ys q.came) p.state_is in
+    let first = p.most in
+    let second = q.most in
+    record {
+      came = p.came ++ q.came;
+      outcomes = Come-append h DEFAULT_BUDGET s xs ys p.came q.came p.outcomes others;
+      state_is = q.state_is ∙ (ap (λ x. last_state x q.came) p.state_is ∙ sym (last_state-append s p.came q.came));
+      lines = subst (λ all. Appends u w all) (sym (lines_of-append p.came q.came)) (Appends-trans u v w (lines_of p.came) (lines_of q.came) p.lines q.lines);
+      refusals = ap (λ x. x || r') p.refusals ∙ (ap (λ x. list_any is_refused p.came || x) q.refusals ∙ sym (refused-append p.came q.came));
+      most = omega arith;
+    }
+
+pub partly_behind : (h : HostMeanings) (s s' : State) (xs ys : List (List ℕ)) (u v w : Option (List ℕ)) (a b c : ℕ) (r : Bool) → Ran h s s' xs u v a b r → RanPartly h s' ys v w b c → RanPartly h s (xs ++ ys) u w a c
+partly_behind h s s' xs ys u v w a b c r p q =
+    let others : Come h DEFAULT_BUDGET (last_state s p.came) ys q.came = subst (λ x. Come h DEFAULT_BUDGET x ys q.came) p.state_is q.outcomes in
+    let parts = bound_together-append h DEFAULT_BUDGET s xs ys p.came q.came p.outcomes in
+    let same : bound_together s' ys q.came ≡ bound_together (last_state s p.came) ys q.came = ap (λ x. bound_together x ys q.came) p.state_is in
+    let first = p.most in
+    let second = q.most in
+    record {
+      came = p.came ++ q.came;
+      outcomes = Come-append h DEFAULT_BUDGET s xs ys p.came q.came p.outcomes others;
+      front = front_behind u v w p.came q.came p.lines q.front;
+      most = omega arith;
+    }
+
+-- others that did not run can go on as they mean
+pub partly_more : (h : HostMeanings) (s : State) (xs ys : List (List ℕ)) (u v : Option (List ℕ)) (a b : ℕ) → RanPartly h s xs u v a b → RanPartly h s (xs ++ ys) u v a b
+partly_more h s xs ys u v a b p =
+    let others = Come-some h DEFAULT_BUDGET (last_state s p.came) ys in
+    let parts = bound_together-append h DEFAULT_BUDGET s xs ys p.came others.0 p.outcomes in
+    let first = p.most in
+    record {
+      came = p.came ++ others.0;
+      outcomes = Come-append h DEFAULT_BUDGET s xs ys p.came others.0 p.outcomes others.1;
+      front = front_of_more u v p.came others.0 p.front;
+      most = omega arith;
+    }
+
+pub ran_partly : (h : HostMeanings) (s next : State) (texts : List (List ℕ)) (u v : Option (List ℕ)) (a b : ℕ) (r : Bool) → Ran h s next texts u v a b r → RanPartly h s texts u v a b
+ran_partly h s next texts u v a b r p = record {
+  came = p.came;
+  outcomes = p.outcomes;
+  front = cut_short u v [] (lines_of p.came) (lines_of p.came, p.lines, append-nil (lines_of p.came));
+  most = p.most;
+}
+
+-- ---- the texts of a script
 
 all_but_last-cons : (t : List ℕ) (ts : List (List ℕ)) → ts ≢ [] → all_but_last (t ∷ ts) ≡ t ∷ all_but_last ts
 all_but_last-cons t [] some = absurd (some refl)
@@ -44,115 +194,55 @@ due_of-cons End t ts some = refl
 due_of-cons ReadFault t ts some = all_but_last-cons t ts some
 due_of-cons TooLong t ts some = all_but_last-cons t ts some
 
-outcomes-first : (b : Bool) (h : HostMeanings) (s : State) (t : List ℕ) (ts : List (List ℕ)) → outcomes h s (cond b (t ∷ ts) ts) ≡ outcomes h s (cond b (t ∷ []) []) ++ outcomes h (cond b (text_outcome h s t).next s) ts
-outcomes-first true h s t ts = refl
-outcomes-first false h s t ts = refl
-
--- the outcomes of the rest are those of its first text, and then those of what stands behind that one
-pub outcomes_of_rest-next : (h : HostMeanings) (ending : Ending) (s : State) (rest t behind : List ℕ) → texts_between false rest ≡ t ∷ texts_between false behind → outcomes_of_rest h ending s rest ≡ outcomes_of_text h s t ++ outcomes_of_rest h ending (state_behind h s t) behind
-outcomes_of_rest-next h ending s rest t behind cut =
-    ap (λ ts. outcomes h s (filter is_statement (due_of ending ts))) cut
-    ∙ (ap (λ ts. outcomes h s (filter is_statement ts)) (due_of-cons ending t (texts_between false behind) (texts_between-some false behind))
-    ∙ outcomes-first (is_statement t) h s t (filter is_statement (due_of ending (texts_between false behind))))
+-- the statements of the rest are that of its first text, and then those of what stands behind it
+rest-next : (ending : Ending) (rest t behind : List ℕ) → texts_between false rest ≡ t ∷ texts_between false behind → statements_in_rest ending rest ≡ statements_in_text t ++ statements_in_rest ending behind
+rest-next ending rest t behind cut =
+    ap (λ ts. filter is_statement (due_of ending ts)) cut
+    ∙ (ap (filter is_statement) (due_of-cons ending t (texts_between false behind) (texts_between-some false behind))
+    ∙ filter-append is_statement (t ∷ []) (due_of ending (texts_between false behind)))
 
 -- where no `;` is left, the rest is what is pending
-pub outcomes_of_rest-last : (h : HostMeanings) (ending : Ending) (s : State) (rest : List ℕ) → texts_between false rest ≡ rest ∷ [] → outcomes_of_rest h ending s rest ≡ outcomes_of_pending h ending s rest
-outcomes_of_rest-last h ending s rest cut = ap (λ ts. outcomes h s (filter is_statement (due_of ending ts))) cut
+rest-last : (ending : Ending) (rest : List ℕ) → texts_between false rest ≡ rest ∷ [] → statements_in_rest ending rest ≡ statements_in_pending ending rest
+rest-last ending rest cut = ap (λ ts. filter is_statement (due_of ending ts)) cut
 
-lines_of_next : (h : HostMeanings) (ending : Ending) (s : State) (rest t behind : List ℕ) → texts_between false rest ≡ t ∷ texts_between false behind → lines_of (outcomes_of_rest h ending s rest) ≡ lines_of (outcomes_of_text h s t) ++ lines_of (outcomes_of_rest h ending (state_behind h s t) behind)
-lines_of_next h ending s rest t behind cut =
-    ap lines_of (outcomes_of_rest-next h ending s rest t behind cut) ∙ flat_map-append outcome_lines (outcomes_of_text h s t) (outcomes_of_rest h ending (state_behind h s t) behind)
+-- the statements of a script in front of this rest ran
+pub record SoFar (h : HostMeanings) (ending : Ending) (bytes rest : List ℕ) (s : State) (old new : Option (List ℕ)) (before after : ℕ) (refused : Bool) : Type 0 where
+  pub done : List (List ℕ)
+  pub ran : Ran h new_state s done old new before after refused
+  pub parts : done ++ statements_in_rest ending rest ≡ statements_in_rest ending bytes
 
--- the lines of a text were written whole
-pub wrote_text : (u v w : Option (List ℕ)) (h : HostMeanings) (ending : Ending) (s s' : State) (rest t behind all : List ℕ) → texts_between false rest ≡ t ∷ texts_between false behind → s' ≡ state_behind h s t → Along u v (lines_of (outcomes_of_rest h ending s rest)) all → Appends v w (lines_of (outcomes_of_text h s t)) → Along u w (lines_of (outcomes_of_rest h ending s' behind)) all
-wrote_text u v w h ending s s' rest t behind all cut next a p =
-    subst (λ x. Along u w (lines_of (outcomes_of_rest h ending x behind)) all) (sym next)
-    (along_more u v w (lines_of (outcomes_of_text h s t)) (lines_of (outcomes_of_rest h ending (state_behind h s t) behind)) all (subst (λ r. Along u v r all) (lines_of_next h ending s rest t behind cut) a) p)
+pub so_far_start : (h : HostMeanings) (ending : Ending) (bytes : List ℕ) (u : Option (List ℕ)) (n : ℕ) → SoFar h ending bytes bytes new_state u u n n false
+so_far_start h ending bytes u n = record { done = []; ran = ran_none h new_state u n; parts = refl }
 
--- a front of them was written
-pub wrote_part : (u v w : Option (List ℕ)) (h : HostMeanings) (ending : Ending) (s : State) (rest t behind all : List ℕ) → texts_between false rest ≡ t ∷ texts_between false behind → Along u v (lines_of (outcomes_of_rest h ending s rest)) all → CutShort v w (lines_of (outcomes_of_text h s t)) → CutShort u w all
-wrote_part u v w h ending s rest t behind all cut a p =
-    cut_more u v w (lines_of (outcomes_of_text h s t)) (lines_of (outcomes_of_rest h ending (state_behind h s t) behind)) all (subst (λ r. Along u v r all) (lines_of_next h ending s rest t behind cut) a) p
+module _ (h : HostMeanings) (ending : Ending) (bytes rest : List ℕ) (s : State) (u v w : Option (List ℕ)) (a b c : ℕ) (r : Bool) (far : SoFar h ending bytes rest s u v a b r) where
+  parts_next : (t behind : List ℕ) → texts_between false rest ≡ t ∷ texts_between false behind → (far.done ++ statements_in_text t) ++ statements_in_rest ending behind ≡ statements_in_rest ending bytes
+  parts_next t behind cut =
+      append_assoc far.done (statements_in_text t) (statements_in_rest ending behind) ∙ (ap (λ ts. far.done ++ ts) (sym (rest-next ending rest t behind cut)) ∙ far.parts)
 
--- the lines of what is pending were written whole
-pub wrote_last : (u v w : Option (List ℕ)) (h : HostMeanings) (ending : Ending) (s : State) (rest all : List ℕ) → texts_between false rest ≡ rest ∷ [] → Along u v (lines_of (outcomes_of_rest h ending s rest)) all → Appends v w (lines_of (outcomes_of_pending h ending s rest)) → Appends u w all
-wrote_last u v w h ending s rest all cut a p =
-    let lines = lines_of (outcomes_of_pending h ending s rest) in
-    let due : lines_of (outcomes_of_rest h ending s rest) ≡ lines ++ [] = ap lines_of (outcomes_of_rest-last h ending s rest cut) ∙ sym (append-nil lines) in
-    along_end u w all (along_more u v w lines [] all (subst (λ r. Along u v r all) due a) p)
+  -- one more text ran
+  pub so_far_next : (t behind : List ℕ) (s' : State) (r' r'' : Bool) → texts_between false rest ≡ t ∷ texts_between false behind → Ran h s s' (statements_in_text t) v w b c r' → r'' ≡ (r || r') → SoFar h ending bytes behind s' u w a c r''
+  so_far_next t behind s' r' r'' cut p is = record {
+    done = far.done ++ statements_in_text t;
+    ran = subst (λ x. Ran h new_state s' (far.done ++ statements_in_text t) u w a c x) (sym is) (ran_append h new_state s s' far.done (statements_in_text t) u v w a b c r r' far.ran p);
+    parts = parts_next t behind cut;
+  }
 
-pub wrote_last_part : (u v w : Option (List ℕ)) (h : HostMeanings) (ending : Ending) (s : State) (rest all : List ℕ) → texts_between false rest ≡ rest ∷ [] → Along u v (lines_of (outcomes_of_rest h ending s rest)) all → CutShort v w (lines_of (outcomes_of_pending h ending s rest)) → CutShort u w all
-wrote_last_part u v w h ending s rest all cut a p =
-    let lines = lines_of (outcomes_of_pending h ending s rest) in
-    let due : lines_of (outcomes_of_rest h ending s rest) ≡ lines ++ [] = ap lines_of (outcomes_of_rest-last h ending s rest cut) ∙ sym (append-nil lines) in
-    cut_more u v w lines [] all (subst (λ r. Along u v r all) due a) p
+  -- the run ended at it
+  pub so_far_part : (t behind : List ℕ) → texts_between false rest ≡ t ∷ texts_between false behind → RanPartly h s (statements_in_text t) v w b c → RanPartly h new_state (statements_in_rest ending bytes) u w a c
+  so_far_part t behind cut p =
+      let first = partly_behind h new_state s far.done (statements_in_text t) u v w a b c r far.ran p in
+      subst (λ ts. RanPartly h new_state ts u w a c) (parts_next t behind cut) (partly_more h new_state (far.done ++ statements_in_text t) (statements_in_rest ending behind) u w a c first)
 
--- ---- whether one was refused
+  parts_last : texts_between false rest ≡ rest ∷ [] → far.done ++ statements_in_pending ending rest ≡ statements_in_rest ending bytes
+  parts_last cut = ap (λ ts. far.done ++ ts) (sym (rest-last ending rest cut)) ∙ far.parts
 
-or_assoc : (a b c : Bool) → (a || (b || c)) ≡ ((a || b) || c)
-or_assoc true b c = refl
-or_assoc false b c = refl
+  -- the pending text ran
+  pub so_far_last : (s' : State) (r' r'' : Bool) → texts_between false rest ≡ rest ∷ [] → Ran h s s' (statements_in_pending ending rest) v w b c r' → r'' ≡ (r || r') → Ran h new_state s' (statements_in_rest ending bytes) u w a c r''
+  so_far_last s' r' r'' cut p is =
+      subst (λ ts. Ran h new_state s' ts u w a c r'') (parts_last cut)
+      (subst (λ x. Ran h new_state s' (far.done ++ statements_in_pending ending rest) u w a c x) (sym is) (ran_append h new_state s s' far.done (statements_in_pending ending rest) u v w a b c r r' far.ran p))
 
-some_refused-append : (xs ys : List Outcome) → some_refused (xs ++ ys) ≡ (some_refused xs || some_refused ys)
-some_refused-append [] ys = refl
-some_refused-append (o ∷ xs) ys = ap (λ b. is_refused o || b) (some_refused-append xs ys) ∙ or_assoc (is_refused o) (some_refused xs) (some_refused ys)
-
-pub refused_text : (a a' all : Bool) (h : HostMeanings) (ending : Ending) (s s' : State) (rest t behind : List ℕ) → texts_between false rest ≡ t ∷ texts_between false behind → s' ≡ state_behind h s t → a' ≡ (a || some_refused (outcomes_of_text h s t)) → (a || some_refused (outcomes_of_rest h ending s rest)) ≡ all → (a' || some_refused (outcomes_of_rest h ending s' behind)) ≡ all
-refused_text a a' all h ending s s' rest t behind cut next more e =
-    let first = outcomes_of_text h s t in
-    let others = outcomes_of_rest h ending (state_behind h s t) behind in
-    ap (λ x. a' || some_refused (outcomes_of_rest h ending x behind)) next
-    ∙ (ap (λ b. b || some_refused others) more
-    ∙ (sym (or_assoc a (some_refused first) (some_refused others))
-    ∙ (ap (λ b. a || b) (sym (some_refused-append first others))
-    ∙ (ap (λ os. a || some_refused os) (sym (outcomes_of_rest-next h ending s rest t behind cut)) ∙ e))))
-
-pub refused_last : (a a' all : Bool) (h : HostMeanings) (ending : Ending) (s : State) (rest : List ℕ) → texts_between false rest ≡ rest ∷ [] → a' ≡ (a || some_refused (outcomes_of_pending h ending s rest)) → (a || some_refused (outcomes_of_rest h ending s rest)) ≡ all → a' ≡ all
-refused_last a a' all h ending s rest cut more e =
-    more ∙ (ap (λ os. a || some_refused os) (sym (outcomes_of_rest-last h ending s rest cut)) ∙ e)
-
--- ---- how many instructions they need
-
-bound-first : (b : Bool) (h : HostMeanings) (s : State) (t : List ℕ) (ts : List (List ℕ)) → bound_together h s (cond b (t ∷ ts) ts) ≡ bound_together h s (cond b (t ∷ []) []) + bound_together h (cond b (text_outcome h s t).next s) ts
-bound-first true h s t ts = omega arith
-bound-first false h s t ts = omega arith
-
--- the statement of a text needs what the text does, where it is no white space
-pub bound_in_text : (h : HostMeanings) (s : State) (t : List ℕ) → is_statement t ≡ true → bound_together h s (statements_in_text t) ≡ instruction_bound s t
-bound_in_text h s t e = ap (λ b. bound_together h s (cond b (t ∷ []) [])) e ∙ omega arith
-
-bound_of_rest : (h : HostMeanings) (ending : Ending) (s : State) (rest t behind : List ℕ) → texts_between false rest ≡ t ∷ texts_between false behind → bound_together h s (statements_in_rest ending rest) ≡ bound_together h s (statements_in_text t) + bound_together h (state_behind h s t) (statements_in_rest ending behind)
-bound_of_rest h ending s rest t behind cut =
-    ap (λ ts. bound_together h s (filter is_statement (due_of ending ts))) cut
-    ∙ (ap (λ ts. bound_together h s (filter is_statement ts)) (due_of-cons ending t (texts_between false behind) (texts_between-some false behind))
-    ∙ bound-first (is_statement t) h s t (filter is_statement (due_of ending (texts_between false behind))))
-
--- what has run, and what the rest needs, is no more than all need, behind a text as before it
-pub bound_next : (h : HostMeanings) (ending : Ending) (s s' : State) (rest t behind : List ℕ) (ran ran' most : ℕ) → texts_between false rest ≡ t ∷ texts_between false behind → s' ≡ state_behind h s t → ran + bound_together h s (statements_in_rest ending rest) ≤ most → ran' ≤ ran + bound_together h s (statements_in_text t) → ran' + bound_together h s' (statements_in_rest ending behind) ≤ most
-bound_next h ending s s' rest t behind ran ran' most cut next all one =
-    let parts = bound_of_rest h ending s rest t behind cut in
-    let same : bound_together h s' (statements_in_rest ending behind) ≡ bound_together h (state_behind h s t) (statements_in_rest ending behind) = ap (λ x. bound_together h x (statements_in_rest ending behind)) next in
-    omega arith
-
--- where the run ends at a text
-pub bound_part : (h : HostMeanings) (ending : Ending) (s : State) (rest t behind : List ℕ) (ran ran' most : ℕ) → texts_between false rest ≡ t ∷ texts_between false behind → ran + bound_together h s (statements_in_rest ending rest) ≤ most → ran' ≤ ran + bound_together h s (statements_in_text t) → ran' ≤ most
-bound_part h ending s rest t behind ran ran' most cut all one =
-    let parts = bound_of_rest h ending s rest t behind cut in
-    omega arith
-
--- where the rest is what is pending
-pub bound_last : (h : HostMeanings) (ending : Ending) (s : State) (rest : List ℕ) (ran ran' most : ℕ) → texts_between false rest ≡ rest ∷ [] → ran + bound_together h s (statements_in_rest ending rest) ≤ most → ran' ≤ ran + bound_together h s (statements_in_pending ending rest) → ran' ≤ most
-bound_last h ending s rest ran ran' most cut all one =
-    let same : bound_together h s (statements_in_rest ending rest) ≡ bound_together h s (statements_in_pending ending rest) = ap (λ ts. bound_together h s (filter is_statement (due_of ending ts))) cut in
-    omega arith
-
--- ---- what they can build
-
-within_at : (b : Bool) (h : HostMeanings) (bytes : ℕ) (s : State) (t : List ℕ) → IsWithin bytes s → IsWithin (bytes + length t) (cond b (text_outcome h s t).next s)
-within_at true h bytes s t w = text_outcome-within h bytes s t w
-within_at false h bytes s t w = IsWithin-more bytes (bytes + length t) s (omega arith) w
-
--- behind a text the state is within the bytes up to its end
-pub within_next : (h : HostMeanings) (s s' : State) (t : List ℕ) (before after : ℕ) → s' ≡ state_behind h s t → before + length t ≤ after → IsWithin before s → IsWithin after s'
-within_next h s s' t before after next more w =
-    subst (λ x. IsWithin after x) (sym next) (IsWithin-more (before + length t) after (state_behind h s t) more (within_at (is_statement t) h before s t w))
+  -- the run ended at it
+  pub so_far_last_part : texts_between false rest ≡ rest ∷ [] → RanPartly h s (statements_in_pending ending rest) v w b c → RanPartly h new_state (statements_in_rest ending bytes) u w a c
+  so_far_last_part cut p =
+      subst (λ ts. RanPartly h new_state ts u w a c) (parts_last cut) (partly_behind h new_state s far.done (statements_in_pending ending rest) u v w a b c r far.ran p)

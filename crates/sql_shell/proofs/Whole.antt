@@ -1,49 +1,41 @@
 -- A whole script: its outcomes, its status, and the bytes that the source tells.
-use Rattle.std.proofs.Common.{◌≡◌, ◌≢◌, ◌≤◌, ◌+◌, ℕ, length, Bool, true, false, List, sym, ◌∙◌, ap, subst, Some, None, Ok, Err, OnOk, IfOk, IfSome, Result, length-append, arith}
+use Rattle.std.proofs.Common.{◌≡◌, ◌≤◌, ◌+◌, ℕ, length, Bool, true, false, List, sym, ◌∙◌, ap, subst, Some, None, Ok, Err, IfOk, IfSome, Result, length-append, arith}
 use Rattle.std.specs.declared.option.Option.{Option}
-use Rattle.std.specs.Io.KnownBytes.{Appends, Consumes}
-use Rattle.eng_value.specs.declared.limits.TheConstants.{MAX_SCRIPT_BYTES}
+use Rattle.std.specs.Io.KnownBytes.{Consumes}
+use Rattle.eng_value.specs.declared.limits.TheConstants.{DEFAULT_BUDGET, MAX_SCRIPT_BYTES}
 use Rattle.eng_value.specs.HostMeanings.{HostMeanings}
 use Rattle.sql_meaning.specs.declared.ending.Ending.{Ending}
 use Rattle.sql_meaning.specs.declared.ending.Ending.TheVariants.{End, ReadFault, TooLong}
-use Rattle.sql_meaning.specs.Due.{CutShort, IsRead, IsScript, IsFrontOfScript, MayEnd}
-use Rattle.sql_meaning.specs.Script.{bound_together, ending_told, looked_at, script_bound, script_lines, script_outcomes, script_status, status_of}
-use Rattle.sql_meaning.specs.World.{new_state}
+use Rattle.sql_meaning.specs.Due.{IsRead, IsScript, IsFrontOfScript, MayEnd}
+use Rattle.sql_meaning.specs.Script.{AreOutcomes, Came, Come, bound_together, ending_told, lines_of, looked_at, script_bound, status_by, status_of}
+use Rattle.sql_meaning.specs.World.{State, new_state}
 use Rattle.sql_shell.specs.declared.stop.Stop.{Stop}
-use Rattle.sql_shell.specs.Running.{lines_of, outcomes_of_rest, some_refused, statements_in_rest}
-use Rattle.sql_meaning.proofs.BoundLaws.{length-looked_at}
+use Rattle.sql_shell.specs.Running.{Ran, RanPartly, ScriptRanPartly, statements_in_rest}
+use Rattle.sql_meaning.proofs.ScriptLaws.{AreOutcomes-some}
 use Rattle.sql_shell.proofs.Due.{same_read, cut_at_start}
 
 -- all statements that are looked at were run
-pub ran_whole : (u v : Option (List ℕ)) (h : HostMeanings) (bytes : List ℕ) (ending : Ending) (seen : List ℕ) (r : Result Bool Stop) → seen ≡ looked_at ending bytes
-    → OnOk r (Appends u v (lines_of (outcomes_of_rest h ending new_state seen))) → IfOk r (λ refused. refused ≡ some_refused (outcomes_of_rest h ending new_state seen))
-    → IfOk r (λ refused. IsScript h bytes ending u v (status_of ending refused))
-unfolding script_outcomes script_lines script_status
-ran_whole u v h bytes ending seen (Ok refused) same p q = record {
-  lines = subst (λ bs. Appends u v (lines_of (outcomes_of_rest h ending new_state bs))) same p;
-  result = ap (status_of ending) (q ∙ ap (λ bs. some_refused (outcomes_of_rest h ending new_state bs)) same);
+pub ran_whole : (u v : Option (List ℕ)) (h : HostMeanings) (bytes : List ℕ) (ending : Ending) (seen : List ℕ) (a b : ℕ) (r : Result Bool Stop) → seen ≡ looked_at ending bytes
+    → IfOk r (λ refused. (next : State) × Ran h new_state next (statements_in_rest ending seen) u v a b refused) → IfOk r (λ refused. IsScript h bytes ending u v (status_of ending refused))
+unfolding AreOutcomes status_by
+ran_whole u v h bytes ending seen a b (Ok refused) same p = record {
+  came = p.1.came;
+  outcomes = subst (λ bs. Come h DEFAULT_BUDGET new_state (statements_in_rest ending bs) p.1.came) same p.1.outcomes;
+  lines = p.1.lines;
+  result = ap (status_of ending) p.1.refusals;
 }
-ran_whole u v h bytes ending seen (Err stop) same p q = tt
+ran_whole u v h bytes ending seen a b (Err stop) same p = tt
 
-pub ran_partly : (u v : Option (List ℕ)) (h : HostMeanings) (bytes : List ℕ) (ending : Ending) (seen : List ℕ) → seen ≡ looked_at ending bytes
-    → CutShort u v (lines_of (outcomes_of_rest h ending new_state seen)) → CutShort u v (script_lines h bytes ending)
-unfolding script_outcomes script_lines
-ran_partly u v h bytes ending seen same p = subst (λ bs. CutShort u v (lines_of (outcomes_of_rest h ending new_state bs))) same p
-
--- no more instructions were run than the script needs
-pub ran_within : (h : HostMeanings) (bytes : List ℕ) (ending : Ending) (seen : List ℕ) (before after : ℕ) → seen ≡ looked_at ending bytes
-    → after ≤ before + bound_together h new_state (statements_in_rest ending seen) → after ≤ before + script_bound h bytes ending
-unfolding script_bound
-ran_within h bytes ending seen before after same p = subst (λ bs. after ≤ before + bound_together h new_state (statements_in_rest ending bs)) same p
-
--- no more bytes are looked at than the limit
-pub short_looked_at : (ending : Ending) (bytes seen : List ℕ) → seen ≡ looked_at ending bytes → (ending ≢ TooLong → length bytes ≤ MAX_SCRIPT_BYTES) → length seen ≤ MAX_SCRIPT_BYTES
-short_looked_at ending bytes seen same short = subst (λ bs. length bs ≤ MAX_SCRIPT_BYTES) (sym same) (at_ending ending short)
-  where
-    at_ending : (k : Ending) → (k ≢ TooLong → length bytes ≤ MAX_SCRIPT_BYTES) → length (looked_at k bytes) ≤ MAX_SCRIPT_BYTES
-    at_ending End few = few (λ e. cc)
-    at_ending ReadFault few = few (λ e. cc)
-    at_ending TooLong few = length-looked_at bytes
+-- a script may have ended early
+pub ran_script : (u v : Option (List ℕ)) (h : HostMeanings) (bytes : List ℕ) (ending : Ending) (seen : List ℕ) (a b : ℕ) → seen ≡ looked_at ending bytes
+    → RanPartly h new_state (statements_in_rest ending seen) u v a b → ScriptRanPartly h bytes ending u v a b
+unfolding AreOutcomes script_bound
+ran_script u v h bytes ending seen a b same p = record {
+  came = p.came;
+  outcomes = subst (λ bs. Come h DEFAULT_BUDGET new_state (statements_in_rest ending bs) p.came) same p.outcomes;
+  front = p.front;
+  most = subst (λ bs. b ≤ a + bound_together new_state (statements_in_rest ending bs) p.came) same p.most;
+}
 
 module _ (h : HostMeanings) (left left' old new : Option (List ℕ)) (read slice bytes : List ℕ) (consumed : Consumes left left' read) (same : slice ≡ read) (told : IsRead left left' bytes) where
   these : slice ≡ bytes
@@ -53,24 +45,27 @@ module _ (h : HostMeanings) (left left' old new : Option (List ℕ)) (read slice
   pub told_whole : (ending : Ending) (status : ℕ) → IsScript h slice ending old new status → IsScript h bytes ending old new status
   told_whole ending status p = subst (λ bs. IsScript h bs ending old new status) these p
 
-  pub told_partly : (ending : Ending) → MayEnd read left' ending → CutShort old new (script_lines h slice ending) → IsFrontOfScript h bytes left' old new
-  told_partly ending may p =
-      (ending, subst (λ bs. MayEnd bs left' ending) (sym same ∙ these) may, subst (λ bs. CutShort old new (script_lines h bs ending)) these p)
+  pub told_partly : (ending : Ending) (a b : ℕ) → MayEnd read left' ending → ScriptRanPartly h slice ending old new a b → IsFrontOfScript h bytes left' old new
+  told_partly ending a b may p =
+      let q : ScriptRanPartly h bytes ending old new a b = subst (λ bs. ScriptRanPartly h bs ending old new a b) these p in
+      record { ending = ending; may_end = subst (λ bs. MayEnd bs left' ending) (sym same ∙ these) may; came = q.came; outcomes = q.outcomes; front = q.front }
 
--- the same of the instructions that were run
-module _ (h : HostMeanings) (left left' : Option (List ℕ)) (read slice bytes : List ℕ) (before after : ℕ) (consumed : Consumes left left' read) (same : slice ≡ read) (told : IsRead left left' bytes) where
-  pub told_bound : (ending : Ending) → MayEnd read left' ending → after ≤ before + script_bound h slice ending → (k : Ending) × MayEnd bytes left' k × (after ≤ before + script_bound h bytes k)
-  told_bound ending may p =
-      let read_is : read ≡ bytes = same_read left left' read bytes consumed told in
-      (ending, subst (λ bs. MayEnd bs left' ending) read_is may, subst (λ bs. after ≤ before + script_bound h bs ending) (same ∙ read_is) p)
+  -- the same of the instructions that were run
+  pub told_bound : (ending : Ending) (a b : ℕ) → MayEnd read left' ending → ScriptRanPartly h slice ending old new a b
+      → (k : Ending) × MayEnd bytes left' k × (came : List Came) × AreOutcomes h bytes k came × (b ≤ a + script_bound bytes k came)
+  told_bound ending a b may p =
+      let q : ScriptRanPartly h bytes ending old new a b = subst (λ bs. ScriptRanPartly h bs ending old new a b) these p in
+      (ending, subst (λ bs. MayEnd bs left' ending) (sym same ∙ these) may, q.came, q.outcomes, q.most)
 
 -- none was run yet
-pub told_no_bound : (h : HostMeanings) (bytes : List ℕ) (left : Option (List ℕ)) (ran : ℕ) → (k : Ending) × MayEnd bytes left k × (ran ≤ ran + script_bound h bytes k)
-told_no_bound h bytes left ran = (ReadFault, tt, omega arith)
+pub told_no_bound : (h : HostMeanings) (bytes : List ℕ) (left : Option (List ℕ)) (n : ℕ) → (k : Ending) × MayEnd bytes left k × (came : List Came) × AreOutcomes h bytes k came × (n ≤ n + script_bound bytes k came)
+told_no_bound h bytes left n = let os = AreOutcomes-some h bytes ReadFault in (ReadFault, tt, os.0, os.1, omega arith)
 
 -- nothing was written yet
 pub told_nothing : (h : HostMeanings) (bytes : List ℕ) (left w : Option (List ℕ)) → IsFrontOfScript h bytes left w w
-told_nothing h bytes left w = (ReadFault, tt, cut_at_start w (script_lines h bytes ReadFault))
+told_nothing h bytes left w =
+    let os = AreOutcomes-some h bytes ReadFault in
+    record { ending = ReadFault; may_end = tt; came = os.0; outcomes = os.1; front = cut_at_start w (lines_of os.0) }
 
 -- the status tells of the ending
 pub told_by_status : (h : HostMeanings) (bytes : List ℕ) (old new : Option (List ℕ)) (ending : Ending) (refused : Bool) (status : ℕ) → status ≡ status_of ending refused → IsScript h bytes ending old new (status_of ending refused) → IfSome (ending_told status) (λ e. IsScript h bytes e old new status)

@@ -1,28 +1,26 @@
--- The outcomes of a script's texts, as a run goes from one to the next.
-use Rattle.std.specs.Prelude.{◌≡◌, ◌⊎◌, Bool, ℕ, List, [], ◌∷◌, false, if◌then◌else◌, None, Ok, Err}
-use Rattle.std.specs.List.{filter, flat_map, list_any}
-use Rattle.std.specs.declared.result.Result.{Result}
+-- What a run of a script's statements came to, from one to the next.
+use Rattle.std.specs.Prelude.{◌≡◌, ◌≤◌, ◌+◌, Bool, ℕ, List, [], ◌∷◌, false}
+use Rattle.std.specs.List.{filter, list_any}
+use Rattle.std.specs.Io.KnownBytes.{Appends}
+use Rattle.std.specs.declared.option.Option.{Option}
 use Rattle.eng_value.specs.HostMeanings.{HostMeanings}
 use Rattle.eng_value.specs.declared.cause.Cause.{Cause}
-use Rattle.eng_value.specs.declared.cause.Cause.TheVariants as cause
+use Rattle.eng_value.specs.declared.limits.TheConstants.{DEFAULT_BUDGET}
 use Rattle.eng_value.specs.declared.value.Value.{Value}
 use Rattle.sql_meaning.specs.declared.ending.Ending.{Ending}
+use Rattle.sql_meaning.specs.Due.{CutShort}
+use Rattle.sql_meaning.specs.Runs.{last_state}
+use Rattle.sql_meaning.specs.Script.{AreOutcomes, Came, Come, Comes, bound_together, due_of, is_refused, is_statement, lines_of, script_bound, texts_between}
 use Rattle.sql_meaning.specs.World.{State}
-use Rattle.sql_meaning.specs.Statement.{Outcome, refused, text_outcome}
-use Rattle.sql_meaning.specs.Script.{due_of, is_refused, is_statement, outcome_lines, outcomes, texts_between}
 
--- a run of a statement from `old` to `new` came to this outcome, or found no memory and changed nothing
-abbrev pub RunsTo : Outcome → State → State → Result (List (List Value)) Cause → Type 0
-RunsTo o old new (Ok rows) = (o.refusal ≡ None) × (o.given ≡ rows) × (o.next ≡ new)
-RunsTo o old new (Err why) = (new ≡ old) × ((why ≡ cause.Mem) ⊎ (o ≡ refused old why))
+-- ---- one statement
 
--- the lines of outcomes
-abbrev pub lines_of : List Outcome → List ℕ
-lines_of os = flat_map outcome_lines os
+-- a statement came to these rows, this refusal and this state
+abbrev pub CameTo : HostMeanings → State → List ℕ → List (List Value) → Option Cause → State → Type 0
+CameTo hosts state text rows refusal next =
+    Comes hosts DEFAULT_BUDGET state text (record { refusal = refusal; given = rows; next = next })
 
--- whether one of them is a refusal
-abbrev pub some_refused : List Outcome → Bool
-some_refused os = list_any is_refused os
+-- ---- statements
 
 -- the statement of one text: none where it is white space alone
 abbrev pub statements_in_text : List ℕ → List (List ℕ)
@@ -36,15 +34,26 @@ statements_in_rest ending rest = filter is_statement (due_of ending (texts_betwe
 abbrev pub statements_in_pending : Ending → List ℕ → List (List ℕ)
 statements_in_pending ending text = filter is_statement (due_of ending (text ∷ []))
 
-abbrev pub outcomes_of_text : HostMeanings → State → List ℕ → List Outcome
-outcomes_of_text hosts state text = outcomes hosts state (statements_in_text text)
+-- statements ran from `state` to `next` and came to something: what was written, whether one was refused, how many instructions
+-- were run
+pub record Ran (hosts : HostMeanings) (state next : State) (texts : List (List ℕ)) (old new : Option (List ℕ)) (before after : ℕ) (refused : Bool) : Type 0 where
+  pub came : List Came
+  pub outcomes : Come hosts DEFAULT_BUDGET state texts came
+  pub state_is : next ≡ last_state state came
+  pub lines : Appends old new (lines_of came)
+  pub refusals : refused ≡ list_any is_refused came
+  pub most : after ≤ before + bound_together state texts came
 
--- the state behind one text
-abbrev pub state_behind : HostMeanings → State → List ℕ → State
-state_behind hosts state text = if is_statement text then (text_outcome hosts state text).next else state
+-- a run of statements that may have ended early: it can go on to this, of whose lines a front was written
+pub record RanPartly (hosts : HostMeanings) (state : State) (texts : List (List ℕ)) (old new : Option (List ℕ)) (before after : ℕ) : Type 0 where
+  pub came : List Came
+  pub outcomes : Come hosts DEFAULT_BUDGET state texts came
+  pub front : CutShort old new (lines_of came)
+  pub most : after ≤ before + bound_together state texts came
 
-abbrev pub outcomes_of_rest : HostMeanings → Ending → State → List ℕ → List Outcome
-outcomes_of_rest hosts ending state rest = outcomes hosts state (statements_in_rest ending rest)
-
-abbrev pub outcomes_of_pending : HostMeanings → Ending → State → List ℕ → List Outcome
-outcomes_of_pending hosts ending state text = outcomes hosts state (statements_in_pending ending text)
+-- the same of a script
+pub record ScriptRanPartly (hosts : HostMeanings) (bytes : List ℕ) (ending : Ending) (old new : Option (List ℕ)) (before after : ℕ) : Type 0 where
+  pub came : List Came
+  pub outcomes : AreOutcomes hosts bytes ending came
+  pub front : CutShort old new (lines_of came)
+  pub most : after ≤ before + script_bound bytes ending came

@@ -1,7 +1,6 @@
 // Cutting a script into the texts of its statements.
 ghost use Rattle.std.specs.Prelude.{◌≡◌, ◌&&◌, ◌+◌, ◌<◌, ◌∷◌, [], take, drop, false, not, length, if◌then◌else◌, MatchOption, IfSome};
-ghost use Rattle.sql_meaning.specs.Script.{texts_between, is_statement};
-ghost use Rattle.sql_meaning.specs.Tokens.{is_quote, is_semicolon, is_space};
+ghost use Rattle.sql_meaning.specs.Script.{is_quote, is_semicolon, is_space, is_statement, texts_between};
 
 /// Whether this byte ends a statement.
 fn ends_statement(byte: u8, quoted: bool) -> bool

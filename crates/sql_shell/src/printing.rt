@@ -1,8 +1,9 @@
 // The lines of a statement's outcome.
-ghost use Rattle.std.specs.Prelude.{◌≡◌, ◌++◌, ◌∷◌, [], map, OnOk};
+ghost use Rattle.std.specs.Prelude.{◌≡◌, ◌++◌, ◌∷◌, [], map, is_some, OnOk, IfOk};
 ghost use Rattle.std.specs.List.{flat_map, join_with_byte};
-ghost use Rattle.sql_meaning.specs.Script.{bar, printed, row_line, refusal_line};
+ghost use Rattle.sql_meaning.specs.Script.{bar, printed, row_line, refusal_line, refusal_lines};
 
+use crate::statement::Given;
 use eng_value::{Cause, Row, Rows, Value};
 use itoa::Buffer;
 use std::alloc::AllocError;
@@ -54,7 +55,7 @@ fn print_row(row: &Row, lines: &mut Vec<u8>) -> Result<(), AllocError>
 }
 
 /// Writes a line for each row.
-pub(crate) fn print_rows(rows: &Rows, lines: &mut Vec<u8>) -> Result<(), AllocError>
+fn print_rows(rows: &Rows, lines: &mut Vec<u8>) -> Result<(), AllocError>
     ensures { OnOk result (lines.new.items ≡ lines.old.items ++ flat_map row_line rows.now) }
 {
     for row in rows.as_slice() {
@@ -64,7 +65,7 @@ pub(crate) fn print_rows(rows: &Rows, lines: &mut Vec<u8>) -> Result<(), AllocEr
 }
 
 /// Writes the line of a refusal: `Error <code>: <text>`.
-pub(crate) fn print_refusal(why: &Cause, lines: &mut Vec<u8>) -> Result<(), AllocError>
+fn print_refusal(why: &Cause, lines: &mut Vec<u8>) -> Result<(), AllocError>
     ensures { OnOk result (lines.new.items ≡ lines.old.items ++ refusal_line why.now) }
 {
     lines.extend_from_slice(b"Error ")?;
@@ -73,4 +74,34 @@ pub(crate) fn print_refusal(why: &Cause, lines: &mut Vec<u8>) -> Result<(), Allo
     why.write_text(lines)?;
     lines.push(b'\n')?;
     Ok(())
+}
+
+/// Writes the line of a refusal, where there is one.
+fn print_refusals(refusal: &Option<Cause>, lines: &mut Vec<u8>) -> Result<(), AllocError>
+    ensures { OnOk result (lines.new.items ≡ lines.old.items ++ refusal_lines refusal.now) }
+{
+    match refusal {
+        None => Ok(()),
+        Some(why) => print_refusal(why, lines),
+    }
+}
+
+/// Writes what a statement gave: a line for each row, and then the line of the refusal.
+fn print_lines(given: &Given, lines: &mut Vec<u8>) -> Result<(), AllocError>
+    ensures { OnOk result (lines.new.items ≡
+        lines.old.items ++ (flat_map row_line given.now.rows ++ refusal_lines given.now.refusal)) }
+{
+    print_rows(&given.rows, lines)?;
+    print_refusals(&given.refusal, lines)?;
+    Ok(())
+}
+
+/// Writes the lines of what a statement gave, and says whether it was refused.
+pub(crate) fn print_given(given: Given, lines: &mut Vec<u8>) -> Result<bool, AllocError>
+    ensures lines { OnOk result (lines.new.items ≡
+        lines.old.items ++ (flat_map row_line given.rows ++ refusal_lines given.refusal)) }
+    ensures refused { IfOk result (λ refused. refused ≡ is_some given.refusal) }
+{
+    print_lines(&given, lines)?;
+    Ok(given.refusal.is_some())
 }

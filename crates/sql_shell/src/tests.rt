@@ -12,7 +12,87 @@ use std::test::Fail;
 const FIRST: &str =
     "CREATE TABLE t(a INTEGER, b TEXT); INSERT INTO t VALUES(12, 'x'); SELECT b, a FROM t WHERE a > 3;";
 
-const REFUSED: &str = "Error 1: not built yet\n";
+const NO_TABLE: &str = "Error 1: no such table: u\n";
+
+const THREE_ROWS: &str =
+    "CREATE TABLE t(a INTEGER, b TEXT);INSERT INTO t VALUES(2,'b'),(10,'a|'),(3,'');";
+
+// What a script writes behind the three rows, and its status.
+const WRITTEN: [(&str, &str, u8); 12] = [
+    ("", "", 0),
+    (" ;\n;\t", "", 0),
+    ("SELECT a FROM t WHERE a > 2", "10\n3\n", 0),
+    ("SELECT b, a, b FROM t WHERE b > ''", "b|2|b\na||10|a|\n", 0),
+    ("select A, B from T where B > 'a|'", "2|b\n", 0),
+    ("SELECT a FROM t WHERE a > 10", "", 0),
+    (
+        "SELECT * FROM t WHERE a = 3;SELECT 1 + 2, 'a' || 'b', NULL",
+        "3|\n3|ab|\n",
+        0,
+    ),
+    (
+        "INSERT INTO t VALUES(007,';\n');SELECT b FROM t WHERE a = 7",
+        ";\n\n",
+        0,
+    ),
+    (
+        "INSERT INTO t VALUES('12',34);SELECT a + 1, b FROM t WHERE a = 12",
+        "13|34\n",
+        0,
+    ),
+    (
+        "INSERT INTO t VALUES(4);SELECT a FROM t WHERE a > 3",
+        "Error 1: wrong number of values: t\n10\n",
+        1,
+    ),
+    ("INSERT INTO u VALUES(1);", NO_TABLE, 1),
+    // The rows in front of a bad one are written.
+    (
+        "SELECT a + 9223372036854775800 FROM t",
+        "9223372036854775802\nError 1: integer overflow\n",
+        1,
+    ),
+];
+
+// Statements that are refused behind a row of the table t, and why.
+const REFUSED: [(&str, &str); 24] = [
+    ("CREATE TABLE T(c TEXT)", "table already exists: t"),
+    ("CREATE TABLE sqlite_t(c TEXT)", "reserved name: sqlite_t"),
+    (
+        "CREATE TABLE u(c TEXT, C INTEGER)",
+        "column already exists: c",
+    ),
+    ("CREATE TABLE u(c REAL)", "REAL is not supported"),
+    ("CREATE TABLE u()", "not built yet"),
+    ("CREATE TABLE u(c TEXT,)", "not built yet"),
+    ("CREATE TABLE u(c TEXT) x", "not built yet"),
+    ("CREATE TABLE select(c TEXT)", "not built yet"),
+    ("INSERT INTO t VALUES(1)", "wrong number of values: t"),
+    ("INSERT INTO t VALUES(1,'x',2)", "wrong number of values: t"),
+    (
+        "INSERT INTO t VALUES(2,'x'),(3)",
+        "wrong number of values: VALUES",
+    ),
+    (
+        "INSERT INTO t VALUES(2,'y'),(1.5,'x')",
+        "REAL is not supported",
+    ),
+    (
+        "INSERT INTO t VALUES(2,'y'),('2.5','x')",
+        "REAL is not supported",
+    ),
+    ("INSERT INTO t VALUES(1,'é')", "not built yet"),
+    ("INSERT INTO t VALUES(1,'x')é", "not built yet"),
+    ("INSERT INTO v VALUES(1,'x')", "no such table: v"),
+    ("SELECT *", "misuse of: *"),
+    ("SELECT c FROM t", "no such column: c"),
+    ("SELECT a FROM t WHERE c > 0", "no such column: c"),
+    ("SELECT a FROM v", "no such table: v"),
+    ("SELECT a FROM t WHERE a > 0 x", "not built yet"),
+    ("SELECT a, FROM t", "not built yet"),
+    ("SELECT count(*) FROM t", "not built yet"),
+    ("DROP TABLE t", "not built yet"),
+];
 
 // How the source hands out its bytes, and which of its reads and of the sink's writes fail.
 #[derive(Clone, Copy)]
@@ -96,47 +176,11 @@ fn spaces(alloc: Global, len: usize) -> Result<Vec<u8>, AllocError> {
 
 #[test]
 fn scripts_write_their_lines(rt: HostRuntime) -> Result<(), Fail> {
-    let rows =
-        "CREATE TABLE t(a INTEGER, b TEXT);INSERT INTO t VALUES(2,'b');INSERT INTO t VALUES(10,'a|');INSERT INTO t VALUES(3,'');";
-    let scripts = [
-        ("", "", "", 0),
-        ("", " ;\n;\t", "", 0),
-        ("", FIRST, "x|12\n", 0),
-        ("", "INSERT INTO u VALUES(1);", REFUSED, 1),
-        (rows, "SELECT a FROM t WHERE a > 2", "10\n3\n", 0),
-        (
-            rows,
-            "SELECT b, a, b FROM t WHERE b > ''",
-            "b|2|b\na||10|a|\n",
-            0,
-        ),
-        (rows, "SELECT a FROM t WHERE b > 'a'", "2\n10\n", 0),
-        (rows, "SELECT a FROM t WHERE a > 10", "", 0),
-        (rows, "select A, B from T where B > 'a|'", "2|b\n", 0),
-        (
-            rows,
-            "INSERT INTO t VALUES(007,';\n');SELECT b FROM t WHERE a > 6",
-            "a|\n;\n\n",
-            0,
-        ),
-        (
-            rows,
-            "INSERT INTO t VALUES(4);SELECT a FROM t WHERE a > 3",
-            "Error 1: not built yet\n10\n",
-            1,
-        ),
-        (
-            "",
-            "CREATE TABLE integer(text TEXT, a1_ INTEGER);INSERT INTO Integer VALUES('x', 999999999999999999);SELECT A1_, Text FROM integer WHERE text > 'w'",
-            "999999999999999999|x\n",
-            0,
-        ),
-    ];
-    for (before, script, lines, status) in scripts {
-        let whole = format!(in rt.alloc(); "{before}{script}")?;
+    for (script, lines, status) in WRITTEN.iter() {
+        let whole = format!(in rt.alloc(); "{THREE_ROWS}{script}")?;
         let got = answer_to(rt.alloc(), whole.as_str(), NONE)?;
         assert_eq!(rt; got.written.as_slice(), lines.as_bytes(), "{script}");
-        assert_eq!(rt; got.status, status, "{script}");
+        assert_eq!(rt; got.status, *status, "{script}");
     }
     Ok(())
 }
@@ -144,57 +188,26 @@ fn scripts_write_their_lines(rt: HostRuntime) -> Result<(), Fail> {
 #[test]
 fn refused_statements_change_nothing(rt: HostRuntime) -> Result<(), Fail> {
     let before = "CREATE TABLE t(a INTEGER, b TEXT);INSERT INTO t VALUES(1,'x');";
-    let refused = [
-        "CREATE TABLE T(c TEXT)",
-        "CREATE TABLE sqlite_t(c TEXT)",
-        "CREATE TABLE SQLite_(c TEXT)",
-        "CREATE TABLE u(c TEXT, C INTEGER)",
-        "CREATE TABLE u()",
-        "CREATE TABLE u(c)",
-        "CREATE TABLE u(c BLOB)",
-        "CREATE TABLE u(c TEXT,)",
-        "CREATE TABLE u(c TEXT) x",
-        "CREATE TABLE select(c TEXT)",
-        "CREATE TABLE u(c TEXT",
-        "INSERT INTO t VALUES(1)",
-        "INSERT INTO t VALUES(1,'x',2)",
-        "INSERT INTO t VALUES('1','x')",
-        "INSERT INTO t VALUES(1,2)",
-        "INSERT INTO t VALUES(-1,'x')",
-        "INSERT INTO t VALUES(1.5,'x')",
-        "INSERT INTO t VALUES(1,'it''s')",
-        "INSERT INTO t VALUES(1,'é')",
-        "INSERT INTO t VALUES(1,'x')é",
-        "INSERT INTO t VALUES(1,'x'),(2,'y')",
-        "INSERT INTO t VALUES(1234567890123456789,'x')",
-        "INSERT INTO t VALUES(0000000000000000001,'x')",
-        "INSERT INTO t VALUES(NULL,'x')",
-        "INSERT INTO v VALUES(1,'x')",
-        "SELECT a FROM t",
-        "SELECT * FROM t WHERE a > 0",
-        "SELECT c FROM t WHERE a > 0",
-        "SELECT a FROM t WHERE c > 0",
-        "SELECT a FROM t WHERE a > '0'",
-        "SELECT a FROM t WHERE b > 0",
-        "SELECT a FROM v WHERE a > 0",
-        "SELECT a FROM t WHERE a >= 0",
-        "SELECT a FROM t WHERE a > 0 x",
-        "SELECT a, FROM t WHERE a > 0",
-        "DROP TABLE t",
-        "INSERT INTO t VALUES(2,'y",
-    ];
-    let after = ";SELECT a, b FROM t WHERE a > 0;SELECT c FROM u WHERE c > ''";
-    for statement in refused {
+    let after = ";SELECT a, b FROM t;SELECT c FROM u";
+    for (statement, why) in REFUSED.iter() {
         let script = format!(in rt.alloc(); "{before}{statement}{after}")?;
         let got = answer_to(rt.alloc(), script.as_str(), NONE)?;
-        let lines = if statement.ends_with("'y") {
-            format!(in rt.alloc(); "{REFUSED}")?
-        } else {
-            format!(in rt.alloc(); "{REFUSED}1|x\n{REFUSED}")?
-        };
+        let lines = format!(in rt.alloc(); "Error 1: {why}\n1|x\n{NO_TABLE}")?;
         assert_eq!(rt; got.written.as_slice(), lines.as_bytes(), "{statement}");
         assert_eq!(rt; got.status, 1, "{statement}");
     }
+    Ok(())
+}
+
+#[test]
+fn a_text_without_its_quote_is_pending(rt: HostRuntime) -> Result<(), Fail> {
+    let script = "CREATE TABLE u(c TEXT);INSERT INTO u VALUES('y;SELECT c FROM u;";
+    let got = answer_to(rt.alloc(), script, NONE)?;
+    assert_eq!(rt;
+        got.written.as_slice(),
+        b"Error 1: not built yet\n".as_slice()
+    );
+    assert_eq!(rt; got.status, 1);
     Ok(())
 }
 
@@ -232,7 +245,7 @@ fn a_read_fault_leaves_what_is_pending(rt: HostRuntime) -> Result<(), Fail> {
         "INSERT INTO u VALUES(1);INSERT INTO u VALUES(2)",
         faults,
     )?;
-    assert_eq!(rt; got.written.as_slice(), REFUSED.as_bytes());
+    assert_eq!(rt; got.written.as_slice(), NO_TABLE.as_bytes());
     assert_eq!(rt; got.status, 3);
     Ok(())
 }
@@ -256,8 +269,8 @@ fn a_sink_that_fails_got_a_front_of_the_lines(rt: HostRuntime) -> Result<(), Fai
     let script = format!(in alloc; "{FIRST}INSERT INTO u VALUES(1);{FIRST}")?;
     let whole = answer_to(alloc, script.as_str(), NONE)?;
     assert_eq!(rt; whole.status, 1);
-    // The sink takes three bytes at a time: two calls for the first row, eight for each refusal, four for the two rows.
-    for call in 0..24u64 {
+    // The sink takes three bytes at a time: two calls for the first row, nine and eleven for the refusals, four for the two rows.
+    for call in 0..28u64 {
         let writes = [call];
         let faults = Faults {
             piece: 7,
@@ -267,7 +280,7 @@ fn a_sink_that_fails_got_a_front_of_the_lines(rt: HostRuntime) -> Result<(), Fai
         let got = answer_to(alloc, script.as_str(), faults)?;
         assert!(rt; whole.written.starts_with(&got.written), "{call}");
         let failed = got.written.len() < whole.written.len();
-        assert_eq!(rt; failed, call < 22, "{call}");
+        assert_eq!(rt; failed, call < 26, "{call}");
         assert_eq!(rt; got.status, if failed { 3 } else { 1 }, "{call}");
     }
     Ok(())
@@ -282,7 +295,7 @@ fn the_byte_past_the_limit_is_not_looked_at(rt: HostRuntime) -> Result<(), Fail>
     let mut script = spaces(alloc, MAX_SCRIPT_BYTES - 23)?;
     script.extend_from_slice(&statement[..pending])?;
     let got = answer_to_bytes(alloc, script.to_vec(alloc)?, NONE)?;
-    assert_eq!(rt; got.written.as_slice(), REFUSED.as_bytes());
+    assert_eq!(rt; got.written.as_slice(), NO_TABLE.as_bytes());
     assert_eq!(rt; got.status, 1);
     script.push(b';')?;
     let got = answer_to_bytes(alloc, script, NONE)?;
@@ -292,7 +305,7 @@ fn the_byte_past_the_limit_is_not_looked_at(rt: HostRuntime) -> Result<(), Fail>
     let mut script = statement.to_vec(alloc)?;
     script.append(&mut spaces(alloc, MAX_SCRIPT_BYTES)?)?;
     let got = answer_to_bytes(alloc, script, NONE)?;
-    assert_eq!(rt; got.written.as_slice(), REFUSED.as_bytes());
+    assert_eq!(rt; got.written.as_slice(), NO_TABLE.as_bytes());
     assert_eq!(rt; got.status, 5);
     Ok(())
 }
@@ -351,7 +364,7 @@ fn lists_and_texts_end_at_their_limits(rt: HostRuntime) -> Result<(), Fail> {
 fn want_of_memory_leaves_a_front_of_the_lines(rt: HostRuntime) -> Result<(), Fail> {
     let script =
         "CREATE TABLE t(a INTEGER, b TEXT);INSERT INTO t VALUES(1,'x');INSERT INTO t VALUES(2);SELECT b, a FROM t WHERE a > 0";
-    let lines = format!(in rt.alloc(); "{REFUSED}x|1\n")?;
+    let lines = "Error 1: wrong number of values: t\nx|1\n";
     let got = answer_to(rt.alloc(), script, NONE)?;
     assert!(rt; lines.as_bytes().starts_with(&got.written));
     if got.status != 4 {

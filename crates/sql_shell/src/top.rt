@@ -1,9 +1,9 @@
 // The top call.
-ghost use Rattle.std.specs.Prelude.{◌≡◌, ◌≢◌, ◌↔◌, ◌⊎◌, ◌<◌, ◌≤◌, ◌+◌, length, IfSome};
+ghost use Rattle.std.specs.Prelude.{◌≡◌, ◌≢◌, ◌↔◌, ◌⊎◌, ◌<◌, ◌≤◌, ◌+◌, List, length, IfSome};
 ghost use Rattle.std.specs.Io.KnownBytes.{Appends, IsAtEnd};
 ghost use Rattle.host_traits.specs.Faults.{Rose};
 ghost use Rattle.sql_meaning.specs.Due.{CutShort, ForTold, IsScript, IsFrontOfScript, MayEnd};
-ghost use Rattle.sql_meaning.specs.Script.{ending_told, script_bound, status_of, usage_line};
+ghost use Rattle.sql_meaning.specs.Script.{AreOutcomes, Came, ending_told, script_bound, status_of, usage_line};
 ghost use Rattle.vm_core.specs.Meant.{meant};
 
 use crate::reading::read_script;
@@ -61,7 +61,8 @@ fn run_source<M: Meanings, S: Source, K: Sink, L: Ledger>(
     ensures steps { steps.old ≤ steps.new }
     ensures bound { ForTold (S.left src.old) (S.left src.new) (λ bytes.
         (ending : Ending) × MayEnd bytes (S.left src.new) ending
-        × (steps.new ≤ steps.old + script_bound M.hosts bytes ending)) }
+        × (came : List Came) × AreOutcomes M.hosts bytes ending came
+        × (steps.new ≤ steps.old + script_bound bytes ending came)) }
     ensures hosts { meant hosts.new ≡ M.hosts }
 {
     let script = match read_script(alloc, src) {
@@ -138,7 +139,8 @@ pub fn run<S: Source, K: Sink, L: Ledger>(
     ensures steps { steps.old ≤ steps.new }
     ensures bound { ForTold (S.left src.old) (S.left src.new) (λ bytes.
         (ending : Ending) × MayEnd bytes (S.left src.new) ending
-        × (steps.new ≤ steps.old + script_bound (meant hosts.old) bytes ending)) }
+        × (came : List Came) × AreOutcomes (meant hosts.old) bytes ending came
+        × (steps.new ≤ steps.old + script_bound bytes ending came)) }
 {
     if words.len() > 1 {
         let _ = write_all(out, USAGE);

@@ -8,7 +8,7 @@ use Rattle.eng_value.specs.declared.out.Out.{Out}
 use Rattle.vm_code.specs.declared.op.Op.{Op}
 use Rattle.vm_code.specs.declared.op.Op.TheVariants as op
 use Rattle.vm_code.specs.declared.program.Unit.{Unit}
-use Rattle.vm_code.specs.Machine.{Row, rows_of, is_free, Cursor, Closed, Open, Shared, Frame, State, Ending, Setting, Next, On, End, act, step, go_on, after, code_of, unit_at, read, outs_from, values_from, integer_in, jump_if, is_rejected, rewound, rewound_to, advanced, advanced_to, drawn, inserted, called, returned, cursor_at, cursor_rows, row_behind}
+use Rattle.vm_code.specs.Machine.{Row, rows_of, is_free, Cursor, Closed, Open, Shared, Frame, State, Ending, Setting, Next, On, End, act, step, go_on, after, code_of, unit_at, read, outs_from, values_from, integer_in, jump_if, is_accepted, is_rejected, is_null, is_known, is_bad, rewound, rewound_to, advanced, advanced_to, drawn, inserted, called, returned, cursor_at, cursor_rows, row_behind}
 use Rattle.vm_code.proofs.Runs.{after_add}
 
 -- behind other rows
@@ -67,16 +67,31 @@ module _ (g : List Row) where
   pub act_given : (m : Setting) (o : Option Op) (s : State) → act m o (under g s) ≡ prepend g (act m o s)
   act_given m None s = refl
   act_given m (Some (op.Goto target)) s = refl
+  act_given m (Some (op.If r target on_null)) s = jump_given (is_accepted on_null (read s.regs r)) s target
   act_given m (Some (op.IfNot r target on_null)) s = jump_given (is_rejected on_null (read s.regs r)) s target
+  act_given m (Some (op.IsNull r target)) s = jump_given (is_null (read s.regs r)) s target
+  act_given m (Some (op.NotNull r target)) s = jump_given (is_known (read s.regs r)) s target
+  act_given m (Some (op.IsBad r target)) s = jump_given (is_bad (read s.regs r)) s target
   act_given m (Some op.Halt) s = refl
+  act_given m (Some (op.HaltBad r)) s = refl
   act_given m (Some (op.Call u first n to)) s = called_given (unit_at m.prog u) s u (outs_from s.regs first n) to
   act_given m (Some (op.Ret r)) s = returned_given s.stack s.shared (read s.regs r)
   act_given m (Some (op.Argument k to)) s = refl
   act_given m (Some (op.ResultRow first n)) s =
       ap (λ l. On (record s { pc = s.pc + 1; shared = record s.shared { given = l } })) (append_assoc g s.shared.given (values_from s.regs first n ∷ []))
+  act_given m (Some (op.Null to)) s = refl
   act_given m (Some (op.Integer n to)) s = refl
   act_given m (Some (op.String8 text to)) s = refl
-  act_given m (Some (op.Compare o a b to)) s = refl
+  act_given m (Some (op.Blob bytes to)) s = refl
+  act_given m (Some (op.Bad cause to)) s = refl
+  act_given m (Some (op.Variable k to)) s = refl
+  act_given m (Some (op.Copy from to)) s = refl
+  act_given m (Some (op.Affinity r affinity)) s = refl
+  act_given m (Some (op.Unary o from to)) s = refl
+  act_given m (Some (op.Binary o a b to)) s = refl
+  act_given m (Some (op.LikeEscaped a b c to)) s = refl
+  act_given m (Some (op.Function f collation first n to)) s = refl
+  act_given m (Some (op.Merge from to)) s = refl
   act_given m (Some (op.OpenRead c t)) s = refl
   act_given m (Some (op.OpenWrite c t)) s = refl
   act_given m (Some (op.Close c)) s = refl

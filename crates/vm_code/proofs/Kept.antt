@@ -1,4 +1,4 @@
--- What every instruction keeps: the order of the tables, and what taking back the changes gives.
+-- What every instruction keeps: the order of the tables, the parameters, and what taking back the changes gives.
 use Rattle.std.proofs.Common.{◌≡◌, ℕ, zero, suc, ◌-◌, ◌<◌, List, [], ◌∷◌, ◌++◌, Bool, true, false, not, Some, None, ℤ, nat_lt, length, take, is_some, if◌then◌else◌, refl, ◌∙◌, ap, subst, arith, length-append, ltb-true}
 use Rattle.std.specs.Prelude.{slice_get, slice_set}
 use Rattle.std.specs.declared.option.Option.{Option}
@@ -6,12 +6,13 @@ use Rattle.std.proofs.lemmas.Bool.{and_parts}
 use Rattle.std.proofs.lemmas.List.{get_or-set_same}
 use Rattle.eng_value.specs.StoredRows.{StoredRow, IsAscending, next_rowid}
 use Rattle.eng_value.specs.declared.out.Out.{Out}
+use Rattle.eng_value.specs.declared.value.Value.{Value}
 use Rattle.vm_code.specs.declared.change.Change.{Change}
 use Rattle.vm_code.specs.declared.change.Change.TheVariants.{RowPut, TableAdded}
 use Rattle.vm_code.specs.declared.op.Op.{Op}
 use Rattle.vm_code.specs.declared.op.Op.TheVariants as op
 use Rattle.vm_code.specs.declared.program.Unit.{Unit}
-use Rattle.vm_code.specs.Machine.{Row, World, IsOrdered, rows_of, row_under, put_row, is_free, Cursor, Closed, Open, Shared, Frame, State, Setting, Next, On, End, Reaches, act, step, go_on, after, code_of, unit_at, read, outs_from, values_from, integer_in, jump_if, is_rejected, rewound, rewound_to, advanced, advanced_to, drawn, with_row, with_table, inserted, called, returned, cursor_at, cursor_rows, row_behind}
+use Rattle.vm_code.specs.Machine.{Row, World, IsOrdered, rows_of, row_under, put_row, is_free, Cursor, Closed, Open, Shared, Frame, State, Setting, Next, On, End, Ending, Reaches, Ends, act, step, go_on, after, code_of, unit_at, read, outs_from, values_from, integer_in, jump_if, is_accepted, is_rejected, is_null, is_known, is_bad, rewound, rewound_to, advanced, advanced_to, drawn, with_row, with_table, inserted, called, returned, cursor_at, cursor_rows, row_behind}
 use Rattle.vm_code.specs.Changes.{drop_row, undone, before}
 use Rattle.vm_code.proofs.Rows.{All-cons, All-nil, ascending_put, ascending_nil, drop_row-put_row}
 
@@ -63,15 +64,30 @@ module _ (P : Shared → Type 0) (given : (x : Shared) (r : Row) → P x → P (
   pub act_keeps : (m : Setting) (o : Option Op) (s : State) → P s.shared → P (shared_of (act m o s))
   act_keeps m None s p = p
   act_keeps m (Some (op.Goto target)) s p = p
+  act_keeps m (Some (op.If r target on_null)) s p = jump_keeps (is_accepted on_null (read s.regs r)) s target p
   act_keeps m (Some (op.IfNot r target on_null)) s p = jump_keeps (is_rejected on_null (read s.regs r)) s target p
+  act_keeps m (Some (op.IsNull r target)) s p = jump_keeps (is_null (read s.regs r)) s target p
+  act_keeps m (Some (op.NotNull r target)) s p = jump_keeps (is_known (read s.regs r)) s target p
+  act_keeps m (Some (op.IsBad r target)) s p = jump_keeps (is_bad (read s.regs r)) s target p
   act_keeps m (Some op.Halt) s p = p
+  act_keeps m (Some (op.HaltBad r)) s p = p
   act_keeps m (Some (op.Call u first n to)) s p = called_keeps (unit_at m.prog u) s u (outs_from s.regs first n) to p
   act_keeps m (Some (op.Ret r)) s p = returned_keeps s.stack s.shared (read s.regs r) p
   act_keeps m (Some (op.Argument k to)) s p = p
   act_keeps m (Some (op.ResultRow first n)) s p = given s.shared (values_from s.regs first n) p
+  act_keeps m (Some (op.Null to)) s p = p
   act_keeps m (Some (op.Integer n to)) s p = p
   act_keeps m (Some (op.String8 text to)) s p = p
-  act_keeps m (Some (op.Compare o a b to)) s p = p
+  act_keeps m (Some (op.Blob bytes to)) s p = p
+  act_keeps m (Some (op.Bad cause to)) s p = p
+  act_keeps m (Some (op.Variable k to)) s p = p
+  act_keeps m (Some (op.Copy from to)) s p = p
+  act_keeps m (Some (op.Affinity r affinity)) s p = p
+  act_keeps m (Some (op.Unary o from to)) s p = p
+  act_keeps m (Some (op.Binary o a b to)) s p = p
+  act_keeps m (Some (op.LikeEscaped a b c to)) s p = p
+  act_keeps m (Some (op.Function f collation first n to)) s p = p
+  act_keeps m (Some (op.Merge from to)) s p = p
   act_keeps m (Some (op.OpenRead c t)) s p = p
   act_keeps m (Some (op.OpenWrite c t)) s p = p
   act_keeps m (Some (op.Close c)) s p = p
@@ -142,6 +158,27 @@ ordered_shared m n s up = after_keeps HasOrder (λ x r p. p) ordered_with_row (�
 -- a machine that goes on has its tables in order
 pub ordered_after : {m : Setting} {most : ℕ} {s t : State} → Reaches m most s t → IsOrdered s.shared.world → IsOrdered t.shared.world
 ordered_after {m} {most} {s} {t} way up = subst (λ x. IsOrdered (shared_of x).world) way.is (ordered_shared m way.steps s up)
+
+-- ---- the parameters
+
+module _ (params : List Value) where
+  abbrev HasParams : Shared → Type 0
+  HasParams x = x.params ≡ params
+
+  params_with_row : (x : Shared) (t : ℕ) (r : StoredRow) → HasParams x → HasParams (with_row x t r)
+  params_with_row x t r same = with_row_by HasParams x t r same (λ free. same)
+
+  pub params_shared : (m : Setting) (n : ℕ) (s : State) → s.shared.params ≡ params → (shared_of (after m n s)).params ≡ params
+  params_shared m n s same = after_keeps HasParams (λ x r p. p) params_with_row (λ x p. p) m n s same
+
+-- a machine that goes on has the same parameters, and so has one at its end
+pub params_after : {m : Setting} {most : ℕ} {s t : State} → Reaches m most s t → t.shared.params ≡ s.shared.params
+params_after {m} {most} {s} {t} way =
+    subst (λ x. (shared_of x).params ≡ s.shared.params) way.is (params_shared s.shared.params m way.steps s refl)
+
+pub params_at_end : {m : Setting} {most : ℕ} {s : State} {e : Ending} {x : Shared} → Ends m most s e x → x.params ≡ s.shared.params
+params_at_end {m} {most} {s} {e} {x} way =
+    subst (λ y. (shared_of y).params ≡ s.shared.params) way.is (params_shared s.shared.params m way.steps s refl)
 
 -- ---- taking back
 

@@ -9,7 +9,7 @@ pub mod Given
 pub mod Drafts
 pub mod Registers
 -- Stretches of code by claims. `t_seq` puts one behind another, `t_use` turns claims, `t_more` allows more instructions; `t_op`,
--- `t_test`, `t_goto`, `t_halt` are the single instructions, and a jump goes by what holds at its label:
+-- `t_test`, `t_goto`, `t_halt`, `t_halt_bad` are the single instructions, and a jump goes by what holds at its label:
 pub mod Triples
 -- Expressions, bodies of loops and calls (`Leaves`, `Does`) as stretches, and stretches as those:
 pub mod Effects

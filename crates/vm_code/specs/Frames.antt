@@ -4,8 +4,9 @@ use Rattle.std.specs.declared.option.Option.{Option}
 use Rattle.eng_value.specs.Causes.{CauseSet}
 use Rattle.eng_value.specs.Environments.{Environment}
 use Rattle.eng_value.specs.declared.out.Out.{Out}
+use Rattle.eng_value.specs.declared.value.Value.{Value}
 use Rattle.vm_code.specs.declared.op.Op.{Op}
-use Rattle.vm_code.specs.declared.op.Op.TheVariants.{Goto, IfNot, Rewind, Next}
+use Rattle.vm_code.specs.declared.op.Op.TheVariants.{Goto, If, IfNot, IsNull, NotNull, IsBad, Rewind, Next}
 use Rattle.vm_code.specs.declared.program.Program.{Program}
 use Rattle.vm_code.specs.declared.program.Unit.{Unit}
 use Rattle.vm_code.specs.Draft.{Draft}
@@ -16,7 +17,11 @@ use Rattle.vm_code.specs.Machine.{World, IsOrdered, Cursor, Closed, Setting, Sha
 -- an instruction with the places of its labels
 abbrev pub placed : (ℕ → ℕ) → Op → Op
 placed at (Goto target) = Goto (at target)
+placed at (If r target on_null) = If r (at target) on_null
 placed at (IfNot r target on_null) = IfNot r (at target) on_null
+placed at (IsNull r target) = IsNull r (at target)
+placed at (NotNull r target) = NotNull r (at target)
+placed at (IsBad r target) = IsBad r (at target)
 placed at (Rewind c target) = Rewind c (at target)
 placed at (Next c target) = Next c (at target)
 placed at other = other
@@ -101,9 +106,9 @@ pub record Ready (b : Draft) (u : ℕ) (s : State) : Type 0 where
 abbrev pub Shut : ℕ → List Cursor → Type 0
 Shut from cursors = (c : ℕ) → from ≤ c → cursor_at cursors c ≡ Closed
 
--- what expressions see: the rows under the cursors, and the unit's arguments
+-- what expressions see: the rows under the cursors, the unit's arguments, and the parameters
 abbrev pub environment_of : Here → Environment
-environment_of h = record { rows = map (current h.shared.world) h.cursors; arguments = h.args }
+environment_of h = record { rows = map (current h.shared.world) h.cursors; arguments = h.args; params = h.shared.params }
 
 -- ---- code that leaves a value
 
@@ -210,12 +215,12 @@ pub record Does (a b : Draft) (lo causes exit : ℕ) (f : Effect) (cost : World 
 
 -- ---- units that are called
 
--- a ready unit that answers a function of the tables and of its arguments, in every program that begins with the units
-abbrev pub Serves : List Unit → ℕ → (World → List Out → Out) → (World → ℕ) → Type 0
+-- a ready unit that answers a function of the tables, the parameters and its arguments, in every program that begins with the units
+abbrev pub Serves : List Unit → ℕ → (World → List Value → List Out → Out) → (World → ℕ) → Type 0
 Serves units k f cost =
     (x : Unit) × (slice_get units k ≡ Some x)
     × ((m : Setting) → Begins units m.prog → (args : List Out) (g : Frame) (gs : List Frame) (shared : Shared) → IsOrdered shared.world
-    → Reaches m (cost shared.world) (entered x (suc k) args g gs shared) (resumed g gs shared (f shared.world args)))
+    → Reaches m (cost shared.world) (entered x (suc k) args g gs shared) (resumed g gs shared (f shared.world shared.params args)))
 
 -- what a unit that changes the tables comes to: a value, or the end of the run
 pub data Answer : Type 0 where

@@ -3,12 +3,20 @@ use Rattle.std.specs.Prelude.{◌≡◌, ℕ, zero, suc, ◌+◌, ◌≤◌, len
 use Rattle.std.specs.List.{find}
 use Rattle.std.specs.Ordering.{int_eq}
 use Rattle.std.specs.declared.option.Option.{Option}
+use Rattle.eng_key.specs.Values.{value_key}
+use Rattle.eng_value.specs.Applied.{unary_of, binary_of, function_by, merged}
+use Rattle.eng_value.specs.Casts.{store_as}
 use Rattle.eng_value.specs.Causes.{CauseSet, only}
-use Rattle.eng_value.specs.Outs.{truth_of, compare_outs}
+use Rattle.eng_value.specs.Comparisons.{like_escaped_of}
+use Rattle.eng_value.specs.Operators.{made}
+use Rattle.eng_value.specs.Outs.{bad, turned}
+use Rattle.eng_value.specs.Truths.{truth_in, truth_of}
 use Rattle.eng_value.specs.StoredRows.{StoredRow, IsAscending, next_rowid}
 use Rattle.eng_value.specs.declared.cause.Cause.TheVariants.{Full}
 use Rattle.eng_value.specs.declared.out.Out.{Out}
 use Rattle.eng_value.specs.declared.out.Out.TheVariants.{Good, Bad}
+use Rattle.eng_value.specs.declared.truth.Truth.{Truth}
+use Rattle.eng_value.specs.declared.truth.Truth.TheVariants as truth
 use Rattle.eng_value.specs.declared.value.Value.{Value}
 use Rattle.eng_value.specs.declared.value.Value.TheVariants.{Null, Integer, Text, Blob}
 use Rattle.vm_code.specs.declared.change.Change.{Change}
@@ -84,8 +92,9 @@ column row k = Good (slice_index_or row k Null)
 
 -- ---- states
 
--- what all frames share: the tables, the rows given so far, and what was changed so far, oldest first
+-- what all frames share: the parameters, the tables, the rows given so far, and what was changed so far, oldest first
 pub record Shared : Type 0 where
+  pub params : List Value
   pub world : World
   pub given : List Row
   pub changes : List Change
@@ -152,15 +161,49 @@ abbrev pub jump_if : Bool → State → ℕ → Next
 jump_if true s target = jump s target
 jump_if false s target = skip s
 
--- false, or NULL where that counts
-abbrev pub is_untrue : Bool → Option Bool → Bool
-is_untrue on_null None = on_null
-is_untrue on_null (Some truth) = not truth
+-- whether a jump on true is taken: on NULL as it says, and never on what is bad
+abbrev pub is_true : Bool → Truth → Bool
+is_true on_null truth.True = true
+is_true on_null truth.False = false
+is_true on_null truth.Unknown = on_null
+is_true on_null (truth.Failed causes) = false
 
--- whether a jump on false is taken; what is bad takes none
+abbrev pub is_accepted : Bool → Out → Bool
+is_accepted on_null a = is_true on_null (truth_in (truth_of a))
+
+-- whether a jump on false is taken
+abbrev pub is_false : Bool → Truth → Bool
+is_false on_null truth.True = false
+is_false on_null truth.False = true
+is_false on_null truth.Unknown = on_null
+is_false on_null (truth.Failed causes) = false
+
 abbrev pub is_rejected : Bool → Out → Bool
-is_rejected on_null (Good v) = is_untrue on_null (truth_of v)
-is_rejected on_null (Bad c) = false
+is_rejected on_null a = is_false on_null (truth_in (truth_of a))
+
+-- whether it is NULL, and whether it is another value; what is bad is neither
+abbrev pub is_null : Out → Bool
+is_null (Good Null) = true
+is_null a = false
+
+abbrev pub is_known : Out → Bool
+is_known (Good Null) = false
+is_known (Good v) = true
+is_known (Bad causes) = false
+
+abbrev pub is_bad : Out → Bool
+is_bad (Good v) = false
+is_bad (Bad causes) = true
+
+-- the parameter of this number, from 1 on: NULL where there is none, and bad where it is too long
+abbrev pub parameter_at : List Value → ℕ → Out
+parameter_at params zero = Good Null
+parameter_at params (suc k) = made (slice_index_or params k Null)
+
+-- how a run ends with what a register came to
+abbrev pub ending_of : Out → Ending
+ending_of (Good v) = Finished
+ending_of (Bad causes) = Failed causes
 
 abbrev pub good_or_null : Out → Value
 good_or_null (Good v) = v
@@ -267,15 +310,30 @@ returned (f ∷ fs) shared v = On (resumed f fs shared v)
 abbrev pub act : Setting → Option Op → State → Next
 act m None s = End Finished s.shared
 act m (Some (op.Goto target)) s = jump s target
+act m (Some (op.If r target on_null)) s = jump_if (is_accepted on_null (read s.regs r)) s target
 act m (Some (op.IfNot r target on_null)) s = jump_if (is_rejected on_null (read s.regs r)) s target
+act m (Some (op.IsNull r target)) s = jump_if (is_null (read s.regs r)) s target
+act m (Some (op.NotNull r target)) s = jump_if (is_known (read s.regs r)) s target
+act m (Some (op.IsBad r target)) s = jump_if (is_bad (read s.regs r)) s target
 act m (Some op.Halt) s = End Finished s.shared
+act m (Some (op.HaltBad r)) s = End (ending_of (read s.regs r)) s.shared
 act m (Some (op.Call u first n to)) s = called (unit_at m.prog u) s u (outs_from s.regs first n) to
 act m (Some (op.Ret r)) s = returned s.stack s.shared (read s.regs r)
 act m (Some (op.Argument k to)) s = put s to (read s.args k)
 act m (Some (op.ResultRow first n)) s = skip (record s { shared = record s.shared { given = s.shared.given ++ values_from s.regs first n ∷ [] } })
+act m (Some (op.Null to)) s = put s to (Good Null)
 act m (Some (op.Integer n to)) s = put s to (Good (Integer n))
 act m (Some (op.String8 text to)) s = put s to (Good (Text text))
-act m (Some (op.Compare o a b to)) s = put s to (compare_outs o (read s.regs a) (read s.regs b))
+act m (Some (op.Blob bytes to)) s = put s to (Good (Blob bytes))
+act m (Some (op.Bad cause to)) s = put s to (bad cause)
+act m (Some (op.Variable k to)) s = put s to (parameter_at s.shared.params k)
+act m (Some (op.Copy from to)) s = put s to (read s.regs from)
+act m (Some (op.Affinity r affinity)) s = put s r (turned (store_as affinity) (read s.regs r))
+act m (Some (op.Unary o from to)) s = put s to (unary_of o (read s.regs from))
+act m (Some (op.Binary o a b to)) s = put s to (binary_of o (read s.regs a) (read s.regs b))
+act m (Some (op.LikeEscaped a b c to)) s = put s to (like_escaped_of (read s.regs a) (read s.regs b) (read s.regs c))
+act m (Some (op.Function f collation first n to)) s = put s to (function_by value_key f collation (outs_from s.regs first n))
+act m (Some (op.Merge from to)) s = put s to (merged (read s.regs from) (read s.regs to))
 act m (Some (op.OpenRead c table)) s = skip (with_cursor s c (Open table None))
 act m (Some (op.OpenWrite c table)) s = skip (with_cursor s c (Open table None))
 act m (Some (op.Close c)) s = skip (with_cursor s c Closed)
@@ -313,15 +371,15 @@ pub record Ends (m : Setting) (most : ℕ) (s : State) (e : Ending) (shared : Sh
   pub is : after m steps s ≡ End e shared
 
 -- the state at a program's start
-abbrev pub start : Program → World → State
-start p w = record {
+abbrev pub start : Program → List Value → World → State
+start p params w = record {
   unit = 0;
   pc = 0;
   regs = replicate p.main.registers (Good Null);
   args = [];
   cursors = replicate p.main.cursors Closed;
   stack = [];
-  shared = record { world = w; given = []; changes = [] };
+  shared = record { params = params; world = w; given = []; changes = [] };
 }
 
 -- how a run ends, and what is shared then
@@ -329,7 +387,7 @@ pub record Run : Type 0 where
   pub ending : Ending
   pub shared : Shared
 
--- from each world whose tables are in order the program's run ends so, in at most so many instructions
-abbrev pub Performs : Program → (World → Run) → (World → ℕ) → Type 0
+-- with these parameters, and from each world whose tables are in order, the program's run ends so, in at most so many instructions
+abbrev pub Performs : Program → (List Value → World → Run) → (World → ℕ) → Type 0
 Performs p run most =
-    (w : World) → IsOrdered w → Ends (record { prog = p }) (most w) (start p w) (run w).ending (run w).shared
+    (params : List Value) (w : World) → IsOrdered w → Ends (record { prog = p }) (most w) (start p params w) (run params w).ending (run params w).shared

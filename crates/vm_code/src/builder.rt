@@ -198,7 +198,11 @@ fn place_op(op: &mut Op, labels: &[Option<usize>])
 {
     match op {
         Op::Goto { target } => *target = place(labels, *target),
+        Op::If { target, .. } => *target = place(labels, *target),
         Op::IfNot { target, .. } => *target = place(labels, *target),
+        Op::IsNull { target, .. } => *target = place(labels, *target),
+        Op::NotNull { target, .. } => *target = place(labels, *target),
+        Op::IsBad { target, .. } => *target = place(labels, *target),
         Op::Rewind { target, .. } => *target = place(labels, *target),
         Op::Next { target, .. } => *target = place(labels, *target),
         _ => {}

@@ -1,10 +1,11 @@
 // The instructions.
-use eng_value::{CompareOp, Text};
+use eng_value::{Affinity, BinaryOperator, Blob, Built, Builtin, Cause, Text, UnaryOperator};
 
 /// An instruction (The SQLite Bytecode Engine). Its operands are numbers of registers, cursors, columns, tables and units,
 /// and places in the unit's code; `r` is the registers of the frame, each of which holds a value or is bad. A register, a
-/// cursor, a unit or an instruction that is not there never stops the machine: a missing register reads NULL, a cursor
-/// that is not open reads NULL and has no row, and behind the last instruction the run ends as at `Halt`.
+/// cursor, a unit or an instruction that is not there never stops the machine: a missing register reads NULL and takes
+/// nothing, a cursor that is not open reads NULL and has no row, and behind the last instruction the run ends as at `Halt`.
+/// What is bad is carried along, with its causes, until `HaltBad` or the query decides what becomes of it.
 ///
 /// Where the table of opcodes numbers the operands, the comment does too: p1, p2, p3, p4 and p5.
 #[derive(Debug, Drop)]
@@ -13,14 +14,41 @@ pub enum Op {
     Goto {
         target: usize,
     },
-    /// Jumps to `target` (p2) where r[`register`] (p1) is false, and on NULL where `on_null` (p3) says so.
+    /// Jumps to `target` (p2) where r[`register`] (p1) is true, and on NULL where `on_null` (p3) says so. What is bad never
+    /// jumps, nor does what has no truth, such as a text that begins with a REAL.
+    If {
+        register: u32,
+        target: usize,
+        on_null: bool,
+    },
+    /// Jumps to `target` (p2) where r[`register`] (p1) is false, and on NULL where `on_null` (p3) says so. What is bad never
+    /// jumps, nor does what has no truth.
     IfNot {
         register: u32,
         target: usize,
         on_null: bool,
     },
+    /// Jumps to `target` (p2) where r[`register`] (p1) is NULL. What is bad never jumps.
+    IsNull {
+        register: u32,
+        target: usize,
+    },
+    /// Jumps to `target` (p2) where r[`register`] (p1) is a value that is not NULL. What is bad never jumps.
+    NotNull {
+        register: u32,
+        target: usize,
+    },
+    /// Jumps to `target` where r[`register`] is bad.
+    IsBad {
+        register: u32,
+        target: usize,
+    },
     /// Ends the run.
     Halt,
+    /// Ends the run with the causes of r[`register`], as a failure where it is bad and as `Halt` does where it is good.
+    HaltBad {
+        register: u32,
+    },
     /// Runs the unit of number `unit` (p1) in a new frame, with the `count` registers from `first` (p2) on as its arguments.
     /// Its result goes to r[`to`] (p3). A unit that is not there leaves NULL.
     Call {
@@ -43,6 +71,10 @@ pub enum Op {
         first: u32,
         count: u32,
     },
+    /// r[`to`] (p2) is NULL.
+    Null {
+        to: u32,
+    },
     /// r[`to`] (p2) is the integer `value` (p1).
     Integer {
         value: i64,
@@ -53,11 +85,66 @@ pub enum Op {
         text: Text,
         to: u32,
     },
-    /// r[`to`] (p3) is the comparison `op` (p5) of r[`left`] (p1) with r[`right`] (p2).
-    Compare {
-        op: CompareOp,
+    /// r[`to`] (p2) is the blob `blob` (p4).
+    Blob {
+        blob: Blob,
+        to: u32,
+    },
+    /// r[`to`] is bad, for this one cause.
+    Bad {
+        cause: Cause,
+        to: u32,
+    },
+    /// r[`to`] (p2) is the parameter of number `number` (p1), from 1 on. A parameter that is missing is NULL, and a text or a blob
+    /// that is longer than the limit is bad (`TooBig`).
+    Variable {
+        number: u32,
+        to: u32,
+    },
+    /// r[`to`] (p2) is what r[`from`] (p1) holds, which stays there.
+    Copy {
+        from: u32,
+        to: u32,
+    },
+    /// r[`register`] (p1) becomes what a column of the affinity (p4) would hold after it was stored there.
+    Affinity {
+        register: u32,
+        affinity: Affinity,
+    },
+    /// r[`to`] (p2) is what the operator gives for r[`from`] (p1). It stands for the opcodes of the operators with one operand, as
+    /// Not, BitNot and Cast.
+    Unary {
+        operator: UnaryOperator,
+        from: u32,
+        to: u32,
+    },
+    /// r[`to`] (p3) is what the operator gives for r[`left`] and r[`right`]. It stands for the opcodes of the operators with two
+    /// operands, as Add, Concat and Lt.
+    Binary {
+        operator: BinaryOperator,
         left: u32,
         right: u32,
+        to: u32,
+    },
+    /// r[`to`] is whether the text in r[`text`] is like the pattern in r[`pattern`], whose character of escape is r[`escape`].
+    LikeEscaped {
+        text: u32,
+        pattern: u32,
+        escape: u32,
+        to: u32,
+    },
+    /// r[`to`] (p3) is what the function (p4) gives for the `count` (p5) registers from `first` (p2) on, where texts are compared under
+    /// the collation.
+    Function {
+        function: Builtin,
+        collation: Built,
+        first: u32,
+        count: u32,
+        to: u32,
+    },
+    /// Where r[`from`] is bad r[`to`] becomes bad, with the causes of both; where it is good r[`to`] stays as it is.
+    Merge {
+        from: u32,
         to: u32,
     },
     /// Opens a cursor (p1) on a table (p2) for reading. It is on no row.

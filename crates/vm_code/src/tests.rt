@@ -71,6 +71,42 @@ fn each_jump_of_a_loop_has_its_place(rt: HostRuntime) -> Result<(), Fail> {
     Ok(())
 }
 
+// The jumps on values, all to one label behind them.
+#[test]
+fn each_jump_on_a_value_has_its_place(rt: HostRuntime) -> Result<(), Fail> {
+    let alloc = rt.alloc();
+    let mut b = builder(alloc);
+    let behind = b.label()?;
+    b.op(Op::If {
+        register: 0,
+        target: behind,
+        on_null: false,
+    })?;
+    b.op(Op::IsNull {
+        register: 1,
+        target: behind,
+    })?;
+    b.op(Op::NotNull {
+        register: 2,
+        target: behind,
+    })?;
+    b.op(Op::IsBad {
+        register: 3,
+        target: behind,
+    })?;
+    b.op(Op::Null { to: 4 })?;
+    b.bind(behind);
+    b.op(Op::HaltBad { register: 4 })?;
+    let program = b.finish_program();
+    assert_eq!(rt;
+        written(alloc, &program.main)?.as_str(),
+        "[If { register: 0, target: 5, on_null: false }, IsNull { register: 1, target: 5 }, \
+         NotNull { register: 2, target: 5 }, IsBad { register: 3, target: 5 }, Null { to: 4 }, \
+         HaltBad { register: 4 }]"
+    );
+    Ok(())
+}
+
 #[test]
 fn registers_are_taken_and_given_back(rt: HostRuntime) -> Result<(), Fail> {
     let mut b = builder(rt.alloc());

@@ -1,3 +1,4 @@
 mod Stored
 mod Puts
 mod Steps
+mod RegisterLaws

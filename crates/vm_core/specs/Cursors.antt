@@ -4,14 +4,6 @@ use Rattle.std.specs.Option.{option_map}
 use Rattle.std.specs.declared.option.Option.{Option}
 use Rattle.eng_value.specs.StoredRows.{StoredRow}
 use Rattle.vm_code.specs.Machine.{World, Cursor, Closed, Open, rows_of, row_behind}
-use Rattle.vm_core.specs.declared.cursor.Spot.{Spot}
-use Rattle.vm_core.specs.declared.cursor.Spot.TheVariants as spot
-use Rattle.vm_core.specs.declared.cursor.Place.{Place}
-
--- where a cursor stands, without the index that helps to find its row
-abbrev pub cursor_of : Spot → Cursor
-cursor_of spot.Closed = Closed
-cursor_of (spot.Open table place) = Open table (option_map (λ (p : Place). p.rowid) place)
 
 abbrev pub is_on_row : Cursor → Bool
 is_on_row Closed = false

@@ -1,14 +1,14 @@
 -- A machine between two instructions.
-use Rattle.std.specs.Prelude.{ℕ, List, []}
-use Rattle.std.specs.Prelude.{replicate}
+use Rattle.std.specs.Prelude.{ℕ, List, [], replicate}
 use Rattle.eng_value.specs.declared.out.Out.{Out}
 use Rattle.eng_value.specs.declared.out.Out.TheVariants.{Good}
+use Rattle.eng_value.specs.declared.value.Value.{Value}
 use Rattle.eng_value.specs.declared.value.Value.TheVariants.{Null}
 use Rattle.vm_code.specs.declared.change.Change.{Change}
 use Rattle.vm_code.specs.declared.program.Program.{Program}
 use Rattle.vm_code.specs.Machine.{Row, World, Cursor, Closed, Frame, Shared, State}
 
--- what a run has come to: the frame that runs, the frames that wait, the last first, and what was changed, oldest first
+-- what a run has come to: the frame that runs, the frames that wait, the last first, the parameters, and what was changed, oldest first
 pub record Progress : Type 0 where
   pub unit : ℕ
   pub pc : ℕ
@@ -16,10 +16,11 @@ pub record Progress : Type 0 where
   pub args : List Out
   pub cursors : List Cursor
   pub stack : List Frame
+  pub params : List Value
   pub changes : List Change
 
-abbrev pub shared_of : World → List Change → Shared
-shared_of w changes = record { world = w; given = []; changes = changes }
+abbrev pub shared_of : List Value → World → List Change → Shared
+shared_of params w changes = record { params = params; world = w; given = []; changes = changes }
 
 -- the state of the machine over lists, with these tables and these rows given
 abbrev pub state_at : Progress → World → List Row → State
@@ -30,7 +31,7 @@ state_at p w given = record {
   args = p.args;
   cursors = p.cursors;
   stack = p.stack;
-  shared = record { world = w; given = given; changes = p.changes };
+  shared = record { params = p.params; world = w; given = given; changes = p.changes };
 }
 
 -- a program and what its run has come to
@@ -42,6 +43,7 @@ pub record Paused : Type 0 where
   pub args : List Out
   pub cursors : List Cursor
   pub stack : List Frame
+  pub params : List Value
   pub changes : List Change
 
 abbrev pub paused : Program → Progress → Paused
@@ -53,6 +55,7 @@ paused prog p = record {
   args = p.args;
   cursors = p.cursors;
   stack = p.stack;
+  params = p.params;
   changes = p.changes;
 }
 
@@ -64,6 +67,7 @@ progress_of m = record {
   args = m.args;
   cursors = m.cursors;
   stack = m.stack;
+  params = m.params;
   changes = m.changes;
 }
 
@@ -71,9 +75,9 @@ progress_of m = record {
 abbrev pub state_of : Paused → World → List Row → State
 state_of m w given = state_at (progress_of m) w given
 
--- a program before its first instruction
-abbrev pub at_start : Program → Paused
-at_start p = record {
+-- a program before its first instruction, with these parameters
+abbrev pub at_start : Program → List Value → Paused
+at_start p params = record {
   prog = p;
   unit = 0;
   pc = 0;
@@ -81,5 +85,6 @@ at_start p = record {
   args = [];
   cursors = replicate p.main.cursors Closed;
   stack = [];
+  params = params;
   changes = [];
 }

@@ -7,12 +7,12 @@ ghost use Rattle.vm_core.specs.Events.{Leads};
 ghost use Rattle.vm_core.specs.Paused.{state_at};
 
 use crate::Tables;
-use crate::cursor::Cursor;
 use crate::flow::Flow;
 use crate::running::Running;
-use eng_value::{Cause, Causes, Out, StoredRow, Text, Value};
+use eng_value::{Cause, Causes, Out, Text, Value};
 use std::alloc::{AllocError, Global};
 use vm_code::{Op, Program};
+use vm_store::Cursor;
 
 /// Runs the instruction that comes next. Where it fails for want of memory, nothing was changed in the tables.
 pub(crate) fn instruction(
@@ -50,16 +50,41 @@ fn execute(
             running.jump(*target);
             Ok(Flow::Going)
         }
+        Op::If {
+            register,
+            target,
+            on_null,
+        } => {
+            let jumps = running.is_accepted(alloc, *register, *on_null);
+            running.jump_if(jumps, *target);
+            Ok(Flow::Going)
+        }
         Op::IfNot {
             register,
             target,
             on_null,
         } => {
-            let jumps = running.is_rejected(*register, *on_null);
+            let jumps = running.is_rejected(alloc, *register, *on_null);
+            running.jump_if(jumps, *target);
+            Ok(Flow::Going)
+        }
+        Op::IsNull { register, target } => {
+            let jumps = running.is_null(*register);
+            running.jump_if(jumps, *target);
+            Ok(Flow::Going)
+        }
+        Op::NotNull { register, target } => {
+            let jumps = running.is_known(*register);
+            running.jump_if(jumps, *target);
+            Ok(Flow::Going)
+        }
+        Op::IsBad { register, target } => {
+            let jumps = running.is_bad(*register);
             running.jump_if(jumps, *target);
             Ok(Flow::Going)
         }
         Op::Halt => Ok(Flow::Finished),
+        Op::HaltBad { register } => Ok(running.halt(*register)),
         Op::Call {
             unit,
             first,
@@ -71,32 +96,80 @@ fn execute(
         }
         Op::Ret { from } => Ok(running.ret(*from)),
         Op::Argument { number, to } => {
-            let out = running.argument(*number)?;
-            running.put(*to, out);
+            running.put_argument(*number, *to)?;
             Ok(Flow::Going)
         }
         Op::ResultRow { first, count } => {
-            let row = running.values(alloc, *first, *count)?;
+            let row = running.registers().values(alloc, *first, *count)?;
             running.go_on();
             Ok(Flow::Gave(row))
         }
+        Op::Null { to } => {
+            running.put_null(*to);
+            Ok(Flow::Going)
+        }
         Op::Integer { value, to } => {
-            running.put(*to, Out::Good(Value::Integer(*value)));
+            running.put_integer(*value, *to);
             Ok(Flow::Going)
         }
         Op::String8 { text, to } => {
-            let text = text.clone()?;
-            running.put(*to, Out::Good(Value::Text(text)));
+            running.put_text(text, *to)?;
             Ok(Flow::Going)
         }
-        Op::Compare {
-            op,
+        Op::Blob { blob, to } => {
+            running.put_blob(blob, *to)?;
+            Ok(Flow::Going)
+        }
+        Op::Bad { cause, to } => {
+            running.put_bad(alloc, cause, *to)?;
+            Ok(Flow::Going)
+        }
+        Op::Variable { number, to } => {
+            running.put_parameter(alloc, *number, *to)?;
+            Ok(Flow::Going)
+        }
+        Op::Copy { from, to } => {
+            running.put_copy(*from, *to)?;
+            Ok(Flow::Going)
+        }
+        Op::Affinity { register, affinity } => {
+            running.store_as(alloc, *register, *affinity)?;
+            Ok(Flow::Going)
+        }
+        Op::Unary { operator, from, to } => {
+            running.put_unary(alloc, *operator, *from, *to)?;
+            Ok(Flow::Going)
+        }
+        Op::Binary {
+            operator,
             left,
             right,
             to,
         } => {
-            let out = running.compare(*op, *left, *right)?;
-            running.put(*to, out);
+            running.put_binary(alloc, *operator, *left, *right, *to)?;
+            Ok(Flow::Going)
+        }
+        Op::LikeEscaped {
+            text,
+            pattern,
+            escape,
+            to,
+        } => {
+            running.put_like_escaped(alloc, *text, *pattern, *escape, *to)?;
+            Ok(Flow::Going)
+        }
+        Op::Function {
+            function: name,
+            collation,
+            first,
+            count,
+            to,
+        } => {
+            running.put_call(alloc, *name, *collation, *first, *count, *to)?;
+            Ok(Flow::Going)
+        }
+        Op::Merge { from, to } => {
+            running.put_merged(*from, *to)?;
             Ok(Flow::Going)
         }
         Op::OpenRead { cursor, table } => {
@@ -122,8 +195,7 @@ fn execute(
             Ok(Flow::Going)
         }
         Op::Column { cursor, column, to } => {
-            let out = running.column(alloc, tables, *cursor, *column)?;
-            running.put(*to, out);
+            running.put_column(alloc, tables, *cursor, *column, *to)?;
             Ok(Flow::Going)
         }
         Op::NewRowid { cursor, to, table } => new_rowid(
@@ -135,9 +207,7 @@ fn execute(
             first,
             count,
         } => {
-            let values = running.values(alloc, *first, *count)?;
-            let row = StoredRow::new(running.integer(*rowid), values);
-            running.insert(alloc, tables, *cursor, &row)?;
+            running.insert_registers(alloc, tables, *cursor, *rowid, *first, *count)?;
             Ok(Flow::Going)
         }
         Op::Schema => {

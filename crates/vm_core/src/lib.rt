@@ -3,7 +3,8 @@
 //! vm_code says what each instruction does, over tables that are lists (specs/Machine.antt there). Here the same runs over
 //! tables in memory, and the contract of `Machine::step` says that it is the same, event by event: the event is the next one
 //! of the machine over lists after exactly as many instructions as were counted. `Machine::undo` takes back what a run
-//! changed. Begin with `machine`; `execute` has one arm for each instruction, and `running`, `cursor` and `tables` do the work.
+//! changed. Begin with `machine`; `execute` has one arm for each instruction, and `running`, `values`, `cursor` and `tables` do the
+//! work; what registers, cursors and frames hold is vm_store's.
 //! `table` alone knows that a table's rows stand in a tree, as records under the keys of their rowids (specs/Stored.antt).
 #![tactic(auto)]
 
@@ -11,13 +12,13 @@ mod cursor;
 mod event;
 mod execute;
 mod flow;
-mod frame;
 mod hosts;
 mod machine;
-mod registers;
 mod running;
 mod table;
 mod tables;
+mod values;
+mod writing;
 
 pub use event::{Budget, Event};
 pub use hosts::Hosts;
@@ -26,3 +27,5 @@ pub use tables::Tables;
 
 #[cfg(test)]
 mod tests;
+#[cfg(test)]
+mod tests_values;

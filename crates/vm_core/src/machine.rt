@@ -8,7 +8,7 @@ use crate::execute::instruction;
 use crate::flow::Flow;
 use crate::running::Running;
 use crate::{Budget, Event, Tables};
-use eng_value::Steps;
+use eng_value::{Row, Steps};
 use std::alloc::{AllocError, Global};
 use std::marker::Model;
 use std::sync::ledger::Ledger;
@@ -35,11 +35,11 @@ impl Model for Machine {
 }
 
 impl Machine {
-    /// A machine in front of a program's first instruction.
-    pub fn new(alloc: Global, program: Program) -> Result<Machine, AllocError>
-        ensures { IfOk result (λ m. m ≡ at_start program) }
+    /// A machine in front of a program's first instruction, with the values of the parameters 1, 2 and so on.
+    pub fn new(alloc: Global, program: Program, params: Row) -> Result<Machine, AllocError>
+        ensures { IfOk result (λ m. m ≡ at_start program params) }
     {
-        let running = Running::new(alloc, &program.main)?;
+        let running = Running::new(alloc, &program.main, params)?;
         Ok(Machine { program, running })
     }
 

@@ -1,41 +1,44 @@
 // What a run has come to, and the parts of which instructions are made.
 ghost use Rattle.std.specs.Prelude.{◌≡◌, ◌+◌, ◌^◌, ◌<◌, if◌then◌else◌, [], ◌∷◌, replicate, slice_get, slice_set, IfOk, OnOk, OnErr, OnSome};
 ghost use Rattle.std.specs.Option.{option_copied};
-ghost use Rattle.eng_value.specs.Outs.{compare_outs};
+ghost use Rattle.eng_value.specs.Casts.{store_as};
+ghost use Rattle.eng_value.specs.Outs.{turned};
 ghost use Rattle.eng_value.specs.StoredRows.{next_rowid};
 ghost use Rattle.eng_value.specs.declared.out.Out.TheVariants.{Good};
 ghost use Rattle.eng_value.specs.declared.value.Value.TheVariants.{Null};
-ghost use Rattle.vm_code.specs.Machine.{World, Closed, On, called, code_of, column, current, cursor_at, cursor_rows, inserted, integer_in, is_rejected, outs_from, read as read_of, returned, unit_at, values_from, with_table};
+ghost use Rattle.vm_code.specs.Machine.{World, Closed, End, On, called, code_of, column, current, cursor_at, cursor_rows, ending_of, inserted, integer_in, is_accepted, is_bad, is_known, is_null, is_rejected, outs_from, read as read_of, returned, unit_at, values_from, with_table};
 ghost use Rattle.vm_core.specs.Cursors.{is_on_row, on_first, on_next, table_of};
 ghost use Rattle.vm_core.specs.Events.{Leads};
 ghost use Rattle.vm_core.specs.Paused.{shared_of, state_at};
 
 use crate::Tables;
-use crate::cursor::Cursor;
+use crate::cursor::{advance, column, next_rowid, rewind, table};
 use crate::flow::Flow;
-use crate::frame::Frame;
-use crate::registers::{copied, integer, is_rejected, nulls, outs, read, values};
-use eng_value::{CompareOp, Out, Row, StoredRow, Value};
+use crate::values::stored;
+use eng_value::{Affinity, Out, Row, StoredRow, Value};
 use std::alloc::{AllocError, Global};
 use std::marker::Model;
 use std::mem;
 use vm_code::{Change, Op, Program, Unit};
+use vm_store::{
+    Cursor, Frame, Frames, Registers, is_accepted, is_bad, is_known, is_null, is_rejected,
+};
 
-/// The frame that runs, the frames that wait, the last called at the end, and what was changed, oldest first. A register, an
-/// argument, a cursor or an instruction that is not there counts as the machine over lists says.
+/// The frame that runs, the frames that wait, the parameters, and what was changed, oldest first. A register, an argument, a
+/// cursor or an instruction that is not there counts as the machine over lists says.
 #[derive(Debug, Drop)]
 pub(crate) struct Running {
     unit: u32,
     pc: usize,
-    registers: Vec<Out>,
-    args: Vec<Out>,
+    registers: Registers,
+    args: Registers,
     cursors: Vec<Cursor>,
-    frames: Vec<Frame>,
+    frames: Frames,
+    params: Row,
     changes: Vec<Change>,
 }
 
 impl Model for Running {
-    ghost use Rattle.std.specs.Prelude.{reverse};
     ghost use Rattle.vm_core.specs.Paused.{Progress};
 
     ghost Value = { Progress };
@@ -49,17 +52,18 @@ impl Model for Running {
         record {
           unit = r.unit;
           pc = r.pc;
-          regs = r.registers.items;
-          args = r.args.items;
+          regs = r.registers;
+          args = r.args;
           cursors = r.cursors.items;
-          stack = reverse r.frames.items;
+          stack = r.frames;
+          params = r.params;
           changes = r.changes.items;
         } };
 }
 
 impl Running {
-    /// At the start of a program's main unit.
-    pub fn new(alloc: Global, main: &Unit) -> Result<Running, AllocError>
+    /// At the start of a program's main unit, with these parameters.
+    pub fn new(alloc: Global, main: &Unit, params: Row) -> Result<Running, AllocError>
         ensures { IfOk result (λ r. r ≡ record {
           unit = 0;
           pc = 0;
@@ -67,16 +71,18 @@ impl Running {
           args = [];
           cursors = replicate main.now.cursors Closed;
           stack = [];
+          params = params;
           changes = [];
         }) }
     {
         Ok(Running {
             unit: 0,
             pc: 0,
-            registers: nulls(alloc, main.registers)?,
-            args: Vec::new(alloc),
+            registers: Registers::nulls(alloc, main.registers)?,
+            args: Registers::empty(alloc),
             cursors: closed(alloc, main.cursors)?,
-            frames: Vec::new(alloc),
+            frames: Frames::new(alloc),
+            params,
             changes: Vec::new(alloc),
         })
     }
@@ -132,55 +138,103 @@ impl Running {
         }
     }
 
+    /// The registers of the frame that runs.
+    pub fn registers(&self) -> &Registers
+        ensures { result.now ≡ self.now.regs }
+    {
+        &self.registers
+    }
+
+    /// The parameters.
+    pub fn params(&self) -> &[Value]
+        ensures { result.now ≡ self.now.params }
+    {
+        self.params.as_slice()
+    }
+
     /// Writes a register and goes on.
     pub fn put(&mut self, register: u32, out: Out)
         requires { self.old.pc + 1 < 2 ^ 64 }
         ensures { self.new ≡ record self.old { pc = self.old.pc + 1; regs = slice_set self.old.regs register out } }
     {
-        write(&mut self.registers, register, out);
+        self.registers.write(register, out);
         self.pc += 1;
     }
 
+    /// Whether a jump on true is taken.
+    pub fn is_accepted(&self, alloc: Global, register: u32, on_null: bool) -> bool
+        ensures { result ≡ is_accepted on_null (read_of self.now.regs register) }
+    {
+        let null = Out::Good(Value::Null);
+        is_accepted(alloc, self.registers.read(register, &null), on_null)
+    }
+
     /// Whether a jump on false is taken.
-    pub fn is_rejected(&self, register: u32, on_null: bool) -> bool
+    pub fn is_rejected(&self, alloc: Global, register: u32, on_null: bool) -> bool
         ensures { result ≡ is_rejected on_null (read_of self.now.regs register) }
     {
-        is_rejected(
-            read(&self.registers, register as usize, &Out::Good(Value::Null)),
-            on_null,
-        )
+        let null = Out::Good(Value::Null);
+        is_rejected(alloc, self.registers.read(register, &null), on_null)
+    }
+
+    /// Whether a register is NULL.
+    pub fn is_null(&self, register: u32) -> bool
+        ensures { result ≡ is_null (read_of self.now.regs register) }
+    {
+        is_null(self.registers.read(register, &Out::Good(Value::Null)))
+    }
+
+    /// Whether a register is a value that is not NULL.
+    pub fn is_known(&self, register: u32) -> bool
+        ensures { result ≡ is_known (read_of self.now.regs register) }
+    {
+        is_known(self.registers.read(register, &Out::Good(Value::Null)))
+    }
+
+    /// Whether a register is bad.
+    pub fn is_bad(&self, register: u32) -> bool
+        ensures { result ≡ is_bad (read_of self.now.regs register) }
+    {
+        is_bad(self.registers.read(register, &Out::Good(Value::Null)))
     }
 
     /// A copy of an argument.
     pub fn argument(&self, number: u32) -> Result<Out, AllocError>
         ensures { IfOk result (λ out. out ≡ read_of self.now.args number) }
     {
-        copied(&self.args, number as usize)
+        self.args.copied(number)
     }
 
-    /// A comparison of two registers.
-    pub fn compare(&self, op: CompareOp, left: u32, right: u32) -> Result<Out, AllocError>
-        ensures { IfOk result (λ out.
-            out ≡ compare_outs op (read_of self.now.regs left) (read_of self.now.regs right)) }
+    /// Turns a register into what a column of the affinity would hold, and goes on.
+    #[tactic(auto, using(crate::proofs::RegisterLaws::written_twice))]
+    pub fn store_as(
+        &mut self,
+        alloc: Global,
+        register: u32,
+        affinity: Affinity,
+    ) -> Result<(), AllocError>
+        requires { self.old.pc + 1 < 2 ^ 64 }
+        ensures ok { OnOk result (self.new ≡ record self.old {
+          pc = self.old.pc + 1;
+          regs = slice_set self.old.regs register (turned (store_as affinity) (read_of self.old.regs register));
+        }) }
+        ensures log { OnErr result (self.new.changes ≡ self.old.changes) }
     {
-        let null = Out::Good(Value::Null);
-        let left = read(&self.registers, left as usize, &null);
-        let right = read(&self.registers, right as usize, &null);
-        left.compare(op, right)
+        let out = self.registers.take(register);
+        let out = stored(alloc, affinity, out)?;
+        self.put(register, out);
+        Ok(())
     }
 
-    /// The values of so many registers.
-    pub fn values(&self, alloc: Global, first: u32, count: u32) -> Result<Row, AllocError>
-        ensures { IfOk result (λ row. row ≡ values_from self.now.regs first count) }
+    /// Ends the run with the causes of a register, where it has some.
+    pub fn halt(&mut self, register: u32) -> Flow
+        ensures leads { (w : World) → Leads result (state_at self.new w)
+            (End (ending_of (read_of self.old.regs register)) (shared_of self.old.params w self.old.changes)) }
     {
-        values(&self.registers, alloc, first, count)
-    }
-
-    /// The integer in a register.
-    pub fn integer(&self, register: u32) -> i64
-        ensures { result ≡ integer_in self.now.regs register }
-    {
-        integer(read(&self.registers, register as usize, &Out::Good(Value::Null)))
+        match self.registers.take(register) {
+            Out::Good(_) => Flow::Finished,
+            Out::Bad(causes) => Flow::Failed(causes),
+        }
     }
 
     /// Puts a cursor in the place of another and goes on.
@@ -206,7 +260,7 @@ impl Running {
     {
         let at = number as usize;
         if at < self.cursors.len() {
-            self.cursors[at].rewind(tables)
+            rewind(&mut self.cursors[at], tables)
         } else {
             false
         }
@@ -220,7 +274,7 @@ impl Running {
     {
         let at = number as usize;
         if at < self.cursors.len() {
-            self.cursors[at].advance(tables)
+            advance(&mut self.cursors[at], tables)
         } else {
             false
         }
@@ -239,7 +293,7 @@ impl Running {
     {
         match self.cursors.get(number as usize) {
             None => Ok(Out::Good(Value::Null)),
-            Some(cursor) => Ok(Out::Good(cursor.column(alloc, tables, place as usize)?)),
+            Some(cursor) => Ok(Out::Good(column(cursor, alloc, tables, place as usize)?)),
         }
     }
 
@@ -249,7 +303,7 @@ impl Running {
     {
         match self.cursors.get(number as usize) {
             None => Some(1),
-            Some(cursor) => cursor.next_rowid(tables),
+            Some(cursor) => next_rowid(cursor, tables),
         }
     }
 
@@ -264,7 +318,7 @@ impl Running {
         requires { self.old.pc + 1 < 2 ^ 64 }
         ensures ok { OnOk result (state_at self.new tables.new [] ≡ record (state_at self.old tables.old []) {
           pc = self.old.pc + 1;
-          shared = inserted (cursor_at self.old.cursors number) (shared_of tables.old self.old.changes) row.now;
+          shared = inserted (cursor_at self.old.cursors number) (shared_of self.old.params tables.old self.old.changes) row.now;
         }) }
         ensures log { OnErr result (self.new.changes ≡ self.old.changes) }
         ensures tables { OnErr result (tables.new ≡ tables.old) }
@@ -281,7 +335,7 @@ impl Running {
         requires { self.old.pc + 1 < 2 ^ 64 }
         ensures ok { OnOk result (state_at self.new tables.new [] ≡ record (state_at self.old tables.old []) {
           pc = self.old.pc + 1;
-          shared = with_table (shared_of tables.old self.old.changes);
+          shared = with_table (shared_of self.old.params tables.old self.old.changes);
         }) }
         ensures log { OnErr result (self.new.changes ≡ self.old.changes) }
         ensures tables { OnErr result (tables.new ≡ tables.old) }
@@ -314,7 +368,7 @@ impl Running {
                 Ok(())
             }
             Some(callee) => {
-                let args = outs(&self.registers, alloc, first, count)?;
+                let args = self.registers.range(alloc, first, count)?;
                 self.enter(alloc, unit, callee, args, to)
             }
         }
@@ -326,7 +380,7 @@ impl Running {
         alloc: Global,
         unit: u32,
         callee: &Unit,
-        args: Vec<Out>,
+        args: Registers,
         to: u32,
     ) -> Result<(), AllocError>
         requires { self.old.pc + 1 < 2 ^ 64 }
@@ -334,7 +388,7 @@ impl Running {
           unit = unit;
           pc = 0;
           regs = replicate callee.now.registers (Good Null);
-          args = args.items;
+          args = args;
           cursors = replicate callee.now.cursors Closed;
           stack = record {
             unit = self.old.unit;
@@ -344,13 +398,13 @@ impl Running {
             cursors = self.old.cursors;
             to = to;
           } ∷ self.old.stack;
+          params = self.old.params;
           changes = self.old.changes;
         }) }
         ensures log { OnErr result (self.new.changes ≡ self.old.changes) }
     {
-        let registers = nulls(alloc, callee.registers)?;
+        let registers = Registers::nulls(alloc, callee.registers)?;
         let cursors = closed(alloc, callee.cursors)?;
-        self.frames.reserve(1)?;
         let frame = Frame {
             unit: self.unit,
             pc: self.pc + 1,
@@ -359,7 +413,7 @@ impl Running {
             cursors: mem::replace(&mut self.cursors, cursors),
             to,
         };
-        self.frames.push_reserved(frame);
+        self.frames.push(frame)?;
         self.unit = unit;
         self.pc = 0;
         Ok(())
@@ -368,12 +422,12 @@ impl Running {
     /// Leaves the unit with a register as its result. Where no frame waits the run is at its end.
     pub fn ret(&mut self, from: u32) -> Flow
         ensures { (w : World) → Leads result (state_at self.new w)
-            (returned self.old.stack (shared_of w self.old.changes) (read_of self.old.regs from)) }
+            (returned self.old.stack (shared_of self.old.params w self.old.changes) (read_of self.old.regs from)) }
     {
         match self.frames.pop() {
             None => Flow::Finished,
             Some(frame) => {
-                let out = taken(&mut self.registers, from);
+                let out = self.registers.take(from);
                 self.resume(frame, out);
                 Flow::Going
             }
@@ -398,7 +452,7 @@ impl Running {
             cursors,
             to,
         } = frame;
-        write(&mut registers, to, out);
+        registers.write(to, out);
         self.unit = unit;
         self.pc = pc;
         self.registers = registers;
@@ -436,33 +490,12 @@ fn closed(alloc: Global, count: u32) -> Result<Vec<Cursor>, AllocError>
     Ok(cursors)
 }
 
-/// Writes a register that is there.
-fn write(registers: &mut [Out], register: u32, out: Out)
-    ensures { registers.new ≡ slice_set registers.old register out }
-{
-    let at = register as usize;
-    if at < registers.len() {
-        registers[at] = out;
-    }
-}
-
-/// Takes what a register holds out of it; NULL where there is no such register.
-fn taken(registers: &mut [Out], register: u32) -> Out
-    ensures { result ≡ read_of registers.old register }
-{
-    let null = Out::Good(Value::Null);
-    match registers.get_mut(register as usize) {
-        None => null,
-        Some(out) => mem::replace(out, null),
-    }
-}
-
 /// The table of a cursor that is open.
 fn table_at(cursors: &[Cursor], number: usize) -> Option<u32>
     ensures { result ≡ table_of (cursor_at cursors.now number) }
 {
     match cursors.get(number) {
         None => None,
-        Some(cursor) => cursor.table(),
+        Some(cursor) => table(cursor),
     }
 }

@@ -1,6 +1,7 @@
 // The tables.
-ghost use Rattle.std.specs.Prelude.{◌≡◌, [], length, OnOk, OnErr, IfOk, slice_get, slice_index_or};
+ghost use Rattle.std.specs.Prelude.{◌≡◌, List, [], length, OnOk, OnErr, IfOk, slice_get, slice_index_or};
 ghost use Rattle.eng_value.specs.StoredRows.{next_rowid};
+ghost use Rattle.eng_value.specs.declared.value.Value.{Value as MeantValue};
 ghost use Rattle.eng_value.specs.declared.value.Value.TheVariants.{Null};
 ghost use Rattle.vm_code.specs.Changes.{undone};
 ghost use Rattle.vm_code.specs.Machine.{IsOrdered, row_behind, row_under, rows_of, values_of, with_row, with_table};
@@ -112,8 +113,8 @@ impl Tables {
         row: &StoredRow,
         changes: &mut Vec<Change>,
     ) -> Result<(), AllocError>
-        ensures ok { OnOk result (
-            shared_of self.new changes.new.items ≡ with_row (shared_of self.old changes.old.items) table row.now) }
+        ensures ok { OnOk result ((params : List MeantValue) →
+            shared_of params self.new changes.new.items ≡ with_row (shared_of params self.old changes.old.items) table row.now) }
         ensures err { OnErr result (self.new ≡ self.old) }
         ensures log { OnErr result (changes.new.items ≡ changes.old.items) }
     {
@@ -130,8 +131,8 @@ impl Tables {
 
     /// Adds a table without rows behind the others and notes that.
     pub(crate) fn add(&mut self, alloc: Global, changes: &mut Vec<Change>) -> Result<(), AllocError>
-        ensures ok { OnOk result (
-            shared_of self.new changes.new.items ≡ with_table (shared_of self.old changes.old.items)) }
+        ensures ok { OnOk result ((params : List MeantValue) →
+            shared_of params self.new changes.new.items ≡ with_table (shared_of params self.old changes.old.items)) }
         ensures err { OnErr result (self.new ≡ self.old) }
         ensures log { OnErr result (changes.new.items ≡ changes.old.items) }
     {

@@ -2,13 +2,25 @@
 ghost use Rattle.std.specs.Prelude.{◌≡◌, ◌<◌};
 
 use super::*;
-use eng_value::{CompareOp, MAX_ROWID, Row, Steps, Text, Value};
+use eng_value::{
+    Affinity, BinaryOperator, Built, CompareOp, MAX_ROWID, Row, Sides, Steps, Text, Value,
+};
 use sqlite_items::Items;
 use std::alloc::{AllocError, Global};
 use std::marker::Brand;
 use std::sync::ledger::{Blank, Ledger};
 use std::test::Fail;
 use vm_code::{Op, Program, Unit};
+
+// `>` between two sides without affinities.
+const ABOVE: BinaryOperator = BinaryOperator::Compare(
+    CompareOp::Gt,
+    Sides {
+        left: Affinity::None,
+        right: Affinity::None,
+        collation: Built::Binary,
+    },
+);
 
 // How a run ended, the integers of the rows that it gave, a missing or other value as -1, and how many instructions ran.
 #[derive(Debug, Drop)]
@@ -109,7 +121,7 @@ fn run(
     tables: &mut Tables,
     whole: u64,
 ) -> Result<Outcome, AllocError> {
-    let mut machine = Machine::new(alloc, program)?;
+    let mut machine = Machine::new(alloc, program, Row::empty(alloc))?;
     finish(alloc, &mut machine, tables, whole)
 }
 
@@ -180,8 +192,8 @@ fn a_scan_compares_and_gives_two_columns(rt: HostRuntime) -> Result<(), Fail> {
             to: 0
         },
         Op::Integer { value: 3, to: 1 },
-        Op::Compare {
-            op: CompareOp::Gt,
+        Op::Binary {
+            operator: ABOVE,
             left: 0,
             right: 1,
             to: 2
@@ -224,8 +236,8 @@ fn a_unit_is_called_inside_a_loop(rt: HostRuntime) -> Result<(), Fail> {
     units.push(unit(vec![in alloc;
         Op::Argument { number: 0, to: 3 },
         Op::Argument { number: 1, to: 0 },
-        Op::Compare {
-            op: CompareOp::Gt,
+        Op::Binary {
+            operator: ABOVE,
             left: 3,
             right: 0,
             to: 5
@@ -294,7 +306,7 @@ fn rows_come_to_the_places_of_their_rowids(rt: HostRuntime) -> Result<(), Fail> 
             },
         ]?;
         append_insert(&mut code, &[rowid, 70, 80])?;
-        let mut machine = Machine::new(alloc, main_unit(alloc, code))?;
+        let mut machine = Machine::new(alloc, main_unit(alloc, code), Row::empty(alloc))?;
         let outcome = finish(alloc, &mut machine, &mut tables, 1000)?;
         assert_eq!(rt; outcome.ending, Ending::Done);
         assert_eq!(rt;
@@ -375,7 +387,7 @@ fn each_budget_interrupts_and_is_undone(rt: HostRuntime) -> Result<(), Fail> {
     let mut tables = filled(alloc, &ROWS)?;
     for whole in 0..=15 {
         let program = filling(alloc, 1, &[[4, 1, 1], [2, 1, 1], [4, 0, 0]])?;
-        let mut machine = Machine::new(alloc, program)?;
+        let mut machine = Machine::new(alloc, program, Row::empty(alloc))?;
         let outcome = finish(alloc, &mut machine, &mut tables, whole)?;
         let ending = if whole < 15 {
             Ending::Interrupted(whole)

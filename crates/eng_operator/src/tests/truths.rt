@@ -3,37 +3,56 @@ use super::*;
 use crate::{and, choice, not, or, truth_is};
 use std::test::Fail;
 
-const OPERANDS: [Given; 4] = [Integer(1), Integer(0), Null, Refused];
-
-// AND and OR of each of these beside each.
-const BOTH: [[(&str, &str); 4]; 4] = [
-    [("1", "1"), ("0", "1"), ("NULL", "1"), (REFUSED, "1")],
-    [("0", "1"), ("0", "0"), ("0", "NULL"), ("0", REFUSED)],
-    [
-        ("NULL", "1"),
-        ("0", "NULL"),
-        ("NULL", "NULL"),
-        (REFUSED, REFUSED),
-    ],
-    [
-        (REFUSED, "1"),
-        ("0", REFUSED),
-        (REFUSED, REFUSED),
-        (REFUSED, REFUSED),
-    ],
+// Two operands, and AND and OR of them.
+const BOTH: [(Given, Given, &str, &str); 16] = [
+    (Integer(1), Integer(1), "1", "1"),
+    (Integer(1), Integer(0), "0", "1"),
+    (Integer(1), Null, "NULL", "1"),
+    (Integer(1), Refused, REFUSED, "1"),
+    (Integer(0), Integer(1), "0", "1"),
+    (Integer(0), Integer(0), "0", "0"),
+    (Integer(0), Null, "0", "NULL"),
+    (Integer(0), Refused, "0", REFUSED),
+    (Null, Integer(1), "NULL", "1"),
+    (Null, Integer(0), "0", "NULL"),
+    (Null, Null, "NULL", "NULL"),
+    (Null, Refused, REFUSED, REFUSED),
+    (Refused, Integer(1), REFUSED, "1"),
+    (Refused, Integer(0), "0", REFUSED),
+    (Refused, Null, REFUSED, REFUSED),
+    (Refused, Refused, REFUSED, REFUSED),
 ];
+
+fn are_both(
+    alloc: Global,
+    a: &Given,
+    b: &Given,
+    both: &str,
+    one_of_both: &str,
+) -> Result<bool, AllocError> {
+    let a = operand(alloc, a)?;
+    let b = operand(alloc, b)?;
+    let is_both = shown(alloc, and(alloc, &a, &b)?)?.as_str() == both;
+    Ok(is_both && shown(alloc, or(alloc, &a, &b)?)?.as_str() == one_of_both)
+}
+
+// The first row that gives another text.
+fn first_other_of_both(
+    alloc: Global,
+    rows: &[(Given, Given, &str, &str)],
+) -> Result<Option<usize>, AllocError> {
+    for (i, (a, b, both, one_of_both)) in rows.iter().enumerate() {
+        if !are_both(alloc, a, b, both, one_of_both)? {
+            return Ok(Some(i));
+        }
+    }
+    Ok(None)
+}
 
 #[test]
 fn and_and_or(rt: HostRuntime) -> Result<(), Fail> {
     let alloc = rt.alloc();
-    for (a, row) in OPERANDS.iter().zip(&BOTH) {
-        for (b, (both, one_of_both)) in OPERANDS.iter().zip(row) {
-            let a = operand(alloc, a)?;
-            let b = operand(alloc, b)?;
-            assert_eq!(rt; shown(alloc, and(alloc, &a, &b)?)?.as_str(), *both);
-            assert_eq!(rt; shown(alloc, or(alloc, &a, &b)?)?.as_str(), *one_of_both);
-        }
-    }
+    assert_eq!(rt; first_other_of_both(alloc, &BOTH)?, None);
     Ok(())
 }
 
@@ -63,21 +82,37 @@ const TRUTHS: [(Given, &str, &str, &str, &str); 22] = [
     (Refused, REFUSED, REFUSED, REFUSED, REFUSED),
 ];
 
+// NOT, IS TRUE and IS FALSE of an operand.
+fn shown_truths(alloc: Global, a: &Given) -> Result<[String; 3], AllocError> {
+    let a = operand(alloc, a)?;
+    Ok([
+        shown(alloc, not(alloc, &a)?)?,
+        shown(alloc, truth_is(alloc, true, &a)?)?,
+        shown(alloc, truth_is(alloc, false, &a)?)?,
+    ])
+}
+
+// The first row that gives another text.
+fn first_other_truth(
+    alloc: Global,
+    rows: &[(Given, &str, &str, &str, &str)],
+) -> Result<Option<usize>, AllocError> {
+    for (i, (a, opposite, is_true, is_false, _)) in rows.iter().enumerate() {
+        let [found, truth, falsehood] = shown_truths(alloc, a)?;
+        if found.as_str() != *opposite
+            || truth.as_str() != *is_true
+            || falsehood.as_str() != *is_false
+        {
+            return Ok(Some(i));
+        }
+    }
+    Ok(None)
+}
+
 #[test]
 fn operators_on_one_truth(rt: HostRuntime) -> Result<(), Fail> {
     let alloc = rt.alloc();
-    for (a, opposite, is_true, is_false, _) in &TRUTHS {
-        let a = operand(alloc, a)?;
-        assert_eq!(rt; shown(alloc, not(alloc, &a)?)?.as_str(), *opposite);
-        assert_eq!(rt;
-            shown(alloc, truth_is(alloc, true, &a)?)?.as_str(),
-            *is_true
-        );
-        assert_eq!(rt;
-            shown(alloc, truth_is(alloc, false, &a)?)?.as_str(),
-            *is_false
-        );
-    }
+    assert_eq!(rt; first_other_truth(alloc, &TRUTHS)?, None);
     Ok(())
 }
 
@@ -94,13 +129,23 @@ fn chosen(
     shown(alloc, choice(alloc, &condition, first, second)?)
 }
 
+// The first row that gives another text.
+fn first_other_choice(
+    alloc: Global,
+    rows: &[(Given, &str, &str, &str, &str)],
+) -> Result<Option<usize>, AllocError> {
+    for (i, (condition, _, _, _, wanted)) in rows.iter().enumerate() {
+        if chosen(alloc, condition, &Integer(7), &Integer(8))?.as_str() != *wanted {
+            return Ok(Some(i));
+        }
+    }
+    Ok(None)
+}
+
 #[test]
 fn choices(rt: HostRuntime) -> Result<(), Fail> {
     let alloc = rt.alloc();
-    for (condition, _, _, _, wanted) in &TRUTHS {
-        let chosen = chosen(alloc, condition, &Integer(7), &Integer(8))?;
-        assert_eq!(rt; chosen.as_str(), *wanted);
-    }
+    assert_eq!(rt; first_other_choice(alloc, &TRUTHS)?, None);
     Ok(())
 }
 
@@ -115,11 +160,22 @@ const CHOICES: [(Given, Given, Given, &str); 7] = [
     (Integer(2), Null, Integer(8), "NULL"),
 ];
 
+// The first row that gives another text.
+fn first_other_of_choices(
+    alloc: Global,
+    rows: &[(Given, Given, Given, &str)],
+) -> Result<Option<usize>, AllocError> {
+    for (i, (condition, first, second, wanted)) in rows.iter().enumerate() {
+        if chosen(alloc, condition, first, second)?.as_str() != *wanted {
+            return Ok(Some(i));
+        }
+    }
+    Ok(None)
+}
+
 #[test]
 fn what_is_not_chosen_does_not_count(rt: HostRuntime) -> Result<(), Fail> {
     let alloc = rt.alloc();
-    for (condition, first, second, wanted) in &CHOICES {
-        assert_eq!(rt; chosen(alloc, condition, first, second)?.as_str(), *wanted);
-    }
+    assert_eq!(rt; first_other_of_choices(alloc, &CHOICES)?, None);
     Ok(())
 }

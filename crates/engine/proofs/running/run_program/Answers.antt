@@ -1,4 +1,4 @@
-use Rattle.std.proofs.Common.{◌-◌, Ok, Err, refl, ◌∙◌, ap}
+use Rattle.std.proofs.Common.{◌-◌, [], Ok, Err, refl, ◌∙◌, ap}
 use Rattle.host_traits.specs.Faults.{Rose}
 use Rattle.vm_code.specs.Changes.{before}
 use Rattle.vm_code.specs.Machine.{Setting, State, start}
@@ -20,10 +20,10 @@ returns-in-Ok-drive-clause-runs g c most e x ends =
     let old = g.R.RowSink.taken c.args.rows.now in
     let new = g.R.RowSink.taken c.drive.new.rows in
     let rose = Rose (g.R.RowSink.fault_count c.args.rows.now) (g.R.RowSink.fault_count c.drive.new.rows) in
-    let needed = of_program c.in-Ok.machine p w0 (λ (m : Setting) (s : State). NoneInVain m n s) made h.needed in
-    let run = of_program c.in-Ok.machine p w0 (λ (m : Setting) (s : State). DriveIs m n s (state_of q v) c.args.budget rose old new (Ok c.in-Ok-drive.given)) made h.run in
+    let needed = of_program c.in-Ok.machine p c.args.params.now w0 (λ (m : Setting) (s : State). NoneInVain m n s) made h.needed in
+    let run = of_program c.in-Ok.machine p c.args.params.now w0 (λ (m : Setting) (s : State). DriveIs m n s (state_of q v) c.args.budget rose old new (Ok c.in-Ok-drive.given)) made h.run in
     let sums = c.sum_up.ensures in
-    finished (record { prog = p }) most n c.args.budget (start p w0) e x ends needed q w0 v v old new rose c.sum_up.result c.in-Ok-drive.given refl run sums.given (rw c.changes.ensures at sums.changed) (rw c.changes.ensures at sums.last)
+    finished (record { prog = p }) most n c.args.budget (start p c.args.params.now w0) e x ends needed q w0 v v old new rose c.sum_up.result c.in-Ok-drive.given refl run sums.given (rw c.changes.ensures at sums.changed) (rw c.changes.ensures at sums.last)
 
 pub returns-in-Err-drive-clause-runs : goal.returns-in-Err-drive-clause-runs
 returns-in-Err-drive-clause-runs g c most e x ends =
@@ -38,7 +38,7 @@ returns-in-Err-drive-clause-runs g c most e x ends =
     let new = g.R.RowSink.taken c.drive.new.rows in
     let rose = Rose (g.R.RowSink.fault_count c.args.rows.now) (g.R.RowSink.fault_count c.drive.new.rows) in
     let why = c.in-Err-drive.stop in
-    let needed = of_program c.in-Ok.machine p w0 (λ (m : Setting) (s : State). NoneInVain m n s) made h.needed in
-    let run = of_program c.in-Ok.machine p w0 (λ (m : Setting) (s : State). DriveIs m n s (state_of q v) c.args.budget rose old new (Err why)) made h.run in
+    let needed = of_program c.in-Ok.machine p c.args.params.now w0 (λ (m : Setting) (s : State). NoneInVain m n s) made h.needed in
+    let run = of_program c.in-Ok.machine p c.args.params.now w0 (λ (m : Setting) (s : State). DriveIs m n s (state_of q v) c.args.budget rose old new (Err why)) made h.run in
     let back = c.undo.ensures ∙ h.undo ∙ ap (λ (y : Paused). before y.changes w0) made in
-    stopped (record { prog = p }) most n c.args.budget (start p w0) e x ends needed q w0 v c.undo.new.tables old new rose why back run
+    stopped (record { prog = p }) most n c.args.budget (start p c.args.params.now w0) e x ends needed q w0 v c.undo.new.tables old new rose why back run

@@ -1,6 +1,5 @@
-use Rattle.std.proofs.Common.{inr, refl}
-use Rattle.sql_meaning.proofs.TextLaws.{text_outcome-not_utf8}
+use Rattle.sql_shell.proofs.Causes.{came_not_yet}
 use Rattle.sql_shell.proofs.statement.run_text.Goals as goal
 
-pub returns-in-Err-clause-outcome : goal.returns-in-Err-clause-outcome
-returns-in-Err-clause-outcome g c = (refl, inr (text_outcome-not_utf8 _ _ _ c.in-Err.ensures.cases.0))
+pub returns-in-Err-clause-came : goal.returns-in-Err-clause-came
+returns-in-Err-clause-came g c = came_not_yet _ _ _ _ c.in-Err.ensures.cases.0 c.empty.ensures

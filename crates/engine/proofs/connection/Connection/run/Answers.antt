@@ -14,16 +14,46 @@ returns-clause-kept g c = elim c.match-run_text.branch [
 pub returns-clause-cause : goal.returns-clause-cause
 returns-clause-cause g c = elim c.match-run_text.branch [
   | in-Ok w ↦ rw w.result-is tt
-  | in-Err w ↦ rw (w.result-is, ← c.self.view_is, ← c.as_bytes.ensures.value) (w.in-Err.ensures.carried (meant c.args.hosts.now)).answer.1
+  | in-Err w ↦ rw (w.result-is, ← c.self.view_is) (w.in-Err.ensures.carried (meant c.args.hosts.now)).answer.1
 ]
 
 -- src/connection.rt:65:5
 pub returns-clause-front : goal.returns-clause-front
-returns-clause-front g c = rw (← c.self.view_is, ← c.as_bytes.ensures.value) (c.run_text.ensures.carried (meant c.args.hosts.now)).front
+returns-clause-front g c = rw (← c.self.view_is) (c.run_text.ensures.carried (meant c.args.hosts.now)).front
 
 -- src/connection.rt:65:5
 pub returns-clause-bound : goal.returns-clause-bound
 returns-clause-bound g c =
     let within = (c.run_text.ensures.carried (meant c.args.hosts.now)).within in
     let ticks = c.run_text.ensures.ticks in
-    rw (← c.self.view_is, ← c.as_bytes.ensures.value) (omega arith)
+    rw (← c.self.view_is) (omega arith)
+
+pub returns-clause-done : goal.returns-clause-done
+returns-clause-done g c = elim c.match-run_text.branch [
+  | in-Ok w ↦ rw (w.result-is, ← c.self.view_is) (w.in-Ok.ensures.carried (meant c.args.hosts.now)).answer.0
+  | in-Err w ↦ rw w.result-is tt
+]
+
+pub returns-clause-next : goal.returns-clause-next
+returns-clause-next g c = elim c.match-run_text.branch [
+  | in-Ok w ↦ rw (w.result-is, ← c.self.view_is) (w.in-Ok.ensures.carried (meant c.args.hosts.now)).answer.1
+  | in-Err w ↦ rw w.result-is tt
+]
+
+pub returns-clause-rows : goal.returns-clause-rows
+returns-clause-rows g c = elim c.match-run_text.branch [
+  | in-Ok w ↦ rw (w.result-is, ← c.self.view_is) (w.in-Ok.ensures.carried (meant c.args.hosts.now)).answer.2
+  | in-Err w ↦ rw w.result-is tt
+]
+
+pub returns-clause-given : goal.returns-clause-given
+returns-clause-given g c = elim c.match-run_text.branch [
+  | in-Ok w ↦ rw (w.result-is, ← c.self.view_is) (w.in-Ok.ensures.carried (meant c.args.hosts.now)).answer.3
+  | in-Err w ↦ rw w.result-is tt
+]
+
+pub returns-clause-changed : goal.returns-clause-changed
+returns-clause-changed g c = elim c.match-run_text.branch [
+  | in-Ok w ↦ rw (w.result-is, ← c.self.view_is) (w.in-Ok.ensures.carried (meant c.args.hosts.now)).answer.4
+  | in-Err w ↦ rw w.result-is tt
+]

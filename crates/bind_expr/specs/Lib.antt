@@ -1,0 +1,4 @@
+pub mod Calls
+pub mod Gathers
+pub mod Groups
+pub mod Parts

@@ -1,0 +1,43 @@
+// What names are looked up in.
+ghost use Rattle.std.specs.Prelude.{◌≡◌};
+ghost use Rattle.std.specs.Option.{option_copied};
+
+use sql_meaning::TableEntry;
+use std::marker::Model;
+
+/// The text of a statement, and the table of its FROM, if it has one. Contracts see the definitions' scope.
+#[derive(Drop)]
+pub struct Scope<'a> {
+    text: &'a str,
+    table: Option<&'a TableEntry>,
+}
+
+impl<'a> Model for Scope<'a> {
+    ghost use Rattle.std.specs.Option.{option_copied};
+    ghost use Rattle.sql_meaning.specs.Binding as meant;
+
+    ghost Value = { meant.Scope };
+
+    ghost view = { λ s. record { text = s.text.now; table = option_copied s.table } };
+}
+
+impl<'a> Scope<'a> {
+    pub fn new(text: &'a str, table: Option<&'a TableEntry>) -> Scope<'a>
+        ensures text { result.text ≡ text.now }
+        ensures table { result.table ≡ option_copied table.entry }
+    {
+        Scope { text, table }
+    }
+
+    pub fn text(&self) -> &'a str
+        ensures { result.now ≡ self.now.text }
+    {
+        self.text
+    }
+
+    pub fn table(&self) -> Option<&'a TableEntry>
+        ensures { option_copied result ≡ self.now.table }
+    {
+        self.table
+    }
+}

@@ -1,0 +1,4 @@
+pub mod Affinities
+pub mod Ascii
+pub mod Digits
+pub mod Kept

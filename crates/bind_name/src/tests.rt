@@ -1,0 +1,6 @@
+// Tokens with what they stand for by hand.
+mod affinities;
+mod literals;
+mod names;
+
+use super::*;

@@ -1,0 +1,5 @@
+pub mod Results
+pub mod Entries
+pub mod Listing
+pub mod Putting
+pub mod Sizing

@@ -1,0 +1,3 @@
+pub mod Binds
+pub mod Small
+pub mod Steps

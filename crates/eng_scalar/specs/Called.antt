@@ -1,0 +1,47 @@
+-- The functions by what their arguments came to.
+use Rattle.std.specs.Prelude.{◌≡◌, ℕ, Bool, true, false, Option, Some, None, List, [], ◌∷◌, pos, codes, refl}
+use Rattle.std.specs.FinSet as set
+use Rattle.eng_key.specs.Values.{value_key}
+use Rattle.eng_value.specs.Applied.{function_by}
+use Rattle.eng_value.specs.Causes.{CauseSet}
+use Rattle.eng_value.specs.Functions.{call_of}
+use Rattle.eng_value.specs.Outs.{bad}
+use Rattle.eng_value.specs.declared.built.Built.{Built}
+use Rattle.eng_value.specs.declared.built.Built.TheVariants as built
+use Rattle.eng_value.specs.declared.builtin.Builtin.{Builtin}
+use Rattle.eng_value.specs.declared.builtin.Builtin.TheVariants as builtin
+use Rattle.eng_value.specs.declared.cause.Cause.TheVariants as cause
+use Rattle.eng_value.specs.declared.out.Out.{Out}
+use Rattle.eng_value.specs.declared.out.Out.TheVariants.{Good, Bad}
+use Rattle.eng_value.specs.declared.value.Value.{Value}
+use Rattle.eng_value.specs.declared.value.Value.TheVariants.{Null, Integer, Text}
+
+-- by the keys that order values
+abbrev pub function_of : Builtin → Built → List Out → Out
+function_of = function_by value_key
+
+-- whether a function looks at the keys of its arguments
+abbrev pub compares_keys : Builtin → Bool
+compares_keys builtin.Max = true
+compares_keys builtin.Min = true
+compares_keys builtin.NullIf = true
+compares_keys f = false
+
+-- what stands in the place of an argument, NULL where it is bad
+abbrev pub value_in : Out → Value
+value_in (Good v) = v
+value_in (Bad causes) = Null
+
+-- the causes of all arguments that are bad
+abbrev pub beside_causes : Out → Option CauseSet → Option CauseSet
+beside_causes (Good v) found = found
+beside_causes (Bad c) None = Some c
+beside_causes (Bad c) (Some d) = Some (set.union c d)
+
+abbrev pub bad_in : List Out → Option CauseSet
+bad_in [] = None
+bad_in (a ∷ rest) = beside_causes a (bad_in rest)
+
+examples : (function_of builtin.Max built.NoCase (Good (Text (codes "b")) ∷ Good (Text (codes "A")) ∷ []) ≡ Good (Text (codes "b"))) × (function_of builtin.NullIf built.NoCase (Good (Text (codes "a")) ∷ Good (Text (codes "A")) ∷ []) ≡ Good Null) × (function_of builtin.NullIf built.Binary (Good (Text (codes "a")) ∷ Good (Text (codes "A")) ∷ []) ≡ Good (Text (codes "a"))) × (function_of builtin.Abs built.Binary [] ≡ Good Null)
+unfolding value_key call_of
+examples = (refl, refl, refl, refl)

@@ -1,0 +1,72 @@
+-- What the programs of writes leave: the number of tables, and an outcome as the run ends.
+use Rattle.std.proofs.Common.{◌≡◌, ℕ, List, [], ◌∷◌, ◌++◌, ℤ, Bool, true, false, Option, Some, None, length, take, slice_set, unwrap_or, refl, sym, ap, ◌∙◌, arith, MatchOption}
+use Rattle.std.proofs.lemmas.List.{length-append, length-set}
+use Rattle.std.proofs.Math.Seq.{take-append_seam}
+use Rattle.eng_value.specs.Causes.{CauseSet}
+use Rattle.eng_value.specs.StoredRows.{StoredRow, next_rowid}
+use Rattle.eng_value.specs.declared.value.Value.{Value}
+use Rattle.gen_query.specs.Queries.{ending_by}
+use Rattle.gen_write.specs.Writes.{stored_as, row_under, row_put, rows_run, source_run, source_of, put_run, untouched}
+use Rattle.sql_meaning.specs.declared.bound.BoundInsert.{BoundInsert}
+use Rattle.sql_meaning.specs.declared.column.TableEntry.{TableEntry}
+use Rattle.sql_meaning.specs.Statement.{Item, Row, Failed as Bad, item_of, no_causes, refusal_of, given_of}
+use Rattle.vm_code.specs.Machine.{World as Lists, Run, Shared, Ending, Finished, Failed, rows_of, put_row, with_row}
+use Rattle.vm_code.proofs.Kept.{with_row_by}
+use Rattle.engine.specs.Held.{state_of}
+use Rattle.engine.specs.Outcomes.{left_by}
+use Rattle.engine.specs.Running.{put_count, last_put}
+use Rattle.engine.proofs.CarryingOut.{Shows}
+
+-- ---- an outcome by how a run ends
+
+module _ (catalog : List TableEntry) (lists : Lists) (changes : ℕ) (last : ℤ) where
+  pub left_shows : (e : Ending) (x : Shared) → Shows (left_by catalog lists changes last e x) e x
+  left_shows Finished x = record { ended = refl; given = refl }
+  left_shows (Failed causes) x = record { ended = refl; given = refl }
+
+  -- where it ends well the changes stay
+  pub left_next : (e : Ending) (x : Shared) → e ≡ Finished → (left_by catalog lists changes last e x).next ≡ state_of catalog x.world (put_count x.changes) (unwrap_or (last_put None x.changes) last)
+  left_next e x ends = rw ends refl
+
+  pub left_changed : (e : Ending) (x : Shared) → e ≡ Finished → (left_by catalog lists changes last e x).changed ≡ put_count x.changes
+  left_changed e x ends = rw ends refl
+
+-- ---- no table comes or goes
+
+row_kept : (x : Shared) (table : ℕ) (r : StoredRow) → length (with_row x table r).world ≡ length x.world
+row_kept x table r = with_row_by (λ (y : Shared). length y.world ≡ length x.world) x table r refl (λ free. length-set x.world table (put_row (rows_of x.world table) r))
+
+-- the row, and then the others
+put_row_kept : (b : BoundInsert) (x : Shared) (i : Item) (others : Shared → Run) → ((y : Shared) → length (others y).shared.world ≡ length y.world) → length (row_put b.table b.name x i others).shared.world ≡ length x.world
+put_row_kept b x (Bad causes) others kept = refl
+put_row_kept b x (Row values) others kept = by_rowid (next_rowid (rows_of x.world b.table))
+  where
+    by_rowid : (rowid : Option ℤ) → length (row_under b.table b.name x values rowid others).shared.world ≡ length x.world
+    by_rowid None = refl
+    by_rowid (Some rowid) = kept (with_row x b.table (record { rowid = rowid; values = values })) ∙ row_kept x b.table (record { rowid = rowid; values = values })
+
+rows_kept : (b : BoundInsert) (rows : List (List Value)) (x : Shared) → length (rows_run b rows x).shared.world ≡ length x.world
+rows_kept b [] x = refl
+rows_kept b (row ∷ rows) x = put_row_kept b x (item_of no_causes (stored_as b.affinities row)) (rows_run b rows) (rows_kept b rows)
+
+pub put_kept : (b : BoundInsert) (params : List Value) (w : Lists) → length (put_run b params w).shared.world ≡ length w
+put_kept b params w = by (refusal_of (source_of b))
+  where
+    by : (refusal : Option CauseSet) → length (source_run b (untouched params w) refusal (given_of (source_of b))).shared.world ≡ length w
+    by (Some causes) = refl
+    by None = rows_kept b (given_of (source_of b)) (untouched params w)
+
+-- ---- a list is what it was when its last element is taken away
+
+popped : {A : Type 0} (xs ys : List A) (x y : A) → xs ++ x ∷ [] ≡ ys ++ y ∷ [] → ys ≡ xs
+popped xs ys x y same =
+    let long = sym (length-append xs (x ∷ [])) ∙ ap length same ∙ length-append ys (y ∷ []) in
+    let n : length ys ≡ length xs = omega arith in
+    sym (take-append_seam ys (y ∷ [])) ∙ ap (take (length ys)) (sym same) ∙ ap (λ k. take k (xs ++ x ∷ [])) n ∙ take-append_seam xs (x ∷ [])
+
+pub popped_option : {A : Type 0} (xs old new : List A) (x : A) (taken : Option A) → MatchOption taken ((old ≡ []) × (new ≡ [])) (λ last. old ≡ new ++ last ∷ []) → old ≡ xs ++ x ∷ [] → new ≡ xs
+popped_option xs old new x None (none, empty) is =
+    let long = ap length (sym is ∙ none) ∙ refl in
+    let more = sym (length-append xs (x ∷ [])) in
+    absurd (omega (arith, long, more))
+popped_option xs old new x (Some y) was is = popped xs new x y (sym is ∙ was)

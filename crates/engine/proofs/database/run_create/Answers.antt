@@ -1,0 +1,54 @@
+use Rattle.std.proofs.Common.{◌≡◌, ◌-◌, [], ◌∷◌, length, ap, sym, ◌∙◌, refl, arith, None}
+use Rattle.std.proofs.lemmas.List.{length-append}
+use Rattle.gen_write.specs.Writes.{create_run, create_steps}
+use Rattle.host_traits.specs.Faults.{Rose}
+use Rattle.engine.specs.Held.{state_of}
+use Rattle.engine.specs.Outcomes.{create_outcome_in}
+use Rattle.engine.proofs.Writing.{popped_option}
+use Rattle.engine.proofs.CarryingOut.{carries_Ok, carries_Err, carries_Mem}
+use Rattle.engine.proofs.database.run_create.Goals as goal
+
+pub returns-in_default-clause-carried : goal.returns-in_default-clause-carried
+returns-in_default-clause-carried g c =
+    let db = c.args.database.now in
+    carries_Mem (create_outcome_in db.catalog db.tables db.changes db.last_rowid c.args.entry) (state_of db.catalog db.tables db.changes db.last_rowid) c.args.budget (create_steps db.tables) c.args.steps.now (g.R.RowSink.taken c.args.rows.now) (Rose (g.R.RowSink.fault_count c.args.rows.now) (g.R.RowSink.fault_count c.args.rows.now))
+
+pub returns-in-Ok-execute-clause-in_line : goal.returns-in-Ok-execute-clause-in_line
+returns-in-Ok-execute-clause-in_line g c =
+    let db = c.args.database.now in
+    let run = create_run [] db.tables in
+    let a = c.in-Ok-execute.ensures.runs (create_steps db.tables) run.ending run.shared (c.in-Ok.ensures [] db.tables c.requires.ordered) in
+    let tables = ap length a.answer.1 ∙ length-append db.tables ([] ∷ []) in
+    let catalog = ap length c.in-Ok-push.ensures.ok ∙ length-append db.catalog (c.args.entry ∷ []) in
+    omega (arith, tables, catalog, c.requires.in_line)
+
+pub returns-in-Ok-execute-clause-carried : goal.returns-in-Ok-execute-clause-carried
+returns-in-Ok-execute-clause-carried g c =
+    let db = c.args.database.now in
+    let run = create_run [] db.tables in
+    let most = create_steps db.tables in
+    let a = c.in-Ok-execute.ensures.runs most run.ending run.shared (c.in-Ok.ensures [] db.tables c.requires.ordered) in
+    carries_Ok (create_outcome_in db.catalog db.tables db.changes db.last_rowid c.args.entry) run.ending run.shared (record { ended = refl; given = refl }) most most c.args.budget (c.execute.new.steps - c.args.steps.now) db.tables c.execute.new.tables (g.R.RowSink.taken c.args.rows.now) (g.R.RowSink.taken c.execute.new.rows) (Rose (g.R.RowSink.fault_count c.args.rows.now) (g.R.RowSink.fault_count c.execute.new.rows)) (omega arith) (state_of db.catalog db.tables db.changes db.last_rowid) (state_of c.push.new.self c.execute.new.tables db.changes db.last_rowid) c.in-Ok-execute.completed c.done.result (rw (a.answer.1, c.in-Ok-push.ensures.ok) refl) c.done.ensures.given c.done.ensures.changed a
+
+pub returns-in-Err-clause-in_line : goal.returns-in-Err-clause-in_line
+returns-in-Err-clause-in_line g c =
+    let db = c.args.database.now in
+    let run = create_run [] db.tables in
+    let a = c.in-Err.ensures.runs (create_steps db.tables) run.ending run.shared (c.in-Ok.ensures [] db.tables c.requires.ordered) in
+    let back = popped_option db.catalog c.push.new.self c.pop.new.self c.args.entry c.pop.result c.pop.ensures c.in-Ok-push.ensures.ok in
+    ap length a.answer.0 ∙ c.requires.in_line ∙ ap length (sym back)
+
+pub returns-in-Err-clause-carried : goal.returns-in-Err-clause-carried
+returns-in-Err-clause-carried g c =
+    let db = c.args.database.now in
+    let run = create_run [] db.tables in
+    let most = create_steps db.tables in
+    let a = c.in-Err.ensures.runs most run.ending run.shared (c.in-Ok.ensures [] db.tables c.requires.ordered) in
+    let back = popped_option db.catalog c.push.new.self c.pop.new.self c.args.entry c.pop.result c.pop.ensures c.in-Ok-push.ensures.ok in
+    carries_Err (create_outcome_in db.catalog db.tables db.changes db.last_rowid c.args.entry) run.ending run.shared (record { ended = refl; given = refl }) most most c.args.budget (c.execute.new.steps - c.args.steps.now) db.tables c.execute.new.tables (g.R.RowSink.taken c.args.rows.now) (g.R.RowSink.taken c.execute.new.rows) (Rose (g.R.RowSink.fault_count c.args.rows.now) (g.R.RowSink.fault_count c.execute.new.rows)) (omega arith) (state_of db.catalog db.tables db.changes db.last_rowid) (state_of c.pop.new.self c.execute.new.tables db.changes db.last_rowid) c.in-Err.cause (rw (a.answer.0, back) refl) a
+
+pub returns-in_default-push-clause-carried : goal.returns-in_default-push-clause-carried
+returns-in_default-push-clause-carried g c =
+    let db = c.args.database.now in
+    let state = state_of db.catalog db.tables db.changes db.last_rowid in
+    rw c.in_default-push.ensures.err (carries_Mem (create_outcome_in db.catalog db.tables db.changes db.last_rowid c.args.entry) state c.args.budget (create_steps db.tables) c.args.steps.now (g.R.RowSink.taken c.args.rows.now) (Rose (g.R.RowSink.fault_count c.args.rows.now) (g.R.RowSink.fault_count c.args.rows.now)))

@@ -1,0 +1,42 @@
+use Rattle.std.proofs.Common.{◌≡◌, ◌-◌, [], length, ap, sym, ◌∙◌, refl, arith, None}
+use Rattle.gen_query.specs.Queries.{query_run, query_steps}
+use Rattle.host_traits.specs.Faults.{Rose}
+use Rattle.engine.specs.Held.{state_of}
+use Rattle.engine.specs.Outcomes.{query_outcome_in}
+use Rattle.engine.proofs.CarryingOut.{carries_Ok, carries_Err, carries_Mem}
+use Rattle.engine.proofs.database.run_select.Goals as goal
+
+pub returns-in_default-clause-carried : goal.returns-in_default-clause-carried
+returns-in_default-clause-carried g c =
+    let db = c.args.database.now in
+    carries_Mem (query_outcome_in db.catalog db.tables db.changes db.last_rowid c.args.params.now c.args.select.now) (state_of db.catalog db.tables db.changes db.last_rowid) c.args.budget (query_steps c.args.select.now db.tables) c.args.steps.now (g.R.RowSink.taken c.args.rows.now) (Rose (g.R.RowSink.fault_count c.args.rows.now) (g.R.RowSink.fault_count c.args.rows.now))
+
+pub returns-in-Ok-execute-clause-in_line : goal.returns-in-Ok-execute-clause-in_line
+returns-in-Ok-execute-clause-in_line g c =
+    let db = c.args.database.now in
+    let run = query_run c.args.select.now c.args.params.now db.tables in
+    let a = c.in-Ok-execute.ensures.runs (query_steps c.args.select.now db.tables) run.ending run.shared (c.in-Ok.ensures c.args.params.now db.tables c.requires.ordered) in
+    ap length a.answer.1 ∙ c.requires.in_line
+
+pub returns-in-Ok-execute-clause-carried : goal.returns-in-Ok-execute-clause-carried
+returns-in-Ok-execute-clause-carried g c =
+    let db = c.args.database.now in
+    let run = query_run c.args.select.now c.args.params.now db.tables in
+    let most = query_steps c.args.select.now db.tables in
+    let a = c.in-Ok-execute.ensures.runs most run.ending run.shared (c.in-Ok.ensures c.args.params.now db.tables c.requires.ordered) in
+    carries_Ok (query_outcome_in db.catalog db.tables db.changes db.last_rowid c.args.params.now c.args.select.now) run.ending run.shared (record { ended = refl; given = refl }) most most c.args.budget (c.execute.new.steps - c.args.steps.now) db.tables c.execute.new.tables (g.R.RowSink.taken c.args.rows.now) (g.R.RowSink.taken c.execute.new.rows) (Rose (g.R.RowSink.fault_count c.args.rows.now) (g.R.RowSink.fault_count c.execute.new.rows)) (omega arith) (state_of db.catalog db.tables db.changes db.last_rowid) (state_of db.catalog c.execute.new.tables db.changes db.last_rowid) c.in-Ok-execute.completed c.done.result (ap (λ w. state_of db.catalog w db.changes db.last_rowid) a.answer.1) c.done.ensures.given c.done.ensures.changed a
+
+pub returns-in-Err-clause-in_line : goal.returns-in-Err-clause-in_line
+returns-in-Err-clause-in_line g c =
+    let db = c.args.database.now in
+    let run = query_run c.args.select.now c.args.params.now db.tables in
+    let a = c.in-Err.ensures.runs (query_steps c.args.select.now db.tables) run.ending run.shared (c.in-Ok.ensures c.args.params.now db.tables c.requires.ordered) in
+    ap length a.answer.0 ∙ c.requires.in_line
+
+pub returns-in-Err-clause-carried : goal.returns-in-Err-clause-carried
+returns-in-Err-clause-carried g c =
+    let db = c.args.database.now in
+    let run = query_run c.args.select.now c.args.params.now db.tables in
+    let most = query_steps c.args.select.now db.tables in
+    let a = c.in-Err.ensures.runs most run.ending run.shared (c.in-Ok.ensures c.args.params.now db.tables c.requires.ordered) in
+    carries_Err (query_outcome_in db.catalog db.tables db.changes db.last_rowid c.args.params.now c.args.select.now) run.ending run.shared (record { ended = refl; given = refl }) most most c.args.budget (c.execute.new.steps - c.args.steps.now) db.tables c.execute.new.tables (g.R.RowSink.taken c.args.rows.now) (g.R.RowSink.taken c.execute.new.rows) (Rose (g.R.RowSink.fault_count c.args.rows.now) (g.R.RowSink.fault_count c.execute.new.rows)) (omega arith) (state_of db.catalog db.tables db.changes db.last_rowid) (state_of db.catalog c.execute.new.tables db.changes db.last_rowid) c.in-Err.cause (ap (λ w. state_of db.catalog w db.changes db.last_rowid) a.answer.0) a

@@ -1,9 +1,0 @@
-use Rattle.std.proofs.Common.{◌≡◌, ◌<◌, ◌^◌, drop}
-use Rattle.std.specs.Str.Parse.{digits_value, digits_value_after}
-use Rattle.engine.proofs.lexing.value.Given as goal
-
-abbrev pub invariant-loop-d : goal.invariant-loop-d
-invariant-loop-d l = record {
-  value : digits_value_after 10 l.n (drop l.d-index l.digits) ≡ digits_value 10 l.digits;
-  small : l.n < 10 ^ l.d-index;
-}

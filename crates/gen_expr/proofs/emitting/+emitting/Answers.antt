@@ -1,0 +1,203 @@
+use Rattle.std.proofs.Common.{rules, ◌≡◌, ◌∙◌, length, refl, sym, ap, subst, arith}
+use Rattle.std.specs.Prelude.{slice_get}
+use Rattle.std.proofs.lemmas.Grind.{common_steps}
+use Rattle.vm_code.specs.Draft.{Draft}
+use Rattle.vm_code.specs.Frames.{Leaves, Fills}
+use Rattle.gen_expr.proofs.Expressions.{of_literal, of_column, of_parameter, of_unary, of_binary, three_fill, of_like_escaped, of_between, all_more, of_call, member_more, member_leaves, of_in, known_more, known_leaves, of_coalesce, choice_more, choice_leaves, of_choose, match_more, match_leaves, of_match}
+use Rattle.gen_expr.proofs.Assembly.{taken_room, beside_of, beside_on, turns_at, decides_at, emits_from, all_filled, label_open, tested_open, arm_parts, arm_steps, match_parts, match_steps, member_all, known_all, choice_all, match_all}
+use Rattle.gen_expr.proofs.Stretches.{decides_none}
+use Rattle.gen_expr.specs.Parts.{with_arm_tested}
+use Rattle.sql_meaning.specs.declared.bound.BoundArm.{out-BoundArm}
+use Rattle.sql_meaning.specs.declared.bound.BoundExpr.{the_lemmas}
+use Rattle.sql_meaning.specs.declared.bound.BoundMatch.{out-BoundMatch}
+use Rattle.gen_expr.proofs.emitting.+emitting.Goals as goal
+
+pub emit-returns-in_ok-emit_literal-in-Literal-clause-leaves : goal.emit-returns-in_ok-emit_literal-in-Literal-clause-leaves
+emit-returns-in_ok-emit_literal-in-Literal-clause-leaves t c =
+    rw c.in-Literal.is (of_literal c.args.b.now c.emit_literal.new.b c.args.to c.in-Literal.literal c.in_ok-emit_literal-in-Literal.ensures.leaves)
+
+pub emit-returns-in_ok-read_column-in-Column-clause-leaves : goal.emit-returns-in_ok-read_column-in-Column-clause-leaves
+emit-returns-in_ok-read_column-in-Column-clause-leaves t c =
+    rw (c.in-Column.is, c.in_ok-read_column-in-Column.ensures) (of_column c.args.b.now c.in-Column.item c.in-Column.column c.args.to c.requires.taken c.requires.counted)
+
+pub emit-returns-in_ok-read_parameter-in-Parameter-clause-leaves : goal.emit-returns-in_ok-read_parameter-in-Parameter-clause-leaves
+emit-returns-in_ok-read_parameter-in-Parameter-clause-leaves t c =
+    rw (c.in-Parameter.is, c.in_ok-read_parameter-in-Parameter.ensures) (of_parameter c.args.b.now c.in-Parameter.number c.args.to c.requires.taken c.requires.counted)
+
+pub emit-returns-in_ok-unary-in-Unary-clause-leaves : goal.emit-returns-in_ok-unary-in-Unary-clause-leaves
+emit-returns-in_ok-unary-in-Unary-clause-leaves t c =
+    rw (c.in-Unary.is, ← c.get.ensures, c.in_ok-unary-in-Unary.ensures) (of_unary c.args.b.now c.emit.new.b c.in-Unary.operator c.args.to _ c.in_ok-emit-in-Unary.ensures.leaves c.requires.taken c.requires.counted)
+
+pub emit-returns-in_ok-binary-in-Binary-clause-leaves : goal.emit-returns-in_ok-binary-in-Binary-clause-leaves
+emit-returns-in_ok-binary-in-Binary-clause-leaves t c =
+    let second = rw c.in_ok-other-in-Binary.ensures.1 at c.in_ok-emit-in-Binary-2.ensures.leaves in
+    rw (c.in-Binary.is, ← c.get-in-Binary.ensures, ← c.get-in-Binary-2.ensures, c.in_ok-binary-in-Binary.ensures)
+    (of_binary c.args.b.now c.emit-in-Binary.new.b c.emit-in-Binary-2.new.b c.in-Binary.operator c.args.to c.in_ok-other-in-Binary.other _ _ c.in_ok-emit-in-Binary.ensures.leaves c.in_ok-other-in-Binary.ensures.0 second c.requires.taken c.requires.counted)
+
+pub emit-returns-in_ok-like_escaped-in-LikeEscaped-clause-leaves : goal.emit-returns-in_ok-like_escaped-in-LikeEscaped-clause-leaves
+emit-returns-in_ok-like_escaped-in-LikeEscaped-clause-leaves t c =
+    rw (c.in-LikeEscaped.is, ← c.get-in-LikeEscaped.ensures, ← c.get-in-LikeEscaped-2.ensures, ← c.get-in-LikeEscaped-3.ensures, c.in_ok-like_escaped-in-LikeEscaped.ensures)
+    (of_like_escaped c.args.b.now c.emit_three.new.b c.in_ok-operands-in-LikeEscaped.operands c.args.to _ _ _ c.in_ok-operands-in-LikeEscaped.ensures.places c.in_ok-operands-in-LikeEscaped.ensures.fills c.requires.taken c.requires.counted)
+
+pub emit-returns-in_ok-between-in-Between-clause-leaves : goal.emit-returns-in_ok-between-in-Between-clause-leaves
+emit-returns-in_ok-between-in-Between-clause-leaves t c =
+    rw (c.in-Between.is, ← c.get-in-Between.ensures, ← c.get-in-Between-2.ensures, ← c.get-in-Between-3.ensures, c.in_ok-between-in-Between.ensures)
+    (of_between c.args.b.now c.emit_three-in-Between.new.b c.in-Between.above c.in-Between.below c.in_ok-operands-in-Between.operands c.args.to _ _ _ c.in_ok-operands-in-Between.ensures.places c.in_ok-operands-in-Between.ensures.fills c.requires.taken c.requires.counted)
+
+pub emit-returns-in_ok-emit_member-in-In-clause-leaves : goal.emit-returns-in_ok-emit_member-in-In-clause-leaves
+emit-returns-in_ok-emit_member-in-In-clause-leaves t c =
+    rw (c.in-In.is, ← c.get-in-In.ensures, ← c.as_slice.ensures) (of_in c.args.b.now c.emit_member.new.b c.in-In.sides c.args.to _ _ c.in_ok-emit_member-in-In.ensures.leaves)
+
+pub emit-returns-in_ok-emit_known-in-Coalesce-clause-leaves : goal.emit-returns-in_ok-emit_known-in-Coalesce-clause-leaves
+emit-returns-in_ok-emit_known-in-Coalesce-clause-leaves t c =
+    rw (c.in-Coalesce.is, ← c.as_slice-in-Coalesce.ensures) (of_coalesce c.args.b.now c.emit_known.new.b c.args.to _ c.in_ok-emit_known-in-Coalesce.ensures.leaves)
+
+pub emit-returns-in_ok-emit_choice-in-Choose-clause-leaves : goal.emit-returns-in_ok-emit_choice-in-Choose-clause-leaves
+emit-returns-in_ok-emit_choice-in-Choose-clause-leaves t c =
+    rw (c.in-Choose.is, ← c.as_slice-in-Choose.ensures, ← c.get-in-Choose.ensures) (of_choose c.args.b.now c.emit_choice.new.b c.args.to _ _ c.in_ok-emit_choice-in-Choose.ensures.leaves)
+
+pub emit-returns-in_ok-emit_match-in-Match-clause-leaves : goal.emit-returns-in_ok-emit_match-in-Match-clause-leaves
+emit-returns-in_ok-emit_match-in-Match-clause-leaves t c =
+    rw (c.in-Match.is, ← c.get-in-Match.ensures, ← c.as_slice-in-Match.ensures, ← c.get-in-Match-2.ensures) (of_match c.args.b.now c.emit_match.new.b c.args.to _ _ _ c.in_ok-emit_match-in-Match.ensures.leaves)
+
+pub emit-returns-in_ok-call-in-Call-clause-leaves : goal.emit-returns-in_ok-call-in-Call-clause-leaves
+emit-returns-in_ok-call-in-Call-clause-leaves t c =
+    rw (c.in-Call.is, ← c.as_slice-in-Call.ensures, c.in_ok-call-in-Call.ensures)
+    (of_call c.args.b.now c.emit_all.new.b c.in-Call.function c.in-Call.collation c.next_register-first.result c.in_ok-count-in-Call.count c.args.to _ c.next_register-first.ensures c.in_ok-count-in-Call.ensures.fills c.requires.taken c.requires.counted)
+
+-- ---- three values, and a list of them
+
+pub emit_three-returns-clause-fills : goal.emit_three-returns-clause-fills
+emit_three-returns-clause-fills t c =
+    three_fill c.args.b.now c.emit.new.b c.emit-2.new.b c.emit-3.new.b c.in_ok-first.first c.in_ok-second.second c.in_ok-third.third c.args.x.now c.args.y.now c.args.z.now c.requires.counted
+    c.in_ok-first.ensures.0 (emits_from c.args.x.now _ c.in_ok-first.ensures.1 c.in_ok-emit.ensures.leaves)
+    c.in_ok-second.ensures.0 (emits_from c.args.y.now _ c.in_ok-second.ensures.1 c.in_ok-emit-2.ensures.leaves)
+    c.in_ok-third.ensures.0 (emits_from c.args.z.now _ c.in_ok-third.ensures.1 c.in_ok-emit-3.ensures.leaves)
+
+pub emit_all-loop-e-preserved : goal.emit_all-loop-e-preserved
+emit_all-loop-e-preserved t c =
+    let leaves = emits_from c.e-item.result _ c.in_ok-register.ensures.1 c.in_ok-emit.ensures.leaves in
+    record {
+      fills = all_more c.args.b.now c.loop-e.b c.emit.new.b c.args.all.now c.loop-e.e-index c.in_ok-register.register c.e-item.result c.loop-e-test.true c.e-item.is c.loop-e.invariant.fills c.in_ok-register.ensures.0 leaves;
+      units = c.in_ok-emit.ensures.units ∙ ap (λ (d : Draft). d.units) c.in_ok-register.ensures.1 ∙ c.loop-e.invariant.units;
+      cursors = c.in_ok-emit.ensures.cursors ∙ ap (λ (d : Draft). d.cursors) c.in_ok-register.ensures.1 ∙ c.loop-e.invariant.cursors;
+    }
+
+pub emit_all-returns-clause-fills : goal.emit_all-returns-clause-fills
+emit_all-returns-clause-fills t c =
+    all_filled c.args.b.now c.loop-e.b c.args.all.now c.loop-e.e-index _ c.loop-e-test.false (omega (arith, c.next_register.ensures, c.next_register-first.ensures, c.loop-e.invariant.fills.next)) c.loop-e.invariant.fills
+
+-- ---- IN
+
+pub emit_member-loop-e-preserved : goal.emit_member-loop-e-preserved
+emit_member-loop-e-preserved t c =
+    let x = c.args.tested.now in
+    let es = c.args.others.now in
+    let held = beside_of c.args.b.now c.take.new.self c.emit.new.b c.in_ok-value.value c.args.to x c.in_ok-value.ensures.0 c.in_ok-value.ensures.1 c.in_ok-emit.ensures.leaves c.requires.taken in
+    let begun = c.in_ok-begin_member.ensures in
+    let beside = beside_on {d = c.begin_member.new.b} held (ap (λ (d : Draft). d.next) begun) (omega (arith, ap (λ (d : Draft). d.most) begun)) in
+    let leaves = emits_from c.e-item.result _ c.in_ok-other.ensures.1 c.in_ok-emit-2.ensures.leaves in
+    let more = turns_at c.or_equal.new.b c.in_ok-or_equal.ensures (member_more c.begin_member.new.b c.loop-e.b c.emit-in-loop-e.new.b c.args.sides c.in_ok-value.value c.in_ok-other.other c.args.to c.loop-e.e-index es c.e-item.result c.loop-e-test.true c.e-item.is c.loop-e.invariant.turns c.in_ok-other.ensures.0 leaves beside.taken beside.counted beside.beside beside.other) in
+    record {
+      turns = more;
+      next = more.next;
+      most = more.grows.most;
+      units = ap (λ (d : Draft). d.units) c.in_ok-or_equal.ensures ∙ c.in_ok-emit-2.ensures.units ∙ ap (λ (d : Draft). d.units) c.in_ok-other.ensures.1 ∙ c.loop-e.invariant.units;
+      cursors = ap (λ (d : Draft). d.cursors) c.in_ok-or_equal.ensures ∙ c.in_ok-emit-2.ensures.cursors ∙ ap (λ (d : Draft). d.cursors) c.in_ok-other.ensures.1 ∙ c.loop-e.invariant.cursors;
+    }
+
+pub emit_member-returns-clause-leaves : goal.emit_member-returns-clause-leaves
+emit_member-returns-clause-leaves t c =
+    member_all c.args.b.now c.take.new.self c.emit.new.b c.begin_member.new.b c.loop-e.b c.give_back.new.self c.args.sides c.in_ok-value.value c.args.to c.loop-e.e-index c.args.others.now c.args.tested.now c.in_ok-value.ensures.0 c.in_ok-value.ensures.1 c.in_ok-emit.ensures.leaves c.in_ok-begin_member.ensures c.loop-e-test.false c.loop-e.invariant.turns c.give_back.ensures c.requires.taken c.requires.counted
+
+-- ---- coalesce
+
+pub emit_known-loop-e-init : goal.emit_known-loop-e-init
+emit_known-loop-e-init t c =
+    record { decides = decides_none c.label.new.self c.args.to c.args.to c.in_ok-end.end; next = refl; most = omega arith; units = refl; cursors = refl }
+
+pub emit_known-loop-e-preserved : goal.emit_known-loop-e-preserved
+emit_known-loop-e-preserved t c =
+    let more = decides_at c.unless_null.new.b c.in_ok-unless_null.ensures (known_more c.label.new.self c.loop-e.b c.emit.new.b c.args.to c.in_ok-end.end c.loop-e.e-index c.args.operands.now c.e-item.result c.loop-e-test.true c.e-item.is c.loop-e.invariant.decides c.in_ok-emit.ensures.leaves) in
+    record {
+      decides = more;
+      next = more.next;
+      most = more.grows.most;
+      units = ap (λ (d : Draft). d.units) c.in_ok-unless_null.ensures ∙ c.in_ok-emit.ensures.units ∙ c.loop-e.invariant.units;
+      cursors = ap (λ (d : Draft). d.cursors) c.in_ok-unless_null.ensures ∙ c.in_ok-emit.ensures.cursors ∙ c.loop-e.invariant.cursors;
+    }
+
+pub emit_known-bind-requires : goal.emit_known-bind-requires
+emit_known-bind-requires t c =
+    ap (λ (d : Draft). slice_get d.labels c.in_ok-end.end) c.in_ok-op.ensures ∙ c.loop-e.invariant.decides.grows.open_labels c.in_ok-end.end (label_open c.args.b.now c.label.new.self c.in_ok-end.end c.in_ok-end.ensures.0 c.in_ok-end.ensures.1)
+
+pub emit_known-returns-clause-leaves : goal.emit_known-returns-clause-leaves
+emit_known-returns-clause-leaves t c =
+    known_all c.args.b.now c.label.new.self c.loop-e.b c.op.new.self c.bind.new.self c.args.to c.in_ok-end.end c.loop-e.e-index c.args.operands.now c.in_ok-end.ensures.0 c.in_ok-end.ensures.1 c.loop-e-test.false c.loop-e.invariant.decides c.in_ok-op.ensures c.bind.ensures c.requires.taken c.requires.counted
+
+-- ---- CASE with conditions
+
+pub emit_choice-leave_arm-requires : goal.emit_choice-leave_arm-requires
+emit_choice-leave_arm-requires t c =
+    c.in_ok-emit-2.ensures.leaves.grows.open_labels c.in_ok-next.next (tested_open c.emit.new.b c.test_arm.new.b c.args.to c.in_ok-end.end c.in_ok-next.next c.in_ok-next.ensures.0 c.in_ok-next.ensures.1)
+
+pub emit_choice-bind-requires : goal.emit_choice-bind-requires
+emit_choice-bind-requires t c =
+    c.in_ok-emit-3.ensures.leaves.grows.open_labels c.in_ok-end.end (c.loop-arm.invariant.decides.grows.open_labels c.in_ok-end.end (label_open c.args.b.now c.label.new.self c.in_ok-end.end c.in_ok-end.ensures.0 c.in_ok-end.ensures.1))
+
+pub emit_choice-loop-arm-init : goal.emit_choice-loop-arm-init
+emit_choice-loop-arm-init t c =
+    record { decides = decides_none c.label.new.self c.args.to c.args.to c.in_ok-end.end; next = refl; most = omega arith; units = refl; cursors = refl }
+
+pub emit_choice-loop-arm-preserved : goal.emit_choice-loop-arm-preserved
+emit_choice-loop-arm-preserved t c =
+    let arm = c.arm-item.result in
+    let next = ap (λ (d : Draft). d.next) c.in_ok-end.ensures.1 in
+    let most = ap (λ (d : Draft). d.most) c.in_ok-end.ensures.1 in
+    let value = emits_from (out-BoundArm arm).value _ c.in_ok-next.ensures.1 c.in_ok-emit-2.ensures.leaves in
+    let more = decides_at c.leave_arm.new.b c.in_ok-leave_arm.ensures (choice_more c.label.new.self c.loop-arm.b c.emit.new.b c.emit-in-loop-arm.new.b c.args.to c.in_ok-next.next c.in_ok-end.end c.loop-arm.arm-index c.args.arms.now arm (out-BoundArm arm).condition (out-BoundArm arm).value c.loop-arm-test.true c.arm-item.is (arm_parts arm) (arm_steps arm) c.loop-arm.invariant.decides c.in_ok-emit.ensures.leaves c.in_ok-next.ensures.0 value (omega (arith, next, c.loop-arm.invariant.next)) (omega (arith, next, most, c.loop-arm.invariant.next, c.loop-arm.invariant.most))) in
+    record {
+      decides = more;
+      next = more.next;
+      most = more.grows.most;
+      units = ap (λ (d : Draft). d.units) c.in_ok-leave_arm.ensures ∙ c.in_ok-emit-2.ensures.units ∙ ap (λ (d : Draft). d.units) c.in_ok-next.ensures.1 ∙ c.in_ok-emit.ensures.units ∙ c.loop-arm.invariant.units;
+      cursors = ap (λ (d : Draft). d.cursors) c.in_ok-leave_arm.ensures ∙ c.in_ok-emit-2.ensures.cursors ∙ ap (λ (d : Draft). d.cursors) c.in_ok-next.ensures.1 ∙ c.in_ok-emit.ensures.cursors ∙ c.loop-arm.invariant.cursors;
+    }
+
+pub emit_choice-returns-clause-leaves : goal.emit_choice-returns-clause-leaves
+emit_choice-returns-clause-leaves t c =
+    choice_all c.args.b.now c.label.new.self c.loop-arm.b c.emit-2.new.b c.bind.new.self c.args.to c.in_ok-end.end c.loop-arm.arm-index c.args.arms.now c.args.otherwise.now c.in_ok-end.ensures.0 c.in_ok-end.ensures.1 c.loop-arm-test.false c.loop-arm.invariant.decides c.in_ok-emit-3.ensures.leaves c.bind.ensures
+
+-- ---- CASE with an operand
+
+pub emit_match-leave_arm-requires : goal.emit_match-leave_arm-requires
+emit_match-leave_arm-requires t c =
+    c.in_ok-emit-3.ensures.leaves.grows.open_labels c.in_ok-next.next (tested_open c.compare_with.new.b c.test_arm.new.b c.args.to c.in_ok-end.end c.in_ok-next.next c.in_ok-next.ensures.0 c.in_ok-next.ensures.1)
+
+pub emit_match-bind-requires : goal.emit_match-bind-requires
+emit_match-bind-requires t c =
+    c.in_ok-emit-4.ensures.leaves.grows.open_labels c.in_ok-end.end (c.loop-arm.invariant.decides.grows.open_labels c.in_ok-end.end (label_open c.emit.new.b c.label.new.self c.in_ok-end.end c.in_ok-end.ensures.0 c.in_ok-end.ensures.1))
+
+pub emit_match-loop-arm-init : goal.emit_match-loop-arm-init
+emit_match-loop-arm-init t c =
+    record { decides = decides_none c.label.new.self c.in_ok-value.value c.args.to c.in_ok-end.end; next = refl; most = omega arith; units = refl; cursors = refl }
+
+pub emit_match-loop-arm-preserved : goal.emit_match-loop-arm-preserved
+emit_match-loop-arm-preserved t c =
+    let arm = c.arm-item.result in
+    let held = beside_of c.args.b.now c.take.new.self c.emit.new.b c.in_ok-value.value c.args.to c.args.tested.now c.in_ok-value.ensures.0 c.in_ok-value.ensures.1 c.in_ok-emit.ensures.leaves c.requires.taken in
+    let beside = beside_on {d = c.label.new.self} held (ap (λ (d : Draft). d.next) c.in_ok-end.ensures.1) (omega (arith, ap (λ (d : Draft). d.most) c.in_ok-end.ensures.1)) in
+    let long : c.in_ok-next.next ≡ length c.emit-in-loop-arm.new.b.labels = c.in_ok-next.ensures.0 ∙ ap (λ (d : Draft). length d.labels) c.in_ok-compare_with.ensures in
+    let value = emits_from (out-BoundMatch arm).value _ (c.in_ok-next.ensures.1 ∙ ap (λ (d : Draft). with_arm_tested d c.args.to c.in_ok-end.end) c.in_ok-compare_with.ensures) c.in_ok-emit-3.ensures.leaves in
+    let more = decides_at c.leave_arm.new.b c.in_ok-leave_arm.ensures (match_more c.label.new.self c.loop-arm.b c.emit-in-loop-arm.new.b c.emit-in-loop-arm-2.new.b c.in_ok-value.value c.args.to c.in_ok-next.next c.in_ok-end.end c.loop-arm.arm-index c.args.arms.now arm (out-BoundMatch arm).sides (out-BoundMatch arm).operand (out-BoundMatch arm).value c.loop-arm-test.true c.arm-item.is (match_parts arm) (match_steps arm) c.loop-arm.invariant.decides c.in_ok-emit-2.ensures.leaves long value beside.taken beside.counted beside.beside beside.other) in
+    record {
+      decides = more;
+      next = more.next;
+      most = more.grows.most;
+      units = ap (λ (d : Draft). d.units) c.in_ok-leave_arm.ensures ∙ c.in_ok-emit-3.ensures.units ∙ ap (λ (d : Draft). d.units) c.in_ok-next.ensures.1 ∙ ap (λ (d : Draft). d.units) c.in_ok-compare_with.ensures ∙ c.in_ok-emit-2.ensures.units ∙ c.loop-arm.invariant.units;
+      cursors = ap (λ (d : Draft). d.cursors) c.in_ok-leave_arm.ensures ∙ c.in_ok-emit-3.ensures.cursors ∙ ap (λ (d : Draft). d.cursors) c.in_ok-next.ensures.1 ∙ ap (λ (d : Draft). d.cursors) c.in_ok-compare_with.ensures ∙ c.in_ok-emit-2.ensures.cursors ∙ c.loop-arm.invariant.cursors;
+    }
+
+pub emit_match-returns-clause-leaves : goal.emit_match-returns-clause-leaves
+emit_match-returns-clause-leaves t c =
+    match_all c.args.b.now c.take.new.self c.emit.new.b c.label.new.self c.loop-arm.b c.emit-2.new.b c.bind.new.self c.give_back.new.self c.in_ok-value.value c.args.to c.in_ok-end.end c.loop-arm.arm-index c.args.arms.now c.args.tested.now c.args.otherwise.now c.in_ok-value.ensures.0 c.in_ok-value.ensures.1 c.in_ok-emit.ensures.leaves c.in_ok-end.ensures.0 c.in_ok-end.ensures.1 c.loop-arm-test.false c.loop-arm.invariant.decides c.in_ok-emit-4.ensures.leaves c.bind.ensures c.give_back.ensures c.requires.taken

@@ -1,0 +1,76 @@
+use denote.Param.Weighed.{most}
+use Rattle.std.proofs.Common.{◌≡◌, ℕ, ◌+◌, ◌*◌, ◌≤◌, map, fold, max, take}
+use Rattle.std.specs.Prelude.{sum_by}
+use Rattle.eng_value.specs.Applied.{or_equal}
+use Rattle.gen_expr.specs.Parts.{Turns, Decides, decided_arm, decided_known, decided_match, first_in}
+use Rattle.gen_expr.specs.Steps.{steps_of, arm_steps_of, match_steps_of}
+use Rattle.sql_meaning.specs.Expression.{value_of, arm_of, match_of, in_all}
+use Rattle.vm_code.specs.Frames.{Fills}
+use Rattle.sql_meaning.proofs.bound.BoundExpr.TheLaws.{the_size}
+use Rattle.sql_meaning.proofs.bound.BoundMatch.TheLaws.{the_size as match_size}
+use Rattle.gen_expr.proofs.emitting.+emitting.Given as goal
+
+abbrev pub invariant-emit_all-loop-e : goal.invariant-emit_all-loop-e
+invariant-emit_all-loop-e l = record {
+  fills : Fills l.initial.b l.b l.e-index (λ w env. in_all (map value_of (take l.e-index l.all)) env) (λ w. sum_by steps_of (take l.e-index l.all));
+  units : l.b.units ≡ l.initial.b.units;
+  cursors : l.b.cursors ≡ l.initial.b.cursors;
+}
+
+abbrev pub invariant-emit_member-loop-e : goal.invariant-emit_member-loop-e
+invariant-emit_member-loop-e l = record {
+  turns : Turns l.initial.b l.b l.value l.to (λ env x y. fold (or_equal l.sides x) y (in_all (map value_of (take l.e-index l.others)) env)) (sum_by (λ e. steps_of e + 2) (take l.e-index l.others));
+  next : l.b.next ≡ l.initial.b.next;
+  most : l.initial.b.most ≤ l.b.most;
+  units : l.b.units ≡ l.initial.b.units;
+  cursors : l.b.cursors ≡ l.initial.b.cursors;
+}
+
+abbrev pub invariant-emit_known-loop-e : goal.invariant-emit_known-loop-e
+invariant-emit_known-loop-e l = record {
+  decides : Decides l.initial.b l.b l.to l.to l.end (λ env x. first_in (λ e. decided_known (value_of e env)) (take l.e-index l.operands)) (sum_by (λ e. steps_of e + 2) (take l.e-index l.operands));
+  next : l.b.next ≡ l.initial.b.next;
+  most : l.initial.b.most ≤ l.b.most;
+  units : l.b.units ≡ l.initial.b.units;
+  cursors : l.b.cursors ≡ l.initial.b.cursors;
+}
+
+abbrev pub invariant-emit_choice-loop-arm : goal.invariant-emit_choice-loop-arm
+invariant-emit_choice-loop-arm l = record {
+  decides : Decides l.initial.b l.b l.to l.to l.end (λ env x. first_in (λ arm. decided_arm env (arm_of arm)) (take l.arm-index l.arms)) (sum_by arm_steps_of (take l.arm-index l.arms));
+  next : l.b.next ≡ l.initial.b.next;
+  most : l.initial.b.most ≤ l.b.most;
+  units : l.b.units ≡ l.initial.b.units;
+  cursors : l.b.cursors ≡ l.initial.b.cursors;
+}
+
+abbrev pub invariant-emit_match-loop-arm : goal.invariant-emit_match-loop-arm
+invariant-emit_match-loop-arm l = record {
+  decides : Decides l.initial.b l.b l.value l.to l.end (λ env x. first_in (λ arm. decided_match env x (match_of arm)) (take l.arm-index l.arms)) (sum_by match_steps_of (take l.arm-index l.arms));
+  next : l.b.next ≡ l.initial.b.next;
+  most : l.initial.b.most ≤ l.b.most;
+  units : l.b.units ≡ l.initial.b.units;
+  cursors : l.b.cursors ≡ l.initial.b.cursors;
+}
+
+-- what is emitted gets smaller: twice the depth, and one more where a function goes over parts of an expression
+abbrev pub decreases-emit : goal.decreases-emit
+decreases-emit l = 2 * goal.size-emit l
+
+abbrev pub decreases-emit_all : goal.decreases-emit_all
+decreases-emit_all l = 2 * goal.size-emit_all l + 1
+
+abbrev pub decreases-emit_known : goal.decreases-emit_known
+decreases-emit_known l = 2 * goal.size-emit_known l + 1
+
+abbrev pub decreases-emit_three : goal.decreases-emit_three
+decreases-emit_three l = 2 * max (the_size l.x.now) (max (the_size l.y.now) (the_size l.z.now)) + 1
+
+abbrev pub decreases-emit_member : goal.decreases-emit_member
+decreases-emit_member l = 2 * max (the_size l.tested.now) (most the_size l.others.now) + 1
+
+abbrev pub decreases-emit_choice : goal.decreases-emit_choice
+decreases-emit_choice l = 2 * max (goal.size-emit_choice l) (the_size l.otherwise.now) + 1
+
+abbrev pub decreases-emit_match : goal.decreases-emit_match
+decreases-emit_match l = 2 * max (the_size l.tested.now) (max (most match_size l.arms.now) (the_size l.otherwise.now)) + 1

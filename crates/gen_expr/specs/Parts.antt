@@ -1,0 +1,127 @@
+-- What the parts of an expression's code do: those between the codes of operands, and those that decide a value.
+use Rattle.std.specs.Prelude.{◌≡◌, ℕ, ◌+◌, true, List, [], ◌∷◌, length, pos, Some, None}
+use Rattle.std.specs.declared.option.Option.{Option}
+use Rattle.eng_value.specs.Comparisons.{comparison_of}
+use Rattle.eng_value.specs.Environments.{Environment}
+use Rattle.eng_value.specs.Truths.{truth_in, truth_of}
+use Rattle.eng_value.specs.declared.compare_op.CompareOp.TheVariants as compare
+use Rattle.eng_value.specs.declared.built.Built.{Built}
+use Rattle.eng_value.specs.declared.builtin.Builtin.{Builtin}
+use Rattle.eng_value.specs.declared.operators.BinaryOperator.{BinaryOperator}
+use Rattle.eng_value.specs.declared.operators.BinaryOperator.TheVariants as binary
+use Rattle.eng_value.specs.declared.operators.Sides.{Sides}
+use Rattle.eng_value.specs.declared.operators.UnaryOperator.{UnaryOperator}
+use Rattle.eng_value.specs.declared.operators.UnaryOperator.TheVariants as unary
+use Rattle.eng_value.specs.declared.out.Out.{Out}
+use Rattle.eng_value.specs.declared.out.Out.TheVariants.{Good, Bad}
+use Rattle.eng_value.specs.declared.truth.Truth.{Truth}
+use Rattle.eng_value.specs.declared.truth.Truth.TheVariants as truth
+use Rattle.eng_value.specs.declared.value.Value.TheVariants as value
+use Rattle.gen_expr.specs.declared.parts.Operands.{Operands}
+use Rattle.sql_meaning.specs.Expression.{Arm, MatchArm}
+use Rattle.vm_code.specs.declared.op.Op.TheVariants as op
+use Rattle.vm_code.specs.Draft.{Draft, with_op, with_label, bound, given_back, released}
+use Rattle.vm_code.specs.Frames.{Holds, Grows, Ready, Left, here, environment_of}
+use Rattle.vm_code.specs.Machine.{Setting, State, read}
+
+-- ---- instructions between operands
+
+abbrev pub with_column : Draft → ℕ → ℕ → ℕ → Draft
+with_column d item place to = with_op d (op.Column item place to)
+
+abbrev pub with_parameter : Draft → ℕ → ℕ → Draft
+with_parameter d number to = with_op d (op.Variable number to)
+
+abbrev pub with_unary : Draft → UnaryOperator → ℕ → Draft
+with_unary d o to = with_op d (op.Unary o to to)
+
+abbrev pub with_binary : Draft → BinaryOperator → ℕ → ℕ → Draft
+with_binary d o to other = given_back (with_op d (op.Binary o to other to))
+
+abbrev pub with_call : Draft → Builtin → Built → ℕ → ℕ → ℕ → Draft
+with_call d f collation first count to = released (with_op d (op.Function f collation first count to)) first
+
+abbrev pub with_compared : Draft → Sides → ℕ → ℕ → Draft
+with_compared d sides held to = with_op d (op.Binary (binary.Compare compare.Eq sides) held to to)
+
+abbrev pub AreBehind : ℕ → Operands → Type 0
+AreBehind first operands = (operands.first ≡ first) × (operands.second ≡ first + 1) × (operands.third ≡ first + 2)
+
+abbrev pub with_like_escaped : Draft → Operands → ℕ → Draft
+with_like_escaped d r to = released (with_op d (op.LikeEscaped r.first r.second r.third to)) r.first
+
+abbrev pub with_between : Draft → Sides → Sides → Operands → ℕ → Draft
+with_between d above below r to =
+    released (with_op (with_op (with_op d (op.Binary (binary.Compare compare.Ge above) r.first r.second r.second)) (op.Binary (binary.Compare compare.Le below) r.first r.third r.third)) (op.Binary binary.And r.second r.third to)) r.first
+
+abbrev pub with_member_begun : Draft → ℕ → ℕ → Draft
+with_member_begun d held to = with_op (with_op d (op.Integer (pos 0) to)) (op.Merge held to)
+
+abbrev pub with_or_equal : Draft → Sides → ℕ → ℕ → ℕ → Draft
+with_or_equal d sides held other to =
+    given_back (with_op (with_op d (op.Binary (binary.Compare compare.Eq sides) held other other)) (op.Binary binary.Or to other to))
+
+abbrev pub with_known_left : Draft → ℕ → ℕ → Draft
+with_known_left d to end = bound (with_op (with_op (with_label d) (op.IsNull to (length d.labels))) (op.Goto end)) (length d.labels)
+
+abbrev pub with_arm_tested : Draft → ℕ → ℕ → Draft
+with_arm_tested d to end = with_op (with_op (with_op (with_label d) (op.Unary unary.Truth to to)) (op.IsBad to end)) (op.IfNot to (length d.labels) true)
+
+abbrev pub with_arm_left : Draft → ℕ → ℕ → Draft
+with_arm_left d end next = bound (with_op d (op.Goto end)) next
+
+-- ---- code that leaves a value by what registers hold
+
+-- it leaves in a register a function of the environment, of another register and of what it held before
+pub record Turns (a b : Draft) (held to : ℕ) (f : Environment → Out → Out → Out) (most : ℕ) : Type 0 where
+  pub grows : Grows a b
+  pub next : b.next ≡ a.next
+  pub turns : (m : Setting) (u : ℕ) (at : ℕ → ℕ) → Holds b m.prog u at → (s : State) → Ready b u s → s.pc ≡ length a.code
+      → Left m most s (length b.code) a.next to (f (environment_of (here s)) (read s.regs held) (read s.regs to))
+
+-- ---- code that decides a value, or leaves that to what is behind it
+
+-- the machine comes to a label with the value in a register, or to the end where there is none
+abbrev pub Decided : Setting → ℕ → State → ℕ → ℕ → ℕ → ℕ → Option Out → Type 0
+Decided m most s place out mark to None = (v : Out) × Left m most s place mark to v
+Decided m most s place out mark to (Some v) = Left m most s out mark to v
+
+-- it decides by the environment and by what another register holds
+pub record Decides (a b : Draft) (held to label : ℕ) (f : Environment → Out → Option Out) (most : ℕ) : Type 0 where
+  pub grows : Grows a b
+  pub next : b.next ≡ a.next
+  pub decides : (m : Setting) (u : ℕ) (at : ℕ → ℕ) → Holds b m.prog u at → (s : State) → Ready b u s → s.pc ≡ length a.code
+      → Decided m most s (length b.code) (at label) a.next to (f (environment_of (here s)) (read s.regs held))
+
+-- ---- what is decided
+
+-- by a condition, for its value; a bad one decides for its causes
+abbrev pub decided_by : Truth → Out → Option Out
+decided_by truth.True v = Some v
+decided_by truth.False v = None
+decided_by truth.Unknown v = None
+decided_by (truth.Failed causes) v = Some (Bad causes)
+
+abbrev pub decided_arm : Environment → Arm → Option Out
+decided_arm env arm = decided_by (truth_in (truth_of (arm.condition env))) (arm.value env)
+
+abbrev pub decided_match : Environment → Out → MatchArm → Option Out
+decided_match env a arm = decided_by (truth_in (truth_of (comparison_of compare.Eq arm.sides a (arm.operand env)))) (arm.value env)
+
+-- by an operand of coalesce, unless it is NULL
+abbrev pub decided_known : Out → Option Out
+decided_known (Good value.Null) = None
+decided_known a = Some a
+
+abbrev pub first_of : Option Out → Option Out → Option Out
+first_of None other = other
+first_of (Some v) other = Some v
+
+-- by the first that decides
+abbrev pub first_in : {A : Type 0} → (A → Option Out) → List A → Option Out
+first_in f [] = None
+first_in f (x ∷ xs) = first_of (f x) (first_in f xs)
+
+abbrev pub out_or : Option Out → Out → Out
+out_or None other = other
+out_or (Some v) other = v

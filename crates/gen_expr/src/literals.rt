@@ -1,0 +1,50 @@
+// The code of a literal.
+ghost use Rattle.std.specs.Prelude.{◌≡◌, ◌<◌, ◌≤◌, OnOk};
+ghost use Rattle.eng_value.specs.declared.out.Out.TheVariants.{Good};
+ghost use Rattle.sql_meaning.specs.Expression.{literal_out};
+ghost use Rattle.vm_code.specs.Frames.{Leaves};
+
+use eng_value::Value;
+use sql_meaning::Literal;
+use std::alloc::AllocError;
+use vm_code::{Builder, Op};
+
+/// Writes code that leaves what a literal stands for in the register `to` and keeps the other registers that are taken.
+pub fn emit_literal(b: &mut Builder, literal: &Literal, to: u32) -> Result<(), AllocError>
+    requires taken { to < b.old.next }
+    requires counted { b.old.next ≤ b.old.most }
+    ensures leaves { OnOk result (Leaves b.old b.new to (λ _ _. literal_out literal.now) (λ _. 1)) }
+    ensures units { OnOk result (b.new.units ≡ b.old.units) }
+    ensures cursors { OnOk result (b.new.cursors ≡ b.old.cursors) }
+{
+    match literal {
+        Literal::Value(value) => emit_value(b, value, to)?,
+        Literal::Bad(cause) => b.op(Op::Bad {
+            cause: cause.clone()?,
+            to,
+        })?,
+    }
+    Ok(())
+}
+
+fn emit_value(b: &mut Builder, value: &Value, to: u32) -> Result<(), AllocError>
+    requires taken { to < b.old.next }
+    requires counted { b.old.next ≤ b.old.most }
+    ensures leaves { OnOk result (Leaves b.old b.new to (λ _ _. Good value.now) (λ _. 1)) }
+    ensures units { OnOk result (b.new.units ≡ b.old.units) }
+    ensures cursors { OnOk result (b.new.cursors ≡ b.old.cursors) }
+{
+    match value {
+        Value::Null => b.op(Op::Null { to })?,
+        Value::Integer(value) => b.op(Op::Integer { value: *value, to })?,
+        Value::Text(text) => b.op(Op::String8 {
+            text: text.clone()?,
+            to,
+        })?,
+        Value::Blob(blob) => b.op(Op::Blob {
+            blob: blob.clone()?,
+            to,
+        })?,
+    }
+    Ok(())
+}

@@ -1,0 +1,7 @@
+mod Conjuncts
+mod Gathering
+mod Listing
+mod Giving
+mod Looping
+mod Performing
+pub mod Sizing

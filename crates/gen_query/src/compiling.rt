@@ -1,0 +1,22 @@
+// The program of a query.
+ghost use Rattle.std.specs.Prelude.{IfOk};
+ghost use Rattle.gen_query.specs.Queries.{query_run, query_steps};
+ghost use Rattle.vm_code.specs.Machine.{Performs};
+
+use crate::scanning::emit_rows;
+use sql_meaning::BoundSelect;
+use sqlite_items::Items;
+use std::alloc::{AllocError, Global};
+use vm_code::{Builder, Op, Program};
+
+/// The program of a query (SQL As Understood By SQLite, "SELECT"): it gives a row of results for each row of the table that no
+/// conjunct rejects, in the table's order, and one at most where there is no table. Where a conjunct or a result of such a row is
+/// bad the run ends with the causes of all of them, behind the rows in front. It changes nothing. Only memory can fail.
+pub fn compile(alloc: Global, query: &BoundSelect) -> Result<Program, AllocError>
+    ensures { IfOk result (λ p. Performs p (query_run query.now) (query_steps query.now)) }
+{
+    let mut b = Builder::new(alloc, Items::new(alloc));
+    emit_rows(&mut b, query)?;
+    b.op(Op::Halt)?;
+    Ok(b.finish_program())
+}

@@ -1,0 +1,18 @@
+//! The bytecode of queries.
+//!
+//! `compile` writes the program of a query; its contract, `Performs`, says that from every world, and with any parameters, a run of the
+//! program gives the items that the query means (sql_meaning's `items_at`, row by row; specs/Queries.antt) up to the first bad
+//! one, with whose causes it ends, and that it changes nothing, in at most so many instructions. The code goes in layers, each with
+//! one contract: the conjuncts (`Sifts`), the results (`Fills`), a row (`Does`), the loop over a table (`Does` too, so that
+//! a loop can stand where a row does). Begin with `compile`, then `emit_row`.
+#![tactic(auto)]
+
+mod compiling;
+mod laws;
+mod scanning;
+mod sifting;
+#[cfg(test)]
+mod tests;
+
+pub use compiling::compile;
+pub use laws::a_query_takes_few_steps;

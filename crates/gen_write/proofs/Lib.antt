@@ -1,0 +1,6 @@
+mod Sources
+mod Columns
+mod Refusals
+mod RowRuns
+mod RowCode
+mod Whole

@@ -1,0 +1,17 @@
+//! The bytecode of statements that write.
+//!
+//! `compile_insert` and `compile_create` write the programs of INSERT and CREATE TABLE; their contracts, `Performs`, say that from every
+//! world a run of the program does what specs/Writes.antt says: where the source of an INSERT is bad nothing is changed, else one
+//! row after another is stored by the columns' affinities and put under the rowid behind the others. Where a row fails the rows in
+//! front of it stay, and who runs the program takes them back. Begin with `compile_insert`, then `emit_row`.
+#![tactic(auto)]
+
+mod creating;
+mod inserting;
+mod refusing;
+mod rows;
+#[cfg(test)]
+mod tests;
+
+pub use creating::compile_create;
+pub use inserting::compile_insert;

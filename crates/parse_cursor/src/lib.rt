@@ -1,0 +1,17 @@
+//! Reading tokens one after another: what the parsers of expressions and of statements share.
+//!
+//! A `Cursor` holds the tokens that are left, with what those before them counted against the limits. `sees` looks at the next one, and
+//! `expect` takes it. `name`, `signed` and `type_name` parse what stands in expressions and in statements alike.
+//!
+//! A function that parses gives what its rule of the grammar (sql_grammar) reads: the tree, or that the next token cannot stand there or
+//! passes a limit (specs/Gives.antt). proofs/Steps.antt says what the words of the grammar read, in the steps of such functions. Begin with
+//! src/cursor.rt.
+#![tactic(auto)]
+
+mod cursor;
+mod error;
+mod names_and_types;
+
+pub use cursor::Cursor;
+pub use error::ParseError;
+pub use names_and_types::{name, sees_name, signed, type_name};

@@ -1,0 +1,58 @@
+-- What lists read, in the steps of the code.
+use Rattle.std.proofs.Common.{◌≡◌, ℕ, true, false, List, [], ◌∷◌, ◌++◌, refl, ap}
+use Rattle.sql_tree.specs.declared.token.Token.{Token}
+use Rattle.sql_tree.specs.declared.token.TokenKind.TheVariants as kind
+use Rattle.sql_tree.specs.declared.expr.Expr.{Expr}
+use Rattle.sql_tree.specs.declared.expr.Expr.TheVariants as tree
+use Rattle.sql_tree.specs.declared.expr.UnaryOp.TheVariants as unary
+use Rattle.sql_grammar.specs.declared.counts.Counts.{Counts}
+use Rattle.sql_grammar.specs.declared.counts.Role.TheVariants as role
+use Rattle.sql_grammar.specs.Rules.{starts, tok, reads, one, Outcome, Done, Stop, ◌>>=◌}
+use Rattle.sql_grammar.specs.Grammar.{Name, rules, sign_op, with_signs, with_nots, signs, nots}
+use Rattle.parse_cursor.specs.Gives.{collected}
+use Rattle.parse_expr.proofs.Clear.{signs_clear, nots_clear}
+use Rattle.parse_cursor.proofs.Steps.{both_to, after_is, many_step, many_end, one_shorter}
+
+pub collected_none : {A : Type 0} (o : Outcome (List A)) → collected [] o ≡ o
+collected_none (Done a e rest) = refl
+collected_none (Stop w rest) = refl
+
+-- ---- signs
+
+pub signs_start : (d : ℕ) (c : Counts) (ts : List Token) → collected [] (reads Name rules d signs c ts) ≡ reads Name rules d signs c ts
+signs_start d c ts = collected_none (reads Name rules d signs c ts)
+
+pub signs_step : (found : List Token) (d : ℕ) (c : Counts) (ts : List Token) → starts (kind.Minus ∷ kind.Plus ∷ kind.Tilde ∷ []) ts ≡ true → collected found (reads Name rules d signs c ts) ≡ (one role.Operator (kind.Minus ∷ kind.Plus ∷ kind.Tilde ∷ []) c ts >>= λ a e rest. collected (found ++ a ∷ []) (reads Name rules d signs e rest))
+unfolding signs
+signs_step found d c ts here = many_step (tok role.Operator (kind.Minus ∷ kind.Plus ∷ kind.Tilde ∷ [])) d found c ts signs_clear here
+
+pub signs_end : (found : List Token) (d : ℕ) (c : Counts) (ts : List Token) → starts (kind.Minus ∷ kind.Plus ∷ kind.Tilde ∷ []) ts ≡ false → collected found (reads Name rules d signs c ts) ≡ Done found c ts
+unfolding signs
+signs_end found d c ts none = many_end (tok role.Operator (kind.Minus ∷ kind.Plus ∷ kind.Tilde ∷ [])) d found c ts signs_clear none
+
+pub ruleset signs_steps = (signs_start, signs_step, signs_end, one_shorter)
+
+-- ---- nots
+
+pub nots_start : (d : ℕ) (c : Counts) (ts : List Token) → collected [] (reads Name rules d nots c ts) ≡ reads Name rules d nots c ts
+nots_start d c ts = collected_none (reads Name rules d nots c ts)
+
+pub nots_step : (found : List Token) (d : ℕ) (c : Counts) (ts : List Token) → starts (kind.Not ∷ []) ts ≡ true → collected found (reads Name rules d nots c ts) ≡ (one role.Operator (kind.Not ∷ []) c ts >>= λ a e rest. collected (found ++ a ∷ []) (reads Name rules d nots e rest))
+unfolding nots
+nots_step found d c ts here = many_step (tok role.Operator (kind.Not ∷ [])) d found c ts nots_clear here
+
+pub nots_end : (found : List Token) (d : ℕ) (c : Counts) (ts : List Token) → starts (kind.Not ∷ []) ts ≡ false → collected found (reads Name rules d nots c ts) ≡ Done found c ts
+unfolding nots
+nots_end found d c ts none = many_end (tok role.Operator (kind.Not ∷ [])) d found c ts nots_clear none
+
+pub ruleset nots_steps = (nots_start, nots_step, nots_end, one_shorter)
+
+-- ---- the last comes first
+
+pub with_signs_last : (signs : List Token) (t : Token) (x : Expr) → with_signs (signs ++ t ∷ []) x ≡ with_signs signs (tree.Unary (sign_op t.kind) x)
+with_signs_last [] t x = refl
+with_signs_last (s ∷ signs) t x = ap (tree.Unary (sign_op s.kind)) (with_signs_last signs t x)
+
+pub with_nots_last : (nots : List Token) (t : Token) (x : Expr) → with_nots (nots ++ t ∷ []) x ≡ with_nots nots (tree.Unary unary.Not x)
+with_nots_last [] t x = refl
+with_nots_last (s ∷ nots) t x = ap (tree.Unary unary.Not) (with_nots_last nots t x)

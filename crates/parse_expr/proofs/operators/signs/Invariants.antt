@@ -1,0 +1,11 @@
+use Rattle.std.proofs.Common.{◌≡◌, ℕ, length}
+use Rattle.sql_grammar.specs.Rules.{reads}
+use Rattle.sql_grammar.specs.Grammar.{Name, rules, signs}
+use Rattle.parse_cursor.specs.Gives.{collected}
+use Rattle.parse_expr.proofs.operators.signs.Given as goal
+
+abbrev pub invariant-loop-found : goal.invariant-loop-found
+invariant-loop-found l = (d : ℕ) → reads Name rules d signs l.fn.tokens.counts l.fn.tokens.rest.now ≡ collected l.found (reads Name rules d signs l.tokens.counts l.tokens.rest.now)
+
+abbrev pub decreases-loop-found : goal.decreases-loop-found
+decreases-loop-found l = length l.tokens.rest.now

@@ -1,0 +1,28 @@
+-- What `parse` gives for the answer that tokens have (sql_grammar: Answers, Expressions).
+use Rattle.std.specs.Prelude.{◌≡◌, ℕ, List, [], ◌∷◌, Result, Ok, Err}
+use Rattle.sql_tree.specs.declared.token.Token.{Token}
+use Rattle.sql_grammar.specs.Answers.{Answer, Tree, Syntax, TooMuch}
+use Rattle.parse_expr.specs.declared.parsing.Failure.{Failure}
+use Rattle.parse_expr.specs.declared.parsing.Failure.TheVariants.{Memory}
+use Rattle.parse_expr.specs.declared.parsing.Failure.TheVariants as failure
+use Rattle.parse_cursor.specs.declared.error.ParseError.{ParseError}
+use Rattle.parse_cursor.specs.declared.error.ParseError.TheVariants as error
+
+-- The byte where these tokens begin. The end is one of them, at the text's length.
+abbrev pub place : ℕ → List Token → ℕ
+place len [] = len
+place len (t ∷ ts) = t.span.start
+
+-- the answer for a text of so many bytes, unless memory ran out
+abbrev pub Shows : {A : Type 0} → ℕ → Answer A → Result A Failure → Type 0
+Shows len x (Err Memory) = Unit {0}
+Shows len (Tree tree) (Ok found) = found ≡ tree
+Shows len (Syntax rest) (Err (failure.Syntax at)) = at ≡ place len rest
+Shows len (TooMuch l rest) (Err (failure.TooMuch k at)) = (k ≡ l) × (at ≡ place len rest)
+Shows len x r = ⊥
+
+-- the failure at a place
+abbrev pub failure_of : ParseError → ℕ → Failure
+failure_of error.Memory at = Memory
+failure_of error.Syntax at = failure.Syntax at
+failure_of (error.TooMuch l) at = failure.TooMuch l at

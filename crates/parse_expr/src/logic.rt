@@ -1,0 +1,86 @@
+// NOT, AND and OR.
+
+ghost use Rattle.std.specs.Prelude.{ℕ, ◌≡◌, IfOk};
+ghost use Rattle.sql_grammar.specs.Rules.{reads};
+ghost use Rattle.sql_grammar.specs.Grammar as spec;
+ghost use Rattle.sql_grammar.specs.Grammar.{Name, rules};
+ghost use Rattle.parse_cursor.specs.Gives.{Gives};
+ghost use Rattle.parse_operand.specs.Nests.{Nests};
+
+use crate::operators::{binary, unary};
+use crate::precedence::Levels;
+use parse_cursor::{Cursor, ParseError};
+use sql_grammar::Role;
+use sql_tree::{BinaryOp, Expr, Token, TokenKind, UnaryOp};
+use sqlite_items::{Boxed, Items};
+use std::alloc::{AllocError, Global};
+
+/// `{NOT}`
+#[tactic(auto, using(crate::proofs::Lists::nots_steps))]
+fn nots(alloc: Global, tokens: &mut Cursor<'_>) -> Result<Items<Token>, ParseError>
+    ensures { (d : ℕ) → Gives (reads Name rules d spec.nots tokens.old.counts tokens.old.rest.now) result tokens.new.counts tokens.new.rest.now }
+{
+    let mut found = Items::new(alloc);
+    while tokens.sees(TokenKind::Not) {
+        found.push(tokens.expect(TokenKind::Not, Role::Operator)?)?;
+    }
+    Ok(found)
+}
+
+/// The operand behind these NOTs.
+#[tactic(auto, using(crate::proofs::Lists::with_nots_last))]
+fn with_nots(
+    alloc: Global,
+    mut nots: Items<Token>,
+    mut operand: Boxed<Expr>,
+) -> Result<Boxed<Expr>, AllocError>
+    ensures { IfOk result (λ e. e ≡ spec.with_nots nots operand) }
+{
+    while let Some(_) = nots.pop() {
+        operand = unary(alloc, UnaryOp::Not, operand)?;
+    }
+    Ok(operand)
+}
+
+impl<F: Fn(Global, &mut Cursor<'_>, usize) -> Result<Boxed<Expr>, ParseError>> Levels<F> {
+    /// `{NOT} equality`
+    #[tactic(auto, using(crate::proofs::Straight::negation_is))]
+    pub(crate) fn negation(&self, tokens: &mut Cursor<'_>) -> Result<Boxed<Expr>, ParseError>
+        requires { Nests self.now.operands.depth (F.pre self.now.operands.inner) (F.post self.now.operands.inner) }
+        ensures { Gives (reads Name rules self.now.operands.depth spec.negation tokens.old.counts tokens.old.rest.now) result tokens.new.counts tokens.new.rest.now }
+    {
+        let nots = nots(self.operands.alloc, tokens)?;
+        let operand = self.equality(tokens)?;
+        Ok(with_nots(self.operands.alloc, nots, operand)?)
+    }
+
+    /// `negation {AND negation}`
+    #[tactic(auto, using(crate::proofs::Levels::conjunction_steps))]
+    pub(crate) fn conjunction(&self, tokens: &mut Cursor<'_>) -> Result<Boxed<Expr>, ParseError>
+        requires { Nests self.now.operands.depth (F.pre self.now.operands.inner) (F.post self.now.operands.inner) }
+        ensures { Gives (reads Name rules self.now.operands.depth spec.conjunction tokens.old.counts tokens.old.rest.now) result tokens.new.counts tokens.new.rest.now }
+    {
+        let mut left = self.negation(tokens)?;
+        while tokens.sees(TokenKind::And) {
+            tokens.expect(TokenKind::And, Role::Operator)?;
+            let right = self.negation(tokens)?;
+            left = binary(self.operands.alloc, BinaryOp::And, left, right)?;
+        }
+        Ok(left)
+    }
+
+    /// `conjunction {OR conjunction}`
+    #[tactic(auto, using(crate::proofs::Levels::expr_steps))]
+    pub(crate) fn expr(&self, tokens: &mut Cursor<'_>) -> Result<Boxed<Expr>, ParseError>
+        requires { Nests self.now.operands.depth (F.pre self.now.operands.inner) (F.post self.now.operands.inner) }
+        ensures { Gives (reads Name rules self.now.operands.depth spec.expr tokens.old.counts tokens.old.rest.now) result tokens.new.counts tokens.new.rest.now }
+    {
+        let mut left = self.conjunction(tokens)?;
+        while tokens.sees(TokenKind::Or) {
+            tokens.expect(TokenKind::Or, Role::Operator)?;
+            let right = self.conjunction(tokens)?;
+            left = binary(self.operands.alloc, BinaryOp::Or, left, right)?;
+        }
+        Ok(left)
+    }
+}

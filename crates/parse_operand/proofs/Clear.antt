@@ -1,0 +1,85 @@
+-- One token of look-ahead tells what to do in each rule, and with which kinds each begins.
+use Rattle.std.proofs.Common.{◌≡◌, true, false, [], ◌∷◌, refl}
+use Rattle.sql_tree.specs.declared.token.TokenKind.TheVariants as kind
+use Rattle.sql_grammar.specs.Rules.{is_clear, can_be_empty, first}
+use Rattle.sql_grammar.specs.Grammar.{Name, names, literal_kinds, rules, signed, two_sizes, type_sizes, type_words, type_name, literal, parameter, filter, call, of_table, behind_name, named, enclosed, casting, choosing, raising, primary, signs, signed_primary, collation, collations, collated, more_concatenation, concatenation, more_product, product, more_sum, sum, more_bits, bits, more_relation, relation, equal_to, distinct_from, is_test, between, like, glob, member_of, positive_test, null_test, negated, test, tests, equality, nots, negation, more_conjunction, conjunction, more_expr, expr, exprs, arm, arms, otherwise, case, some_arguments, raise_what}
+use Rattle.parse_operand.specs.Parts.{more_arms, more_exprs}
+
+-- all rules, for proofs that compute with them
+unfoldable all_rules : Unit {0}
+unfolding signed two_sizes type_sizes type_words type_name literal parameter filter call of_table behind_name named enclosed casting choosing raising primary signs signed_primary collation collations collated more_concatenation concatenation more_product product more_sum sum more_bits bits more_relation relation equal_to distinct_from is_test between like glob member_of positive_test null_test negated test tests equality nots negation more_conjunction conjunction more_expr expr exprs arm arms otherwise case some_arguments raise_what more_arms more_exprs
+all_rules = tt
+
+pub arm_clear : is_clear Name rules arm ≡ true
+unfolding all_rules
+arm_clear = refl
+
+pub more_arms_clear : is_clear Name rules more_arms ≡ true
+unfolding all_rules
+more_arms_clear = refl
+
+pub more_exprs_clear : is_clear Name rules more_exprs ≡ true
+unfolding all_rules
+more_exprs_clear = refl
+
+pub arm_solid : can_be_empty arm ≡ false
+unfolding all_rules
+arm_solid = refl
+
+pub arms_solid : can_be_empty arms ≡ false
+unfolding all_rules
+arms_solid = refl
+
+pub first_literal : first literal ≡ literal_kinds
+unfolding all_rules
+first_literal = refl
+
+pub first_parameter : first parameter ≡ kind.Parameter ∷ []
+unfolding all_rules
+first_parameter = refl
+
+pub first_named : first named ≡ names
+unfolding all_rules
+first_named = refl
+
+pub first_enclosed : first enclosed ≡ kind.LeftParen ∷ []
+unfolding all_rules
+first_enclosed = refl
+
+pub first_casting : first casting ≡ kind.Cast ∷ []
+unfolding all_rules
+first_casting = refl
+
+pub first_choosing : first choosing ≡ kind.Case ∷ []
+unfolding all_rules
+first_choosing = refl
+
+pub first_of_table : first of_table ≡ kind.Dot ∷ []
+unfolding all_rules
+first_of_table = refl
+
+pub first_call : first call ≡ kind.LeftParen ∷ []
+unfolding all_rules
+first_call = refl
+
+pub first_arm : first arm ≡ kind.When ∷ []
+unfolding all_rules
+first_arm = refl
+
+pub first_arms : first arms ≡ kind.When ∷ []
+unfolding all_rules
+first_arms = refl
+
+pub first_exprs : first exprs ≡ kind.Not ∷ kind.Minus ∷ kind.Plus ∷ kind.Tilde ∷ kind.Number ∷ kind.Text ∷ kind.Blob ∷ kind.Null ∷ kind.True ∷ kind.False ∷ kind.Parameter ∷ kind.Word ∷ kind.QuotedName ∷ kind.Abort ∷ kind.After ∷ kind.Asc ∷ kind.Before ∷ kind.Begin ∷ kind.By ∷ kind.Deferred ∷ kind.Desc ∷ kind.Each ∷ kind.Exclusive ∷ kind.Explain ∷ kind.First ∷ kind.For ∷ kind.Ignore ∷ kind.Immediate ∷ kind.Instead ∷ kind.Key ∷ kind.Last ∷ kind.Nulls ∷ kind.Of ∷ kind.Offset ∷ kind.Plan ∷ kind.Pragma ∷ kind.Query ∷ kind.Release ∷ kind.Replace ∷ kind.Rollback ∷ kind.Row ∷ kind.Trigger ∷ kind.View ∷ kind.Virtual ∷ kind.LeftParen ∷ kind.Cast ∷ kind.Case ∷ kind.Raise ∷ []
+unfolding all_rules
+first_exprs = refl
+
+pub first_some_arguments : first some_arguments ≡ kind.Star ∷ kind.Distinct ∷ kind.Not ∷ kind.Minus ∷ kind.Plus ∷ kind.Tilde ∷ kind.Number ∷ kind.Text ∷ kind.Blob ∷ kind.Null ∷ kind.True ∷ kind.False ∷ kind.Parameter ∷ kind.Word ∷ kind.QuotedName ∷ kind.Abort ∷ kind.After ∷ kind.Asc ∷ kind.Before ∷ kind.Begin ∷ kind.By ∷ kind.Deferred ∷ kind.Desc ∷ kind.Each ∷ kind.Exclusive ∷ kind.Explain ∷ kind.First ∷ kind.For ∷ kind.Ignore ∷ kind.Immediate ∷ kind.Instead ∷ kind.Key ∷ kind.Last ∷ kind.Nulls ∷ kind.Of ∷ kind.Offset ∷ kind.Plan ∷ kind.Pragma ∷ kind.Query ∷ kind.Release ∷ kind.Replace ∷ kind.Rollback ∷ kind.Row ∷ kind.Trigger ∷ kind.View ∷ kind.Virtual ∷ kind.LeftParen ∷ kind.Cast ∷ kind.Case ∷ kind.Raise ∷ []
+unfolding all_rules
+first_some_arguments = refl
+
+pub ruleset primary_firsts = (first_literal, first_parameter, first_named, first_enclosed, first_casting, first_choosing)
+
+pub ruleset behind_name_firsts = (first_of_table, first_call)
+
+pub ruleset case_firsts = (first_arms, arms_solid)

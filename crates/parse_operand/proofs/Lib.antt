@@ -1,0 +1,6 @@
+pub mod Clear
+pub mod Straight
+pub mod Bracketed
+pub mod Inside
+pub mod Lists
+pub mod Smaller

@@ -1,0 +1,47 @@
+-- Parts of rules that functions of their own parse.
+use Rattle.std.specs.Prelude.{List}
+use Rattle.sql_tree.specs.declared.token.TokenKind.TheVariants as kind
+use Rattle.sql_tree.specs.declared.expr.Arguments.{Arguments}
+use Rattle.sql_tree.specs.declared.expr.Arm.{Arm}
+use Rattle.sql_tree.specs.declared.expr.Expr.{Expr}
+use Rattle.sql_tree.specs.declared.expr.TypeName.{TypeName}
+use Rattle.sql_grammar.specs.declared.counts.Role.TheVariants as role
+use Rattle.sql_grammar.specs.Rules.{many}
+use Rattle.sql_grammar.specs.Grammar.{Of, after, in_parentheses, arguments, condition, cast, members, raise, rules, arm, expr}
+
+-- "(" ["*" | [DISTINCT] expr {"," expr}] ")"
+unfoldable pub in_arguments : Of (Arguments × List Expr)
+in_arguments = in_parentheses arguments
+
+unfoldable pub inside_arguments : Of (Arguments × List Expr)
+inside_arguments = rules _ arguments
+
+-- "(" WHERE expr ")"
+unfoldable pub in_condition : Of Expr
+in_condition = in_parentheses condition
+
+-- "(" expr AS type ")"
+unfoldable pub in_cast : Of (Expr × TypeName)
+in_cast = in_parentheses cast
+
+unfoldable pub inside_cast : Of (Expr × TypeName)
+inside_cast = rules _ cast
+
+-- "(" [expr {"," expr}] ")"
+unfoldable pub in_members : Of (List Expr)
+in_members = in_parentheses members
+
+unfoldable pub inside_members : Of (List Expr)
+inside_members = rules _ members
+
+-- "(" IGNORE | ABORT "," text ")"
+unfoldable pub in_raise : Of Expr
+in_raise = in_parentheses raise
+
+-- {arm}
+unfoldable pub more_arms : Of (List Arm)
+more_arms = many arm
+
+-- {"," expr}
+unfoldable pub more_exprs : Of (List Expr)
+more_exprs = many (after role.Outside kind.Comma expr)

@@ -1,8 +1,0 @@
-use Rattle.std.proofs.Common.{◌≡◌}
-use Rattle.std.specs.Prelude.{replicate}
-use Rattle.eng_value.specs.declared.out.Out.TheVariants.{Good}
-use Rattle.eng_value.specs.declared.value.Value.TheVariants.{Null}
-use Rattle.vm_core.proofs.registers.nulls.Given as goal
-
-abbrev pub invariant-loop : goal.invariant-loop
-invariant-loop l = l.registers.items ≡ replicate l.counter (Good Null)

@@ -1,0 +1,102 @@
+// Frames that wait.
+ghost use Rattle.std.specs.Prelude.{◌≡◌, [], ◌∷◌, MatchOption, OnOk, OnErr};
+
+use crate::{Cursor, Registers};
+use smallvec::SmallVec;
+use std::alloc::{AllocError, Global};
+use std::default::MadeWith;
+use std::marker::Model;
+
+/// A unit that waits for the result of another, and the register that it goes to. Contracts see the frame of the machine over
+/// lists.
+#[derive(Debug, Drop)]
+pub struct Frame {
+    pub unit: u32,
+    pub pc: usize,
+    pub registers: Registers,
+    pub args: Registers,
+    pub cursors: Vec<Cursor>,
+    pub to: u32,
+}
+
+impl Model for Frame {
+    ghost use Rattle.vm_code.specs.Machine.{Frame as MeantFrame};
+
+    ghost Value = { MeantFrame };
+
+    ghost use Rattle.std.specs.Coded.{codes};
+    ghost use Rattle.eng_value.specs.contracts.out.Out as out;
+
+    ghost coded = { Prim.hlevel (codes, out.the_row.coded) };
+
+    ghost view = { λ f.
+        record {
+          unit = f.unit;
+          pc = f.pc;
+          regs = f.registers;
+          args = f.args;
+          cursors = f.cursors.items;
+          to = f.to;
+        } };
+}
+
+impl MadeWith<Global> for Frame {
+    fn made_with(alloc: Global) -> Frame {
+        Frame {
+            unit: 0,
+            pc: 0,
+            registers: Registers::empty(alloc),
+            args: Registers::empty(alloc),
+            cursors: Vec::new(alloc),
+            to: 0,
+        }
+    }
+}
+
+/// The frames that wait. The first four take no memory of their own. Contracts see the list of them, the last called first.
+#[derive(Debug, Drop)]
+pub struct Frames {
+    frames: SmallVec<Frame, 4>,
+}
+
+impl Model for Frames {
+    ghost use Rattle.std.specs.Prelude.{List, reverse};
+    ghost use Rattle.vm_code.specs.Machine.{Frame as MeantFrame};
+
+    ghost Value = { List MeantFrame };
+
+    ghost use Rattle.std.specs.Coded.{codes};
+    ghost use Rattle.eng_value.specs.contracts.out.Out as out;
+
+    ghost coded = { Prim.hlevel (codes, out.the_row.coded) };
+
+    ghost view = { λ f. reverse f.frames.items };
+}
+
+impl Frames {
+    /// None.
+    pub fn new(alloc: Global) -> Frames
+        ensures { result ≡ [] }
+    {
+        Frames {
+            frames: SmallVec::new(alloc),
+        }
+    }
+
+    /// One more, which was called last.
+    pub fn push(&mut self, frame: Frame) -> Result<(), AllocError>
+        ensures ok { OnOk result (self.new ≡ frame ∷ self.old) }
+        ensures err { OnErr result (self.new ≡ self.old) }
+    {
+        self.frames.reserve(1)?;
+        self.frames.push_reserved(frame);
+        Ok(())
+    }
+
+    /// Takes out the one that was called last, if there is one.
+    pub fn pop(&mut self) -> Option<Frame>
+        ensures { MatchOption result ((self.old ≡ []) × (self.new ≡ [])) (λ frame. self.old ≡ frame ∷ self.new) }
+    {
+        self.frames.pop()
+    }
+}

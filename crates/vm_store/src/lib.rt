@@ -1,0 +1,19 @@
+//! What a run keeps of its units: registers, cursors, and the frames that wait.
+//!
+//! Contracts see each as the machine over lists has it (vm_code's specs/Machine.antt): registers as the list of what they
+//! hold, a cursor without the hint that makes its next search short, and the stack of the frames that wait with the last called first.
+//! What moves a cursor over tables is vm_core's. Begin with `Registers`; `jumps` says what the jumps of instructions go by.
+#![tactic(auto)]
+
+mod cursor;
+mod frame;
+mod jumps;
+mod registers;
+
+pub use cursor::{Cursor, Place, Spot};
+pub use frame::{Frame, Frames};
+pub use jumps::{is_accepted, is_bad, is_known, is_null, is_rejected};
+pub use registers::Registers;
+
+#[cfg(test)]
+mod tests;

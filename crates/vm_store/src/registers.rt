@@ -1,0 +1,155 @@
+// Registers.
+ghost use Rattle.std.specs.Prelude.{◌≡◌, ◌+◌, [], replicate, slice_index_or, slice_set, IfOk};
+ghost use Rattle.eng_value.specs.declared.out.Out.TheVariants.{Good};
+ghost use Rattle.eng_value.specs.declared.value.Value.TheVariants.{Null};
+ghost use Rattle.vm_code.specs.Machine.{good_or_null, integer_in, integer_of, outs_from, read as read_of, values_from};
+
+use eng_value::{Out, Row, Value};
+use std::alloc::{AllocError, Global};
+use std::marker::Model;
+use std::mem;
+
+/// The registers of a unit that runs, or its arguments: each holds a value or is bad. One that is not there reads NULL and takes
+/// nothing. Contracts see the list of what they hold.
+#[derive(Debug, Drop)]
+pub struct Registers {
+    outs: Vec<Out>,
+}
+
+impl Model for Registers {
+    ghost use Rattle.std.specs.Prelude.{List};
+    ghost use Rattle.eng_value.specs.declared.out.Out.{Out as MeantOut};
+
+    ghost Value = { List MeantOut };
+
+    ghost use Rattle.std.specs.Coded.{codes};
+    ghost use Rattle.eng_value.specs.contracts.out.Out as out;
+
+    ghost coded = { Prim.hlevel (codes, out.the_row.coded) };
+
+    ghost view = { λ r. r.outs.items };
+}
+
+impl Registers {
+    /// None.
+    pub fn empty(alloc: Global) -> Registers
+        ensures { result ≡ [] }
+    {
+        Registers {
+            outs: Vec::new(alloc),
+        }
+    }
+
+    /// So many that hold NULL.
+    pub fn nulls(alloc: Global, count: u32) -> Result<Registers, AllocError>
+        ensures { IfOk result (λ registers. registers ≡ replicate count (Good Null)) }
+    {
+        let mut outs = Vec::new(alloc);
+        for _ in 0..count {
+            outs.push(Out::Good(Value::Null))?;
+        }
+        Ok(Registers { outs })
+    }
+
+    /// What a register holds, or `null` where there is none.
+    pub fn read<'a>(&'a self, register: u32, null: &'a Out) -> &'a Out
+        ensures { result.now ≡ slice_index_or self.now register null.now }
+    {
+        self.outs.get(register as usize).unwrap_or(null)
+    }
+
+    /// A copy of what a register holds.
+    pub fn copied(&self, register: u32) -> Result<Out, AllocError>
+        ensures { IfOk result (λ out. out ≡ read_of self.now register) }
+    {
+        copied(&self.outs, register as usize)
+    }
+
+    /// Copies of what so many registers hold, from the first on.
+    pub fn outs(&self, alloc: Global, first: u32, count: u32) -> Result<Vec<Out>, AllocError>
+        ensures { IfOk result (λ outs. outs.items ≡ outs_from self.now first count) }
+    {
+        let mut outs = Vec::new(alloc);
+        for i in 0..count {
+            outs.push(copied(&self.outs, first as usize + i as usize)?)?;
+        }
+        Ok(outs)
+    }
+
+    /// The same as registers of their own.
+    pub fn range(&self, alloc: Global, first: u32, count: u32) -> Result<Registers, AllocError>
+        ensures { IfOk result (λ registers. registers ≡ outs_from self.now first count) }
+    {
+        Ok(Registers {
+            outs: self.outs(alloc, first, count)?,
+        })
+    }
+
+    /// Copies of the values of so many registers, from the first on; NULL for what is bad.
+    pub fn values(&self, alloc: Global, first: u32, count: u32) -> Result<Row, AllocError>
+        ensures { IfOk result (λ row. row ≡ values_from self.now first count) }
+    {
+        let mut row = Row::empty(alloc);
+        for i in 0..count {
+            row.push(value(&self.outs, first as usize + i as usize)?)?;
+        }
+        Ok(row)
+    }
+
+    /// The integer that a register holds; 0 where it holds none.
+    pub fn integer(&self, register: u32) -> i64
+        ensures { result ≡ integer_in self.now register }
+    {
+        integer(self.read(register, &Out::Good(Value::Null)))
+    }
+
+    /// Writes a register. Takes no memory.
+    pub fn write(&mut self, register: u32, out: Out)
+        ensures { self.new ≡ slice_set self.old register out }
+    {
+        let at = register as usize;
+        if at < self.outs.len() {
+            self.outs[at] = out;
+        }
+    }
+
+    /// Takes what a register holds out of it, where NULL is left. Takes no memory.
+    pub fn take(&mut self, register: u32) -> Out
+        ensures out { result ≡ read_of self.old register }
+        ensures left { self.new ≡ slice_set self.old register (Good Null) }
+    {
+        let at = register as usize;
+        if at < self.outs.len() {
+            mem::replace(&mut self.outs[at], Out::Good(Value::Null))
+        } else {
+            Out::Good(Value::Null)
+        }
+    }
+}
+
+fn copied(outs: &[Out], register: usize) -> Result<Out, AllocError>
+    ensures { IfOk result (λ out. out ≡ read_of outs.now register) }
+{
+    match outs.get(register) {
+        Some(out) => Ok(out.clone()?),
+        None => Ok(Out::Good(Value::Null)),
+    }
+}
+
+fn value(outs: &[Out], register: usize) -> Result<Value, AllocError>
+    ensures { IfOk result (λ value. value ≡ good_or_null (read_of outs.now register)) }
+{
+    match outs.get(register) {
+        Some(Out::Good(value)) => Ok(value.clone()?),
+        _ => Ok(Value::Null),
+    }
+}
+
+fn integer(out: &Out) -> i64
+    ensures { result ≡ integer_of (good_or_null out.now) }
+{
+    match out {
+        Out::Good(Value::Integer(n)) => *n,
+        _ => 0,
+    }
+}

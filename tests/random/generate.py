@@ -1,0 +1,129 @@
+#!/usr/bin/env python3
+"""Writes scripts of random expressions over a small table, each with the lines that the definitions give it.
+
+`generate.py > scripts.jsonl` made the file beside it: a script a line, with a list for each line that is due, of what it may be.
+"""
+import json
+import random
+
+from meaning import lines_of
+
+SCRIPTS = 300
+SEED = 20251
+TYPES = ["INTEGER", "INT", "TEXT", "VARCHAR(10)", "BLOB", "NUMERIC", "", "CLOB", "DECIMAL(10, 5)"]
+TEXTS = ["", "a", "A", "ab", "aB ", "b%", "5 apples", "12", " 7", "-3", "2.5", "x_y", "it''s", "[a-c]"]
+BLOBS = ["x''", "x'61'", "X'3132'", "x'ff'", "x'C3A9'"]
+NUMBERS = ["0", "1", "2", "3", "7", "12", "100", "9223372036854775807", "0x10", "0xffffffffffffffff"]
+RARE = ["1.5", "9223372036854775808", "-9223372036854775808", "-(9223372036854775808)", "1e3"]
+TESTS = ["=", "==", "<>", "!=", "<", "<=", ">", ">=", "IS", "IS NOT", "IS DISTINCT FROM", "IS NOT DISTINCT FROM"]
+ONE = ["abs", "hex", "length", "lower", "upper", "ltrim", "rtrim", "trim", "quote", "typeof", "unicode", "char"]
+TWO = ["instr", "ifnull", "nullif", "max", "min", "coalesce", "ltrim", "rtrim", "trim", "substr", "char"]
+THREE = ["substr", "substring", "replace", "iif", "max", "min", "coalesce"]
+
+
+class Writer:
+    """Texts of random expressions over these columns."""
+
+    def __init__(self, choose, columns):
+        self.r, self.columns = choose, columns
+
+    def literal(self):
+        kinds = [(6, NUMBERS), (5, ["'%s'" % t for t in TEXTS]), (1, BLOBS), (2, ["NULL", "TRUE", "false"]), (0.5, RARE)]
+        return self.r.choice(self.r.choices([k for w, k in kinds], [w for w, k in kinds])[0])
+
+    def column(self):
+        name = self.r.choice(self.columns)
+        return self.r.choice([name, name, name.upper(), "t." + name, '"%s"' % name])
+
+    def expr(self, depth):
+        if depth == 0 or self.r.random() < 0.1:
+            return self.column() if self.columns and self.r.random() < 0.55 else self.literal()
+        return self.r.choice([self.number, self.test, self.logic, self.text, self.call, self.chosen, self.other])(depth - 1)
+
+    def operand(self, depth):
+        inner = self.expr(depth)
+        return inner if inner.replace("_", "a").isalnum() else "(%s)" % inner
+
+    def number(self, d):
+        op = self.r.choice(["+", "-", "*", "/", "%", "&", "|", "<<", ">>"])
+        return "%s %s %s" % (self.operand(d), op, self.operand(d))
+
+    def test(self, d):
+        a = self.operand(d)
+        return self.r.choice([
+            lambda: "%s %s %s" % (a, self.r.choice(TESTS), self.operand(d)),
+            lambda: "%s %sBETWEEN %s AND %s" % (a, self.negated(), self.operand(d), self.operand(d)),
+            lambda: "%s %sIN (%s)" % (a, self.negated(), ", ".join(self.expr(d) for i in range(self.r.randrange(4)))),
+            lambda: "%s %s" % (a, self.r.choice(["ISNULL", "NOTNULL", "NOT NULL", "IS TRUE", "IS NOT FALSE"])),
+        ])()
+
+    def negated(self):
+        return self.r.choice(["", "", "NOT "])
+
+    def logic(self, d):
+        return self.r.choice([lambda: "%s AND %s" % (self.operand(d), self.operand(d)),
+                              lambda: "%s OR %s" % (self.operand(d), self.operand(d)), lambda: "NOT %s" % self.operand(d)])()
+
+    def text(self, d):
+        return self.r.choice([
+            lambda: "%s || %s" % (self.operand(d), self.operand(d)),
+            lambda: "%s %sLIKE %s" % (self.operand(d), self.negated(), self.r.choice(["'%a%'", "'A_'", "'%5%'", self.operand(d)])),
+            lambda: "%s LIKE %s ESCAPE '!'" % (self.operand(d), self.r.choice(["'%!%%'", "'!_'", self.operand(d)])),
+            lambda: "%s %sGLOB %s" % (self.operand(d), self.negated(), self.r.choice(["'*a*'", "'[a-c]?'", "'[^a]*'", self.operand(d)])),
+        ])()
+
+    def call(self, d):
+        names, count = self.r.choice([(ONE, 1), (TWO, 2), (THREE, 3)])
+        return "%s(%s)" % (self.r.choice(names), ", ".join(self.expr(d) for i in range(count)))
+
+    def chosen(self, d):
+        operand = self.r.choice(["", self.operand(d) + " "])
+        arms = " ".join("WHEN %s THEN %s" % (self.expr(d), self.expr(d)) for i in range(self.r.randrange(1, 3)))
+        return "CASE %s%s%s END" % (operand, arms, self.r.choice(["", " ELSE " + self.expr(d)]))
+
+    def other(self, d):
+        return self.r.choice([
+            lambda: "CAST(%s AS %s)" % (self.expr(d), self.r.choice(["INTEGER", "TEXT", "BLOB", "NUMERIC", "INTEGER", "TEXT"])),
+            lambda: "%s COLLATE %s" % (self.operand(d), self.r.choice(["NOCASE", "RTRIM", "BINARY"])),
+            lambda: "%s%s" % (self.r.choice(["-", "+", "~"]), self.operand(d)),
+            lambda: "%s %s %s COLLATE %s" % (self.operand(d), self.r.choice(["=", "<", ">="]), self.operand(d), self.r.choice(["NOCASE", "RTRIM"])),
+        ])()
+
+
+def refused(choose, writer):
+    """A statement whose names, numbers of values or types are refused, or one that is not."""
+    return choose.choice(["SELECT z FROM t", "SELECT a FROM u", "SELECT *", "SELECT abs(a, 1) FROM t", "SELECT nosuch(a) FROM t",
+                          "SELECT a COLLATE other FROM t", "CREATE TABLE T(x)", "CREATE TABLE sqlite_x(a)", "CREATE TABLE v(a, A)",
+                          "CREATE TABLE v(a DOUBLE)", "INSERT INTO t VALUES(1)", "INSERT INTO u VALUES(1)",
+                          "SELECT %s FROM t WHERE z" % writer.expr(1), "SELECT * FROM t"])
+
+
+def script(choose):
+    columns = ["a", "b", "c", "d"][:choose.randrange(2, 5)]
+    writer = Writer(choose, columns)
+    bare = Writer(choose, [])
+    found = ["CREATE TABLE t(%s)" % ", ".join(("%s %s" % (c, choose.choice(TYPES))).strip() for c in columns)]
+    for i in range(choose.randrange(1, 4)):
+        rows = ["(%s)" % ", ".join(literal(choose, bare) for c in columns) for j in range(choose.randrange(1, 4))]
+        found.append("INSERT INTO t VALUES %s" % ", ".join(rows))
+    for i in range(6):
+        results = ", ".join(writer.expr(choose.randrange(4)) for j in range(choose.randrange(1, 4)))
+        where = " WHERE " + writer.expr(choose.randrange(1, 4)) if choose.random() < 0.5 else ""
+        found.append("SELECT %s FROM t%s" % (results, where))
+    found += ["SELECT %s" % bare.expr(3), refused(choose, writer), "SELECT * FROM t"]
+    return ";\n".join(found) + ";\n"
+
+
+def literal(choose, bare):
+    """What may stand in VALUES: a literal, a number also behind a sign."""
+    found = bare.literal()
+    if found.startswith("-("):
+        return "-9223372036854775808"
+    return choose.choice(["", "", "-", "+"]) + found if found.isdigit() else found
+
+
+if __name__ == "__main__":
+    source = random.Random(SEED)
+    for number in range(SCRIPTS):
+        text = script(source)
+        print(json.dumps({"sql": text, "lines": lines_of(text)}))

@@ -1,0 +1,522 @@
+#!/usr/bin/env python3
+"""What a script means, by the definitions and nothing else: `meaning.py < script` prints the lines that are due.
+
+A plain program beside the engine: it has no bytecode, no machine and no trees of records, only lists of rows. Where an error line
+may name any of several causes, all are printed, joined by a tab.
+"""
+import re
+import sys
+
+from values import *
+
+RESERVED = set("""ALL AND AS BETWEEN CASE CAST COLLATE CREATE DISTINCT ELSE END ESCAPE FROM GLOB IN INSERT INTO IS ISNULL LIKE NOT NOTNULL
+NULL OR SELECT TABLE THEN TRUE FALSE VALUES WHEN WHERE FILTER RAISE""".split())
+MAX_COLUMNS = 100
+TOKEN = re.compile(r"""\s+|(?P<text>'(?:[^']|'')*')|(?P<blob>[xX]'[0-9a-fA-F]*')|(?P<name>"(?:[^"]|"")*"|`(?:[^`]|``)*`|\[[^\]]*\])
+|(?P<word>[A-Za-z_][A-Za-z0-9_]*)|(?P<number>0[xX][0-9a-fA-F]+|(?:[0-9]+(?:\.[0-9]*)?|\.[0-9]+)(?:[eE][+-]?[0-9]+)?)
+|(?P<sign>\|\||<<|>>|<=|>=|<>|==|!=|[-+*/%(),.;=<>&|~])""", re.X)
+
+
+class NotYet(Exception):
+    """The text has no statement that is built."""
+
+
+class Refused(Exception):
+    """The first refusal of a statement's names."""
+
+
+def tokens_of(text):
+    found, at = [], 0
+    while at < len(text):
+        m = TOKEN.match(text, at)
+        if m is None:
+            raise NotYet
+        at = m.end()
+        if m.lastgroup:
+            word = m.group().upper()
+            found.append((word, None) if m.lastgroup == "sign" or word in RESERVED else (m.lastgroup, m.group()))
+    return found
+
+
+def name_of(token):
+    kind, text = token
+    if kind == "word" or text[0] == "[":
+        return text if kind == "word" else text[1:-1]
+    return text[1:-1].replace(text[0] * 2, text[0])
+
+
+def same(a, b):
+    return folded(a) == folded(b)
+
+
+def literal_of(kind, text):
+    """A literal's value, or bad."""
+    if kind == "text":
+        return made(text[1:-1].replace("''", "'"))
+    if kind == "blob":
+        return made(bytes.fromhex(text[2:-1]))
+    if kind == "number" and text[:2].lower() == "0x":
+        n = int(text, 16)
+        return signed(n) if n < 2 ** 64 else Bad(OVERFLOW)
+    if kind == "number":
+        return int(text) if text.isdigit() and fits(int(text)) else Bad(REAL)
+    return {"NULL": None, "TRUE": 1, "FALSE": 0}[kind]
+
+
+class Bound:
+    """An expression: what it comes to at a row, its affinity, its collation, its form, and its conjuncts at the top of WHERE."""
+
+    def __init__(self, value, operands=(), affinity="NONE", form=None):
+        self.value, self.affinity, self.form = value, affinity, form
+        self.collation = next((o.collation for o in operands if o.collation), None)
+        self.conjuncts = [value]
+
+
+def sides_of(a, b):
+    return Sides(a.affinity, b.affinity, a.collation or b.collation or "BINARY")
+
+
+def over(f, *operands):
+    return Bound(lambda row: f(*[o.value(row) for o in operands]), operands)
+
+
+def compared(op, a, b):
+    sides = sides_of(a, b)
+    return over(lambda x, y: comparison(op, sides, x, y), a, b)
+
+
+def negated(a):
+    return over(negation, a)
+
+
+def affinity_of(words):
+    whole = [folded(w) for w in words]
+
+    def mentions(*parts):
+        return any(p in w for w in whole for p in parts)
+    return ("INTEGER" if mentions("int") else "TEXT" if mentions("char", "clob", "text") else "BLOB" if mentions("blob") or not words
+            else "REAL" if mentions("real", "floa", "doub") else "NUMERIC")
+
+
+class Parser:
+    """A statement's tokens, and the table whose columns its names are. Names are bound while they are read, from left to right."""
+
+    def __init__(self, tokens, table=None):
+        self.tokens, self.at, self.table = tokens, 0, table
+
+    def kind(self, ahead=0):
+        return self.tokens[self.at + ahead][0] if self.at + ahead < len(self.tokens) else "end"
+
+    def next(self):
+        if self.at == len(self.tokens):
+            raise NotYet
+        self.at += 1
+        return self.tokens[self.at - 1]
+
+    def takes(self, *kinds):
+        if self.kind() in kinds:
+            return self.next()[0]
+        return None
+
+    def expect(self, kind):
+        if self.next()[0] != kind:
+            raise NotYet
+
+    def name(self):
+        token = self.next()
+        if token[0] not in ("word", "name"):
+            raise NotYet
+        return name_of(token)
+
+    def listed(self, one):
+        found = [one()]
+        while self.takes(","):
+            found.append(one())
+        return found
+
+    def level(self, below, ops, join):
+        a = below()
+        while True:
+            op = self.takes(*ops)
+            if op is None:
+                return a
+            a = join(op, a, below())
+
+    # ---- expressions, from the loosest operator on
+
+    def expr(self):
+        return self.level(self.conjunction, ["OR"], lambda op, a, b: over(disjunction, a, b))
+
+    def conjunction(self):
+        def both(op, a, b):
+            made_of = over(conjunction, a, b)
+            made_of.conjuncts = a.conjuncts + b.conjuncts
+            return made_of
+        return self.level(self.negation, ["AND"], both)
+
+    def negation(self):
+        return negated(self.negation()) if self.takes("NOT") else self.equality()
+
+    def equality(self):
+        a = self.relation()
+        while True:
+            tested = self.test(a)
+            if tested is None:
+                return a
+            a = tested
+
+    def test(self, a):
+        op = self.takes("=", "==", "<>", "!=", "IS", "ISNULL", "NOTNULL")
+        if op in ("=", "=="):
+            return compared("=", a, self.relation())
+        if op in ("<>", "!="):
+            return negated(compared("=", a, self.relation()))
+        if op == "IS":
+            return self.is_test(a)
+        if op in ("ISNULL", "NOTNULL"):
+            return over(lambda x: turned(lambda v: int((v is None) == (op == "ISNULL")), x), a)
+        if self.kind() == "NOT" and self.kind(1) == "NULL":
+            self.at += 2
+            return over(lambda x: turned(lambda v: int(v is not None), x), a)
+        if self.kind() == "NOT" and self.kind(1) in ("BETWEEN", "LIKE", "GLOB", "IN"):
+            self.at += 1
+            return negated(self.positive_test(a))
+        return self.positive_test(a)
+
+    def is_test(self, a):
+        opposite = bool(self.takes("NOT"))
+        if self.takes("DISTINCT"):
+            self.expect("FROM")
+            opposite = not opposite
+        b = self.relation()
+        sides = sides_of(a, b)
+        if b.form in (True, False):
+            found = Bound(lambda row: is_truth(int(b.form), a.value(row)), (a, b))
+        else:
+            found = over(lambda x, y: is_same(sides, x, y), a, b)
+        return negated(found) if opposite else found
+
+    def positive_test(self, a):
+        op = self.takes("BETWEEN", "LIKE", "GLOB", "IN")
+        if op == "BETWEEN":
+            low = self.relation()
+            self.expect("AND")
+            return self.between(a, low, self.relation())
+        if op == "LIKE":
+            b = self.relation()
+            return over(like_escaped, a, b, self.relation()) if self.takes("ESCAPE") else over(like, a, b)
+        if op == "GLOB":
+            return over(glob, a, self.relation())
+        return self.member(a) if op == "IN" else None
+
+    def between(self, a, low, high):
+        above, below = compared(">=", a, low), compared("<=", a, high)
+        found = Bound(lambda row: conjunction(above.value(row), below.value(row)), (a, low, high))
+        found.conjuncts = [above.value, below.value]
+        return found
+
+    def member(self, a):
+        self.expect("(")
+        others = [] if self.kind() == ")" else self.listed(self.expr)
+        self.expect(")")
+        sides = Sides(a.affinity, "NONE", a.collation or "BINARY")
+
+        def found_in(row):
+            x = a.value(row)
+            found = turned(lambda v: 0, x)
+            for other in others:
+                found = disjunction(found, comparison("=", sides, x, other.value(row)))
+            return found
+        return Bound(found_in, [a] + others)
+
+    def relation(self):
+        return self.level(self.bits, ["<", "<=", ">", ">="], compared)
+
+    def bits(self):
+        return self.level(self.sum, ["&", "|", "<<", ">>"], lambda op, a, b: over(lambda x, y: integers(op, x, y), a, b))
+
+    def sum(self):
+        return self.level(self.product, ["+", "-"], lambda op, a, b: over(lambda x, y: arithmetic(op, x, y), a, b))
+
+    def product(self):
+        def join(op, a, b):
+            return over(lambda x, y: (integers if op == "%" else arithmetic)(op, x, y), a, b)
+        return self.level(self.concatenation, ["*", "/", "%"], join)
+
+    def concatenation(self):
+        return self.level(self.collated, ["||"], lambda op, a, b: over(concatenation, a, b))
+
+    def collated(self):
+        a = self.signed()
+        while self.takes("COLLATE"):
+            name = self.name()
+            if name.upper() not in ("BINARY", "NOCASE", "RTRIM"):
+                raise Refused("1: no such collation: " + name)
+            found = Bound(a.value, (), a.affinity)
+            found.collation = name.upper()
+            a = found
+        return a
+
+    def signed(self):
+        sign = self.takes("-", "+", "~")
+        if sign is None:
+            return self.primary()
+        a = self.signed()
+        if sign == "-" and a.form == "least":
+            return Bound(lambda row: -(2 ** 63))
+        return over({"-": negative, "+": lambda x: x, "~": inverse}[sign], a)
+
+    def primary(self):
+        token = self.next()
+        kind = token[0]
+        if kind in ("text", "blob", "number", "NULL", "TRUE", "FALSE"):
+            value = literal_of(*token)
+            least = kind == "number" and token[1].isdigit() and int(token[1]) == 2 ** 63
+            return Bound(lambda row: value, form="least" if least else {"TRUE": True, "FALSE": False}.get(kind))
+        if kind == "(":
+            a = self.expr()
+            self.expect(")")
+            return a
+        if kind == "CAST":
+            return self.cast()
+        if kind == "CASE":
+            return self.case()
+        if kind in ("word", "name"):
+            return self.named(name_of(token))
+        raise NotYet
+
+    def cast(self):
+        self.expect("(")
+        a = self.expr()
+        self.expect("AS")
+        words = self.type_words()
+        self.expect(")")
+        to = affinity_of(words)
+        found = over(lambda x: turned(lambda v: cast(to, v), x), a)
+        found.affinity = to
+        return found
+
+    def type_words(self):
+        words = [self.name()]
+        while self.kind() in ("word", "name"):
+            words.append(self.name())
+        if self.takes("("):
+            self.listed(lambda: (self.takes("+", "-"), self.expect("number")))
+            self.expect(")")
+        return words
+
+    def case(self):
+        operand = None if self.kind() == "WHEN" else self.expr()
+        arms = []
+        while self.takes("WHEN"):
+            condition = self.expr()
+            self.expect("THEN")
+            arms.append((condition, self.expr()))
+        otherwise = self.expr() if self.takes("ELSE") else None
+        self.expect("END")
+        if not arms:
+            raise NotYet
+        tests = [(compared("=", operand, c) if operand else c) for c, v in arms]
+        operands = ([operand] if operand else []) + [x for arm in arms for x in arm] + ([otherwise] if otherwise else [])
+
+        def chosen(row, place=0):
+            if place == len(arms):
+                return otherwise.value(row) if otherwise else None
+            return choice(tests[place].value(row), lambda: arms[place][1].value(row), lambda: chosen(row, place + 1))
+        return Bound(chosen, operands)
+
+    def named(self, name):
+        if self.takes("."):
+            return self.column(self.name(), name)
+        if self.takes("("):
+            return self.call(name)
+        return self.column(name)
+
+    def column(self, name, table=None):
+        shown = name if table is None else table + "." + name
+        columns = self.table.columns if self.table and (table is None or same(self.table.name, table)) else []
+        for place, column in enumerate(columns):
+            if same(column[0], name):
+                return Bound(lambda row: row[place], affinity=column[1])
+        raise Refused("1: no such column: " + shown)
+
+    def call(self, name):
+        """A function's own refusals come before those of its arguments."""
+        start, depth, given = self.at, 0, 0 if self.kind() == ")" else 1
+        while depth >= 0:
+            kind = self.next()[0]
+            depth += {"(": 1, ")": -1}.get(kind, 0)
+            given += kind == "," and depth == 0
+        self.at = start
+        found = FUNCTIONS.get(folded(name))
+        if found is None:
+            raise Refused("1: no such function: " + name)
+        if given < found[1] or (found[2] is not None and given > found[2]):
+            raise Refused("1: wrong number of values: " + folded(name))
+        args = [] if self.kind() == ")" else self.listed(self.expr)
+        self.expect(")")
+        return self.called(found[0], args)
+
+    def called(self, function, args):
+        if function == "coalesce":
+            def first(row):
+                outs = (a.value(row) for a in args)
+                return next((out for out in outs if out is not None), None)
+            return Bound(first, args)
+        if function == "iif":
+            return Bound(lambda row: choice(args[0].value(row), lambda: args[1].value(row), lambda: args[2].value(row)), args)
+        collation = next((a.collation for a in args if a.collation), "BINARY")
+        if isinstance(function, str):
+            return over(lambda *outs: on_all(lambda *vs: by_keys(function, collation, *vs), outs), *args)
+        return over(lambda *outs: on_all(function, outs), *args)
+
+
+class Table:
+    def __init__(self, name, columns):
+        self.name, self.columns, self.rows = name, columns, []
+
+
+class Connection:
+    """The tables, by their names in lower case."""
+
+    def __init__(self):
+        self.tables = {}
+
+    def run(self, text):
+        """The rows that are given, and the causes any of which may be named."""
+        try:
+            p = Parser([t for t in tokens_of(text)])
+            if p.kind() == "CREATE":
+                return self.create(p)
+            return self.insert(p) if p.kind() == "INSERT" else self.select(p)
+        except NotYet:
+            return [], {"1: not built yet"}
+        except Refused as why:
+            return [], {str(why)}
+
+    def table(self, name):
+        if folded(name) not in self.tables:
+            raise Refused("1: no such table: " + name)
+        return self.tables[folded(name)]
+
+    def create(self, p):
+        p.expect("CREATE")
+        p.expect("TABLE")
+        name = p.name()
+        p.expect("(")
+        definitions = p.listed(lambda: (p.name(), p.type_words() if p.kind() in ("word", "name") else []))
+        p.expect(")")
+        if folded(name).startswith("sqlite_"):
+            raise Refused("1: reserved name: " + name)
+        if folded(name) in self.tables:
+            raise Refused("1: table already exists: " + self.tables[folded(name)].name)
+        columns = []
+        for column, words in definitions:
+            there = [c for c, a in columns if same(c, column)]
+            if there:
+                raise Refused("1: column already exists: " + there[0])
+            if affinity_of(words) == "REAL":
+                raise Refused(REAL)
+            columns.append((column, affinity_of(words)))
+            if len(columns) > MAX_COLUMNS:
+                raise Refused("1: limit of 100 columns")
+        self.tables[folded(name)] = Table(name, columns)
+        return [], set()
+
+    def insert(self, p):
+        p.expect("INSERT")
+        p.expect("INTO")
+        name = p.name()
+        p.expect("VALUES")
+
+        def literal():
+            sign = p.takes("-", "+")
+            kind, text = p.next()
+            v = literal_of(kind, text)
+            if sign == "-" and kind == "number" and text.isdigit() and int(text) == 2 ** 63:
+                return -(2 ** 63)
+            return turned(lambda n: in_range(-n), v) if sign == "-" else v
+
+        def row():
+            p.expect("(")
+            found = p.listed(literal)
+            p.expect(")")
+            return found
+        rows = p.listed(row)
+        table = self.table(name)
+        if any(len(r) != len(rows[0]) for r in rows):
+            raise Refused("1: wrong number of values: VALUES")
+        if len(rows[0]) != len(table.columns):
+            raise Refused("1: wrong number of values: " + table.name)
+        for r in rows:
+            causes = frozenset().union(*map(causes_in, r))
+            if causes:
+                return [], causes
+        stored = [[store_as(a, v) for (c, a), v in zip(table.columns, r)] for r in rows]
+        for r in stored:
+            causes = frozenset().union(*map(causes_in, r))
+            if causes:
+                return [], causes
+        table.rows += stored
+        return [], set()
+
+    def select(self, p):
+        """Names are bound in the order FROM, WHERE, results; the text has the results first."""
+        p.expect("SELECT")
+        start, depth = p.at, 0
+        while p.kind() != "end" and not (depth == 0 and p.kind() in ("FROM", "WHERE") and p.kind(-1) != "DISTINCT"):
+            kind = p.next()[0]
+            depth += {"(": 1, "CASE": 1, ")": -1, "END": -1}.get(kind, 0)
+        behind = p.at
+        p.table = self.table(p.name()) if p.takes("FROM") else None
+        conjuncts = p.expr().conjuncts if p.takes("WHERE") else []
+        if p.kind() != "end":
+            raise NotYet
+        p.at = start
+        results = []
+        for found in p.listed(lambda: self.result(p)):
+            results += found
+        if p.at != behind:
+            raise NotYet
+        return self.shown(conjuncts, results, p.table.rows if p.table else [[]])
+
+    def result(self, p):
+        if p.takes("*"):
+            if p.table is None:
+                raise Refused("1: misuse of: *")
+            return [lambda row, i=i: row[i] for i in range(len(p.table.columns))]
+        return [p.expr().value]
+
+    def shown(self, conjuncts, results, rows):
+        given = []
+        for row in rows:
+            outs = [truth_of(c(row)) for c in conjuncts]
+            if any(not isinstance(t, Bad) and t != 1 for t in outs):
+                continue
+            values = [r(row) for r in results]
+            causes = frozenset().union(*map(causes_in, outs + values))
+            if causes:
+                return given, causes
+            given.append(values)
+        return given, set()
+
+
+def statements_of(script):
+    """The texts between each `;` outside a text, without those that are white space."""
+    return [t for t in re.findall(r"(?:[^;']|'[^']*')+", script) if t.strip(SPACE)]
+
+
+def lines_of(script):
+    """A list for each line: what it may be."""
+    connection, lines = Connection(), []
+    for text in statements_of(script):
+        given, causes = connection.run(text)
+        lines += [[b"|".join(map(printed, row)).decode("latin-1")] for row in given]
+        if causes:
+            lines.append(sorted("Error " + c for c in causes))
+    return lines
+
+
+if __name__ == "__main__":
+    for line in lines_of(sys.stdin.read()):
+        print("\t".join(line))
