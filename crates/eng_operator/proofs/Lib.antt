@@ -1,2 +1,3 @@
 pub mod TruthLaws
 pub mod CauseUnions
+pub mod PlainLaws

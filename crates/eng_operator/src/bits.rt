@@ -45,7 +45,7 @@ fn of_whole_numbers(op: IntegerOp, a: &Value, b: &Value) -> Value
     }
 }
 
-fn of_bits(op: IntegerOp, a: i64, b: i64) -> Value
+pub(crate) fn of_bits(op: IntegerOp, a: i64, b: i64) -> Value
     ensures { result ≡ of_bits op a b }
 {
     match op {

@@ -3,7 +3,8 @@
 //! An operand is an `Out`, and so is a result. An operator is bad where an operand is, with the causes of all of them, but for AND
 //! and OR, where one operand can decide alone, and for a choice, where the condition does. What each operator gives stands in
 //! eng_value's definitions (Operators, Truths, Comparisons), and each function here has that as its one clause. Only memory can
-//! fail, and a text that an operator only reads is not copied. `applying` calls an operator by what it is told apart by. Begin with
+//! fail, and a text that an operator only reads is not copied. `applying` calls an operator by what it is told apart by, and
+//! `plain` answers in its place for two integers and two texts where no memory is needed. Begin with
 //! `numbers`; `spelling` says how a text is read.
 #![tactic(auto)]
 
@@ -14,6 +15,7 @@ mod escapes;
 mod joining;
 mod matching;
 mod numbers;
+mod plain;
 mod spelling;
 mod truths;
 
@@ -23,6 +25,7 @@ pub use comparing::{comparison, is};
 pub use joining::concatenation;
 pub use matching::{glob, like, like_escaped};
 pub use numbers::{arithmetic, negative};
+pub use plain::{binary_of_integers, binary_of_texts};
 pub use truths::{and, choice, not, or, truth_is};
 
 #[cfg(test)]

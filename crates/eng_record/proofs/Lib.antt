@@ -8,3 +8,4 @@ pub mod Records
 pub mod WritingLoops
 pub mod ReadingLoops
 pub mod ColumnSteps
+mod Lending

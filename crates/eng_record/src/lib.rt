@@ -13,7 +13,7 @@ mod serial_type;
 mod varint;
 mod writing;
 
-pub use columns::column;
+pub use columns::{Lent, column, lent_column};
 pub use reading::decode;
 pub use record_error::RecordErr;
 pub use writing::encode;

@@ -61,6 +61,7 @@ fn header_at(alloc: Global, bytes: &[u8]) -> Result<(Vec<SerialType>, &[u8]), Re
 }
 
 /// How many bytes the types take, and the bytes behind the header's length.
+#[inline(always)]
 #[tactic(auto, unfolding(crate::specs::Reading::header_len_at))]
 pub(crate) fn header_len_at(bytes: &[u8]) -> Result<(usize, &[u8]), RecordErr>
     ensures { Gives (λ x. (x.0, x.1.now)) result (header_len_in bytes.now) }
@@ -93,6 +94,7 @@ fn types_of(alloc: Global, bytes: &[u8]) -> Result<Vec<SerialType>, RecordErr>
 }
 
 /// The type at the front, and the bytes behind it.
+#[inline]
 #[tactic(auto, unfolding(crate::specs::Reading::type_at))]
 pub(crate) fn type_at(bytes: &[u8]) -> Result<(SerialType, &[u8]), RecordErr>
     ensures exact { Gives (λ x. (x.0, x.1.now)) result (type_in bytes.now) }
@@ -187,7 +189,7 @@ pub(crate) fn front(len: usize, bytes: &[u8]) -> Result<(&[u8], &[u8]), RecordEr
 
 /// The number of these bytes, the highest first, in two's complement; none where they are more than eight.
 #[tactic(auto, unfolding(crate::specs::Reading::signed))]
-fn signed(bytes: &[u8]) -> Option<i64>
+pub(crate) fn signed(bytes: &[u8]) -> Option<i64>
     ensures { SomeIff result (length bytes.now ≤ 8) (signed_of bytes.now) }
 {
     let padding = 8_usize.checked_sub(bytes.len())?;

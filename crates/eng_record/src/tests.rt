@@ -306,3 +306,12 @@ fn a_column_is_read(rt: HostRuntime) -> Result<(), Fail> {
     assert!(rt; matches!(column(alloc, &FOUR, usize::MAX), Ok(Value::Null)));
     Ok(())
 }
+
+#[test]
+fn integers_and_texts_are_lent(rt: HostRuntime) {
+    assert!(rt; matches!(lent_column(&FOUR, 0), Lent::Other));
+    assert!(rt; matches!(lent_column(&FOUR, 1), Lent::Integer(1)));
+    assert!(rt; matches!(lent_column(&FOUR, 2), Lent::Text(text) if text == "ab"));
+    assert!(rt; matches!(lent_column(&FOUR, 3), Lent::Integer(300)));
+    assert!(rt; matches!(lent_column(&FOUR, 4), Lent::Other));
+}

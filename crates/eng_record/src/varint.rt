@@ -78,6 +78,7 @@ pub(crate) fn varint_at(bytes: &[u8]) -> Result<(u64, &[u8]), RecordErr>
 }
 
 /// The number at the front, however it is written, and the bytes behind it.
+#[inline]
 #[tactic(auto, unfolding(crate::specs::Reading::number_at))]
 pub(crate) fn number_at(bytes: &[u8]) -> Result<(u64, &[u8]), RecordErr>
     ensures exact { Gives (λ x. (x.0, x.1.now)) result (number_in bytes.now) }
@@ -90,6 +91,7 @@ pub(crate) fn number_at(bytes: &[u8]) -> Result<(u64, &[u8]), RecordErr>
 }
 
 /// The same for a number of any length.
+#[inline(never)]
 fn number_of_several(bytes: &[u8]) -> Result<(u64, &[u8]), RecordErr>
     ensures exact { Gives (λ x. (x.0, x.1.now)) result (number_in bytes.now) }
     ensures shorter { IfOk result (λ x. length x.1.now < length bytes.now) }

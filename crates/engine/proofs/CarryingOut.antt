@@ -6,8 +6,7 @@ use Rattle.eng_value.specs.declared.cause.Cause.TheVariants as cause
 use Rattle.eng_value.specs.declared.value.Value.{Value}
 use Rattle.eng_value.proofs.CauseLaws.{has_cause-only}
 use Rattle.gen_query.specs.Queries.{ending_by}
-use Rattle.sql_meaning.specs.Script.{IsNamed}
-use Rattle.sql_meaning.specs.Statement.{Outcome, refused}
+use Rattle.sql_meaning.specs.Statement.{IsNamed, Outcome, refused}
 use Rattle.sql_meaning.specs.World.{State}
 use Rattle.vm_code.specs.Machine.{World, Shared, Ending, Finished, Failed}
 use Rattle.engine.specs.declared.answers.Done.{Done}

@@ -2,8 +2,7 @@
 use Rattle.std.specs.Prelude.{◌≡◌, ◌<◌, ℕ, Option, Some}
 use Rattle.eng_value.specs.declared.cause.Cause.{Cause}
 use Rattle.eng_value.specs.declared.cause.Cause.TheVariants as cause
-use Rattle.sql_meaning.specs.Script.{IsNamed}
-use Rattle.sql_meaning.specs.Statement.{Outcome}
+use Rattle.sql_meaning.specs.Statement.{IsNamed, Outcome}
 use Rattle.sql_meaning.specs.World.{State}
 use Rattle.engine.specs.Taking.{Rows, Adds}
 

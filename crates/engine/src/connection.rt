@@ -94,6 +94,7 @@ impl Connection {
         ensures front { AddsFront (R.taken rows.old) (R.taken rows.new)
             (text_outcome (meant hosts.old) self.old.state params.now sql.now).given }
         ensures bound { steps.new ≤ steps.old + instruction_bound self.old.state sql.now }
+        ensures within { steps.new ≤ steps.old + self.old.budget }
         ensures ticks { steps.old ≤ steps.new }
         ensures faults { R.fault_count rows.old ≤ R.fault_count rows.new }
         ensures budget { self.new.budget ≡ self.old.budget }

@@ -1,5 +1,5 @@
 // What a connection holds, and how a statement changes it.
-ghost use Rattle.std.specs.Prelude.{◌≡◌, ◌≤◌, ◌-◌, ◌<◌, ◌∷◌, ◌++◌, [], length, pos, unwrap_or};
+ghost use Rattle.std.specs.Prelude.{◌≡◌, ◌≤◌, ◌+◌, ◌-◌, ◌<◌, ◌∷◌, ◌++◌, [], length, pos, unwrap_or};
 ghost use Rattle.eng_value.specs.HostMeanings.{HostMeanings};
 ghost use Rattle.engine.specs.Connected.{CarriesOut};
 ghost use Rattle.engine.specs.Held.{state_of};
@@ -89,6 +89,7 @@ pub(crate) fn run_text<R: RowSink, L: Ledger>(
         (Rose (R.fault_count rows.old) (R.fault_count rows.new)) result }
     ensures unbuilt { IsUnbuilt text.now → steps.new ≡ steps.old }
     ensures ticks { steps.old ≤ steps.new }
+    ensures within { steps.new ≤ steps.old + budget }
     ensures faults { R.fault_count rows.old ≤ R.fault_count rows.new }
 {
     database.tables.order();
@@ -121,6 +122,7 @@ fn run_create<R: RowSink, L: Ledger>(
         budget (create_steps database.old.tables) (steps.new - steps.old) (R.taken rows.old) (R.taken rows.new)
         (Rose (R.fault_count rows.old) (R.fault_count rows.new)) result }
     ensures ticks { steps.old ≤ steps.new }
+    ensures within { steps.new ≤ steps.old + budget }
     ensures faults { R.fault_count rows.old ≤ R.fault_count rows.new }
 {
     let Ok(program) = compile_create(alloc) else {
@@ -165,6 +167,7 @@ fn run_insert<R: RowSink, L: Ledger>(
         budget (put_steps insert.now database.old.tables) (steps.new - steps.old)
         (R.taken rows.old) (R.taken rows.new) (Rose (R.fault_count rows.old) (R.fault_count rows.new)) result }
     ensures ticks { steps.old ≤ steps.new }
+    ensures within { steps.new ≤ steps.old + budget }
     ensures faults { R.fault_count rows.old ≤ R.fault_count rows.new }
 {
     let Ok(program) = compile_insert(alloc, insert) else {
@@ -207,6 +210,7 @@ fn run_select<R: RowSink, L: Ledger>(
         budget (query_steps select.now database.old.tables) (steps.new - steps.old)
         (R.taken rows.old) (R.taken rows.new) (Rose (R.fault_count rows.old) (R.fault_count rows.new)) result }
     ensures ticks { steps.old ≤ steps.new }
+    ensures within { steps.new ≤ steps.old + budget }
     ensures faults { R.fault_count rows.old ≤ R.fault_count rows.new }
 {
     let Ok(program) = gen_query::compile(alloc, select) else {

@@ -1,5 +1,5 @@
 // The execution of programs, by causes.
-ghost use Rattle.std.specs.Prelude.{◌≡◌, ◌≤◌, ◌-◌, ℕ};
+ghost use Rattle.std.specs.Prelude.{◌≡◌, ◌≤◌, ◌+◌, ◌-◌, ℕ};
 ghost use Rattle.engine.specs.Executing.{ExecutesAs, NamesStop};
 ghost use Rattle.host_traits.specs.Faults.{Rose};
 ghost use Rattle.vm_code.specs.Machine.{Ending, Ends, Shared, start};
@@ -38,6 +38,7 @@ pub(crate) fn execute<R: RowSink, L: Ledger>(
         ExecutesAs e x most budget (steps.new - steps.old) tables.old tables.new (R.taken rows.old) (R.taken rows.new)
         (Rose (R.fault_count rows.old) (R.fault_count rows.new)) result }
     ensures ticks { steps.old ≤ steps.new }
+    ensures within { steps.new ≤ steps.old + budget }
     ensures faults { R.fault_count rows.old ≤ R.fault_count rows.new }
 {
     match run_program(alloc, program, params, tables, budget, rows, steps) {

@@ -48,6 +48,7 @@ pub(crate) fn run_program<R: RowSink, L: Ledger>(
         RunsAs e x most budget (steps.new - steps.old) tables.old tables.new (R.taken rows.old) (R.taken rows.new)
         (Rose (R.fault_count rows.old) (R.fault_count rows.new)) result }
     ensures ticks { steps.old ≤ steps.new }
+    ensures within { steps.new ≤ steps.old + budget }
     ensures faults { R.fault_count rows.old ≤ R.fault_count rows.new }
 {
     let mut machine = match machine(alloc, program, params) {
@@ -80,6 +81,7 @@ fn drive<R: RowSink, L: Ledger>(
     steps: &mut Steps<L>,
 ) -> Result<u64, Stop>
     ensures ticks { steps.old ≤ steps.new }
+    ensures within { steps.new ≤ steps.old + budget }
     ensures undo { before machine.new.changes tables.new ≡ before machine.old.changes tables.old }
     ensures needed { NoneInVain (record { prog = machine.old.prog }) (steps.new - steps.old) (state_of machine.old tables.old []) }
     ensures run { DriveIs (record { prog = machine.old.prog }) (steps.new - steps.old) (state_of machine.old tables.old []) (state_of machine.new tables.new)

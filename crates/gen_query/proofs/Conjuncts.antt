@@ -8,7 +8,6 @@ use Rattle.eng_value.specs.Environments.{Environment}
 use Rattle.eng_value.specs.Outs.{truth_value, turned}
 use Rattle.eng_value.specs.Casts.{to_number}
 use Rattle.eng_value.specs.Truths.{truth_in, truth_of, truth_of_number}
-use Rattle.eng_value.specs.declared.operators.UnaryOperator.TheVariants as unary
 use Rattle.eng_value.specs.declared.out.Out.{Out}
 use Rattle.eng_value.specs.declared.out.Out.TheVariants.{Good, Bad}
 use Rattle.eng_value.specs.declared.truth.Truth.{Truth}
@@ -127,27 +126,21 @@ t_sifts {a} {b} {causes} {label} {f} {n} g e p q x still keeps drops = record {
 
 -- ---- one conjunct
 
-module _ (a c : Draft) (conjunct : BoundExpr) (value causes label : ℕ) (n : World → ℕ) (v_is : value ≡ a.next) (x : Leaves (taken a) c value (λ w env. value_of conjunct env) n) (below : causes < a.next) where
+module _ (a c : Draft) (conjunct : BoundExpr) (value causes label : ℕ) (n : World → ℕ) (v_is : value ≡ a.next) (x : Leaves (taken a) c value (λ w env. truth_of (value_of conjunct env)) (λ w. n w + 1)) (below : causes < a.next) where
   abbrev truth_at : Here → Out
   truth_at h = truth_of (value_of conjunct (environment_of h))
 
   abbrev outcome_at : Here → Option Out
   outcome_at h = after_conjunct (read h.regs causes) (truth_in (truth_at h))
 
-  abbrev tested : Draft
-  tested = with_op c (op.Unary unary.Truth value value)
-
   abbrev jumped : Draft
-  jumped = with_op tested (op.IfNot value label true)
+  jumped = with_op c (op.IfNot value label true)
 
   abbrev merging : Draft
   merging = with_op jumped (op.Merge value causes)
 
   abbrev started : Claim
   started h0 h = But a.next causes h0 h × (read h.regs causes ≡ read h0.regs causes)
-
-  abbrev valued : Claim
-  valued h0 h = started h0 h × (read h.regs value ≡ value_of conjunct (environment_of h0))
 
   abbrev known : Claim
   known h0 h = started h0 h × (read h.regs value ≡ truth_at h0)
@@ -169,19 +162,15 @@ module _ (a c : Draft) (conjunct : BoundExpr) (value causes label : ℕ) (n : Wo
   still_started h0 h regs same pre =
       (but_regs regs (λ k lt ne. same k (omega (arith, v_is))) pre.0, same causes (omega (arith, v_is)) ∙ pre.1)
 
-  gets : Triple a c n labels no_last started valued
+  gets : Triple a c (λ w. n w + 1) labels no_last started known
   gets =
       let take = t_draft labels no_last started (g_taken a) refl in
-      let leave = t_leaves labels no_last started valued x (λ h0 h pre. ap (λ (y : Shared). y.world) pre.0.shared) (λ h0 h regs pre long is same.
-      ((but_regs regs (λ k lt ne. same k (omega arith) (omega (arith, v_is))) pre.0, same causes (omega arith) (omega (arith, v_is)) ∙ pre.1), is ∙ ap (value_of conjunct) (but_env pre.0))) in
-      t_more n (λ w. omega arith) (t_seq take leave)
+      let leave = t_leaves labels no_last started known x (λ h0 h pre. ap (λ (y : Shared). y.world) pre.0.shared) (λ h0 h regs pre long is same.
+      ((but_regs regs (λ k lt ne. same k (omega arith) (omega (arith, v_is))) pre.0, same causes (omega arith) (omega (arith, v_is)) ∙ pre.1), is ∙ ap (λ env. truth_of (value_of conjunct env)) (but_env pre.0))) in
+      t_more (λ w. n w + 1) (λ w. omega arith) (t_seq take leave)
 
-  tests : Triple c tested (λ w. 1) labels no_last valued known
-  tests = t_put c (op.Unary unary.Truth value value) value (λ h. truth_of (read h.regs value)) labels no_last valued known (omega (arith, x.grows.most, v_is)) (λ m at s. refl) (λ h0 h regs pre long is same.
-      (still_started h0 h regs same pre.0, is ∙ ap truth_of pre.1))
-
-  jumps : Triple tested jumped (λ w. 1) labels no_last known kept
-  jumps = t_test tested (op.IfNot value label true) label (λ h. is_rejected true (read h.regs value)) labels no_last known kept (λ m at s. refl) (λ h0 h pre b. inl (refl, (pre.0.0, rejected_truth (truth_in (truth_at h0)) (read h0.regs causes) (rejects h0 h pre ∙ b)))) (λ h0 h pre b. (pre, rejects h0 h pre ∙ b))
+  jumps : Triple c jumped (λ w. 1) labels no_last known kept
+  jumps = t_test c (op.IfNot value label true) label (λ h. is_rejected true (read h.regs value)) labels no_last known kept (λ m at s. refl) (λ h0 h pre b. inl (refl, (pre.0.0, rejected_truth (truth_in (truth_at h0)) (read h0.regs causes) (rejects h0 h pre ∙ b)))) (λ h0 h pre b. (pre, rejects h0 h pre ∙ b))
     where
       rejects : (h0 h : Here) → known h0 h → is_false true (truth_in (truth_at h0)) ≡ is_rejected true (read h.regs value)
       rejects h0 h pre =
@@ -196,7 +185,7 @@ module _ (a c : Draft) (conjunct : BoundExpr) (value causes label : ℕ) (n : Wo
   pub sifts_conjunct : Sifts a (given_back merging) causes label (λ w env found. after_conjunct found (truth_in (truth_of (value_of conjunct env)))) (λ w. n w + 3)
   sifts_conjunct =
       let back = t_draft labels no_last end (g_given_back merging) refl in
-      sifts_of causes label (λ w env found. after_conjunct found (truth_in (truth_of (value_of conjunct env)))) started (grows_then (g_taken a) (grows_then x.grows (grows_then (g_op c (op.Unary unary.Truth value value)) (grows_then (g_op tested (op.IfNot value label true)) (grows_then (g_op jumped (op.Merge value causes)) (g_given_back merging)))))) (omega (arith, x.next)) (λ h. (but_none a.next causes h, refl)) (t_more (λ w. n w + 3) (λ w. omega arith) (t_seq (t_seq (t_seq (t_seq gets tests) jumps) merges) back))
+      sifts_of causes label (λ w env found. after_conjunct found (truth_in (truth_of (value_of conjunct env)))) started (grows_then (g_taken a) (grows_then x.grows (grows_then (g_op c (op.IfNot value label true)) (grows_then (g_op jumped (op.Merge value causes)) (g_given_back merging))))) (omega (arith, x.next)) (λ h. (but_none a.next causes h, refl)) (t_more (λ w. n w + 3) (λ w. omega arith) (t_seq (t_seq (t_seq gets jumps) merges) back))
 
 -- ---- one after the other
 

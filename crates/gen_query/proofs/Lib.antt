@@ -1,3 +1,4 @@
+mod Truths
 mod Conjuncts
 mod Gathering
 mod Listing

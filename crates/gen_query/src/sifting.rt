@@ -1,13 +1,16 @@
 // The conjuncts of a WHERE.
-ghost use Rattle.std.specs.Prelude.{◌≡◌, ◌+◌, ◌<◌, ◌≤◌, OnOk};
+ghost use Rattle.std.specs.Prelude.{◌≡◌, ◌+◌, ◌<◌, ◌≤◌, true, OnOk};
+ghost use Rattle.eng_value.specs.Applied.{binary_of, unary_of};
 ghost use Rattle.eng_value.specs.Truths.{truth_in, truth_of};
+ghost use Rattle.eng_value.specs.declared.out.Out.{Out};
 ghost use Rattle.gen_expr.specs.Steps.{steps_of};
 ghost use Rattle.gen_query.specs.Queries.{conjuncts_steps};
+ghost use Rattle.gen_query.specs.Truths.{GivesTruth, IsTruth};
 ghost use Rattle.sql_meaning.specs.Expression.{value_of};
 ghost use Rattle.sql_meaning.specs.Statement.{after_conjunct, sifted};
-ghost use Rattle.vm_code.specs.Frames.{Sifts};
+ghost use Rattle.vm_code.specs.Frames.{Leaves, Sifts};
 
-use eng_value::UnaryOperator;
+use eng_value::{BinaryOperator, UnaryOperator};
 use gen_expr::emit;
 use sql_meaning::BoundExpr;
 use std::alloc::AllocError;
@@ -45,12 +48,7 @@ fn emit_conjunct(
     ensures cursors { OnOk result (b.new.cursors ≡ b.old.cursors) }
 {
     let value = b.take()?;
-    emit(b, conjunct, value)?;
-    b.op(Op::Unary {
-        operator: UnaryOperator::Truth,
-        from: value,
-        to: value,
-    })?;
+    emit_truth(b, conjunct, value)?;
     b.op(Op::IfNot {
         register: value,
         target: next,
@@ -62,4 +60,67 @@ fn emit_conjunct(
     })?;
     b.give_back();
     Ok(())
+}
+
+/// Writes code that leaves the truth of an expression in the register `to`. What gives truths already needs no instruction more.
+fn emit_truth(b: &mut Builder, e: &BoundExpr, to: u32) -> Result<(), AllocError>
+    requires taken { to < b.old.next }
+    requires counted { b.old.next ≤ b.old.most }
+    ensures leaves { OnOk result (Leaves b.old b.new to (λ _ env. truth_of (value_of e.now env)) (λ _. steps_of e.now + 1)) }
+    ensures cursors { OnOk result (b.new.cursors ≡ b.old.cursors) }
+{
+    emit(b, e, to)?;
+    if gives_truth(e) {
+        return Ok(());
+    }
+    b.op(Op::Unary {
+        operator: UnaryOperator::Truth,
+        from: to,
+        to,
+    })?;
+    Ok(())
+}
+
+/// Whether an expression is known by its form to give truths.
+#[tactic(auto, using(crate::proofs::Truths::and_truth, crate::proofs::Truths::like_escaped_truth, crate::proofs::Truths::member_truth))]
+fn gives_truth(e: &BoundExpr) -> bool
+    ensures { result ≡ true → GivesTruth e.now }
+{
+    match e {
+        BoundExpr::Unary(operator, _) => unary_gives_truth(*operator),
+        BoundExpr::Binary(operator, _, _) => binary_gives_truth(*operator),
+        BoundExpr::LikeEscaped(_, _, _) => true,
+        BoundExpr::Between(_, _, _, _, _) => true,
+        BoundExpr::In(_, _, _) => true,
+        _ => false,
+    }
+}
+
+#[tactic(auto, using(crate::proofs::Truths::truth_truth, crate::proofs::Truths::not_truth, crate::proofs::Truths::is_null_truth, crate::proofs::Truths::not_null_truth, crate::proofs::Truths::is_truth_truth))]
+fn unary_gives_truth(operator: UnaryOperator) -> bool
+    ensures { result ≡ true → (a : Out) → IsTruth (unary_of operator a) }
+{
+    match operator {
+        UnaryOperator::Truth => true,
+        UnaryOperator::Not => true,
+        UnaryOperator::IsNull => true,
+        UnaryOperator::NotNull => true,
+        UnaryOperator::IsTruth(_) => true,
+        _ => false,
+    }
+}
+
+#[tactic(auto, using(crate::proofs::Truths::and_truth, crate::proofs::Truths::or_truth, crate::proofs::Truths::comparison_truth, crate::proofs::Truths::is_truth, crate::proofs::Truths::like_truth, crate::proofs::Truths::glob_truth))]
+fn binary_gives_truth(operator: BinaryOperator) -> bool
+    ensures { result ≡ true → (a b : Out) → IsTruth (binary_of operator a b) }
+{
+    match operator {
+        BinaryOperator::And => true,
+        BinaryOperator::Or => true,
+        BinaryOperator::Compare(_, _) => true,
+        BinaryOperator::Is(_) => true,
+        BinaryOperator::Like => true,
+        BinaryOperator::Glob => true,
+        _ => false,
+    }
 }

@@ -4,7 +4,7 @@ use denote.Enum.Bare.{same_true}
 use Rattle.sql_tree.specs.contracts.token.TokenKind.{the_type}
 use Rattle.sql_tree.specs.declared.token.Token.{Token}
 use Rattle.sql_tree.specs.declared.token.TokenKind.{TokenKind}
-use Rattle.sql_grammar.specs.Kinds.{same_kind}
+use Rattle.sql_tree.specs.Kinds.{same_kind}
 use Rattle.sql_grammar.specs.Rules.{Kinds, join, has, starts, apart}
 use Rattle.sql_grammar.proofs.ReadingLaws.{bool_cases}
 

@@ -1,13 +1,7 @@
--- Kinds of tokens, compared by their tags.
-use Rattle.std.specs.Prelude.{Bool, List, [], ◌∷◌}
-use denote.Enum.Bare.{sameb}
-use Rattle.sql_tree.specs.contracts.token.TokenKind.{the_type}
+-- Kinds of tokens.
+use Rattle.std.specs.Prelude.{List, [], ◌∷◌}
 use Rattle.sql_tree.specs.declared.token.TokenKind.{TokenKind}
 use Rattle.sql_tree.specs.declared.token.TokenKind.TheVariants as kind
-
--- `==` on kinds
-abbrev pub same_kind : TokenKind → TokenKind → Bool
-same_kind = sameb the_type
 
 -- all that may stand in a statement
 abbrev pub all_kinds : List TokenKind

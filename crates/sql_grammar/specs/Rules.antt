@@ -2,7 +2,8 @@
 use Rattle.std.specs.Prelude.{◌≡◌, ℕ, nat_eq, zero, suc, Result, Ok, Err, Bool, true, false, not, ◌&&◌, ◌||◌, if◌then◌else◌, List, [], ◌∷◌, ◌++◌, length, ◌⊎◌, Option, Some, None, is_some}
 use Rattle.sql_tree.specs.declared.token.Token.{Token}
 use Rattle.sql_tree.specs.declared.token.TokenKind.{TokenKind}
-use Rattle.sql_grammar.specs.Kinds.{same_kind, all_kinds}
+use Rattle.sql_grammar.specs.Kinds.{all_kinds}
+use Rattle.sql_tree.specs.Kinds.{same_kind}
 use Rattle.sql_grammar.specs.declared.counts.Limit.{Limit}
 use Rattle.sql_grammar.specs.declared.counts.Limit.TheVariants as limit
 use Rattle.sql_grammar.specs.declared.counts.Role.{Role}

@@ -75,10 +75,10 @@ stops_at p low (x ∷ xs) = by (p x) refl (stops_at p low xs)
 run_stops : (p : ℕ → Bool) (low : (b : ℕ) → p b ≡ false → b < 128) (xs : List ℕ) → Stops xs (length (take_while p xs))
 run_stops p low xs = rw (length-prefix_len p xs) (prefix_len-le-length p xs, stops_at p low xs)
 
-run_within : (p : ℕ → Bool) (xs : List ℕ) → length (take_while p xs) ≤ length xs
+pub run_within : (p : ℕ → Bool) (xs : List ℕ) → length (take_while p xs) ≤ length xs
 run_within p xs = omega (arith, length-prefix_len p xs, prefix_len-le-length p xs)
 
-run_some : (p : ℕ → Bool) (x : ℕ) (xs : List ℕ) → p x ≡ true → 1 ≤ length (take_while p (x ∷ xs))
+pub run_some : (p : ℕ → Bool) (x : ℕ) (xs : List ℕ) → p x ≡ true → 1 ≤ length (take_while p (x ∷ xs))
 run_some p x xs e =
     let n : prefix_len p (x ∷ xs) ≡ 1 + prefix_len p xs = ap (λ t. cond t (1 + prefix_len p xs) 0) e in
     omega (arith, length-prefix_len p (x ∷ xs))
@@ -103,7 +103,7 @@ word_low b h = grind (arith, nat_tests)
 begins_low : (b : ℕ) → begins_word b ≡ false → b < 128
 begins_low b h = grind (arith, nat_tests)
 
-begins_word_byte : (b : ℕ) → begins_word b ≡ true → is_word_byte b ≡ true
+pub begins_word_byte : (b : ℕ) → begins_word b ≡ true → is_word_byte b ≡ true
 begins_word_byte b h = grind (arith, nat_tests)
 
 digit_low : (b : ℕ) → is_ascii_digit b ≡ true → b < 128
@@ -231,13 +231,13 @@ exponent_within (b ∷ bytes) = by (b == 101 || b == 69)
     by true = omega (arith, with_digits_within (suc (sign_width bytes)) (drop (sign_width bytes) bytes), length-drop (sign_width bytes) bytes, sign_within bytes)
     by false = omega arith
 
-pointed_within : (xs : List ℕ) → pointed_width xs ≤ length xs
+pub pointed_within : (xs : List ℕ) → pointed_width xs ≤ length xs
 pointed_within xs = omega (arith, run_within is_ascii_digit xs, fraction_within (drop (digits_width xs) xs), length-drop (digits_width xs) xs)
 
-decimal_within : (xs : List ℕ) → decimal_width xs ≤ length xs
+pub decimal_within : (xs : List ℕ) → decimal_width xs ≤ length xs
 decimal_within xs = omega (arith, pointed_within xs, exponent_within (drop (pointed_width xs) xs), length-drop (pointed_width xs) xs)
 
-decimal_some : (b : ℕ) (bytes : List ℕ) → is_ascii_digit b ≡ true → 1 ≤ decimal_width (b ∷ bytes)
+pub decimal_some : (b : ℕ) (bytes : List ℕ) → is_ascii_digit b ≡ true → 1 ≤ decimal_width (b ∷ bytes)
 decimal_some b bytes h = omega (arith, run_some is_ascii_digit b bytes h)
 
 pub hex_within : (xs : List ℕ) → length (hex_digits xs) ≤ length xs - 2

@@ -94,7 +94,7 @@ tokens_in_order text = lexed_in_order (length text) 0 0 (length text) text (omeg
 
 -- ---- characters
 
-boundary : (xs : List ℕ) (w : ℕ) → IsUtf8 xs → Fits xs w → IsCharBoundary xs w
+pub boundary : (xs : List ℕ) (w : ℕ) → IsUtf8 xs → Fits xs w → IsCharBoundary xs w
 boundary xs w utf8 fits = by fits.ends
   where
     by : (get_or xs (w - 1) 0 < 128) ⊎ (get_or xs w 0 < 128) → IsCharBoundary xs w

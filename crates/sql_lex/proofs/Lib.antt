@@ -1,5 +1,12 @@
+mod Appending
 mod Cuts
+pub mod CuttingLaws
+mod Endings
+mod FirstPlaces
 mod Following
+mod Lasting
 mod Numbering
+mod Readings
+mod Semicolons
 mod Signing
 mod Widths

@@ -1,4 +1,7 @@
+pub mod Cutting
 pub mod Pieces
+pub mod Places
+pub mod Reading
 pub mod Signs
 pub mod Tokens
 pub mod Widths

@@ -49,11 +49,15 @@ fn kind_in(keywords: &[(&str, TokenKind)], word: &[u8]) -> TokenKind
     TokenKind::Word
 }
 
-// What a word is: a keyword, or none.
+// What a word is: a keyword, or none. No keyword has one letter, and many names have.
 fn word_kind(word: &[u8]) -> TokenKind
     ensures { result ≡ word_kind word.now }
 {
-    kind_in(&KEYWORDS, word)
+    if word.len() < 2 {
+        TokenKind::Word
+    } else {
+        kind_in(&KEYWORDS, word)
+    }
 }
 
 /// The word that a text begins with.

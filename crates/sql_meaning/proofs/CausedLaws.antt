@@ -35,9 +35,8 @@ use Rattle.sql_meaning.specs.declared.column.TableEntry.{TableEntry}
 use Rattle.sql_meaning.specs.Binding.{◌>>=◌}
 use Rattle.sql_meaning.specs.Built.{is_built}
 use Rattle.sql_meaning.specs.Expression.{Arm, MatchArm, Meaning, arm_of, arm_step, chosen_in, first_known, in_all, literal_out, match_of, match_step, matched_in, parameter_of, value_of, value_step}
-use Rattle.sql_meaning.specs.Script.{IsNamed}
 use Rattle.sql_meaning.specs.Statement as s
-use Rattle.sql_meaning.specs.Statement.{Item, Outcome, Put, Query, Row, Failed, after_conjunct, all_put, carried_out, create_outcome, environments, given_of, if_some, item_by, item_of, item_put, items_at, items_of, no_causes, outcome_of, parsed_outcome, put_outcome, put_source, query_outcome, refusal_of, refused, row_put, row_under, rows_put, shown, sifted, source_of, statement_of, stored, text_outcome, with_causes, written}
+use Rattle.sql_meaning.specs.Statement.{IsNamed, Item, Outcome, Put, Query, Row, Failed, after_conjunct, all_put, carried_out, create_outcome, environments, given_of, if_some, item_by, item_of, item_put, items_at, items_of, no_causes, outcome_of, parsed_outcome, put_outcome, put_source, query_outcome, refusal_of, refused, row_put, row_under, rows_put, shown, sifted, source_of, statement_of, stored, text_outcome, with_causes, written}
 use Rattle.sql_meaning.specs.World.{State, rows_of}
 use Rattle.sql_meaning.proofs.CausedOperators.{AreCaused, IsCaused, IsCausedSet, IsCausedTruth, and_of-caused, bad-caused, binary_of-caused, choice_of-caused, comparison_of-caused, function_by-caused, good, like_escaped_of-caused, made-caused, member_of-caused, merged-caused, only-caused, or_else-caused, store_as-caused, truth_in-caused, truth_of-caused, unary_of-caused}
 

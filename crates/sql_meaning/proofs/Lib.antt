@@ -5,6 +5,6 @@ pub mod CausedOperators
 pub mod CausedLaws
 pub mod RefusalLaws
 pub mod TextLaws
-pub mod CuttingLaws
 pub mod OutcomeLaws
 pub mod ScriptLaws
+pub mod PartsLaws

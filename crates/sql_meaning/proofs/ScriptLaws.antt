@@ -1,151 +1,196 @@
--- The outcomes of a script that goes on, and its status.
-use Rattle.std.proofs.Common.{◌≡◌, ◌≢◌, ◌↔◌, ℕ, ◌-◌, List, [], ◌∷◌, ◌++◌, Bool, true, false, not, ◌&&◌, cond, Some, None, Any, nat_eq, if◌then◌else◌, length, take, drop, refl, sym, ◌∙◌, ap, subst, arith, filter, take-append-drop}
+-- The outcomes of a script with one ending and another, and its status.
+use Rattle.std.proofs.Common.{◌≡◌, ◌≤◌, ◌↔◌, ◌⊎◌, inl, inr, ℕ, zero, suc, ◌-◌, List, [], ◌∷◌, ◌++◌, Bool, true, false, not, ◌&&◌, ◌||◌, cond, Option, Some, None, Any, if◌then◌else◌, length, take, drop, refl, sym, ◌∙◌, ap, subst, arith, append-nil, append_assoc}
 use Rattle.std.specs.List.{list_any}
-use Rattle.std.proofs.lemmas.List.Elements.{filter-append}
+use Rattle.std.specs.Prelude.{is_some, nat_lt, ◌==◌}
+use Rattle.std.specs.Str.Lossy.{utf8_error_len, utf8_valid_len}
 use Rattle.std.proofs.lemmas.List.Folds.{Any-from_list_any, list_any-from_Any}
 use Rattle.eng_value.specs.HostMeanings.{HostMeanings}
-use Rattle.eng_value.specs.declared.limits.TheConstants.{DEFAULT_BUDGET, MAX_SCRIPT_BYTES}
-use Rattle.sql_meaning.specs.declared.ending.Ending.{Ending}
-use Rattle.sql_meaning.specs.declared.ending.Ending.TheVariants.{End, ReadFault, TooLong}
-use Rattle.sql_meaning.specs.Runs.{last_state, AreAsMeant, IsEnough, IsFrontOf}
-use Rattle.sql_meaning.specs.Script.{AreOutcomes, Came, Come, all_but_last, ending_told, is_quote, is_refused, is_statement, onto, statements_of, status_by, texts_between}
+use Rattle.eng_value.specs.declared.limits.TheConstants.{MAX_SCRIPT_BYTES}
+use Rattle.sql_lex.specs.Cutting.{blank_width}
+use Rattle.sql_meaning.specs.declared.script.Ending.{Ending}
+use Rattle.sql_meaning.specs.declared.script.Ending.TheVariants.{End, ReadFault, TooLong}
+use Rattle.sql_meaning.specs.declared.script.Failure.{Failure}
+use Rattle.sql_meaning.specs.declared.script.Options.{Options}
+use Rattle.sql_meaning.specs.Parts.{Part, bad_parts, characters, end_of, may_go_on, part_of, part_up_to, parts_from, parts_in, parts_of, runs_pending, width_up_to}
+use Rattle.sql_meaning.specs.Runs.{AreAsMeant, IsEnough, IsFrontOf}
+use Rattle.sql_meaning.specs.Script.{AreOutcomes, Came, Come, ends, is_bad_character, is_failed, status_by, status_of}
 use Rattle.sql_meaning.specs.World.{new_state}
-use Rattle.sql_meaning.proofs.CuttingLaws.{but_last, texts_between-some}
-use Rattle.sql_meaning.proofs.OutcomeLaws.{AreAsMeant-Come, Come-append, Come-front, Come-only, Come-some}
-
--- ---- outcomes of texts
-
--- the outcomes of texts from no tables on, where those of white space alone are left out
-abbrev AreOf : HostMeanings → List (List ℕ) → List Came → Type 0
-AreOf hosts texts os = Come hosts DEFAULT_BUDGET new_state (filter is_statement texts) os
-
--- the outcomes go on where the texts do
-goes_on : (hosts : HostMeanings) (xs ys all : List (List ℕ)) (os : List Came) → xs ++ ys ≡ all → AreOf hosts xs os → (more : List Came) × AreOf hosts all (os ++ more)
-goes_on hosts xs ys all os e c =
-    let rest = filter is_statement ys in
-    let more = Come-some hosts DEFAULT_BUDGET (last_state new_state os) rest in (
-      more.0,
-      subst (λ ts. AreOf hosts ts (os ++ more.0)) e
-          (subst (λ ts. Come hosts DEFAULT_BUDGET new_state ts (os ++ more.0)) (sym (filter-append is_statement xs ys))
-          (Come-append hosts DEFAULT_BUDGET new_state (filter is_statement xs) rest os more.0 c more.1)),
-    )
-
--- and the texts in front have outcomes in front
-begins : (hosts : HostMeanings) (xs ys all : List (List ℕ)) (os : List Came) → xs ++ ys ≡ all → AreOf hosts all os → (front : List Came) × AreOf hosts xs front × IsFrontOf front os
-begins hosts xs ys all os e c =
-    Come-front hosts DEFAULT_BUDGET new_state (filter is_statement xs) (filter is_statement ys) os
-    (subst (λ ts. Come hosts DEFAULT_BUDGET new_state ts os) (filter-append is_statement xs ys) (subst (λ ts. AreOf hosts ts os) (sym e) c))
+use Rattle.sql_meaning.proofs.OutcomeLaws.{AreAsMeant-Come, Come-front, Come-only, Come-some}
 
 -- ---- each script has outcomes
 
-pub AreOutcomes-some : (hosts : HostMeanings) (bytes : List ℕ) (ending : Ending) → (os : List Came) × AreOutcomes hosts bytes ending os
+pub AreOutcomes-some : (hosts : HostMeanings) (options : Options) (bytes : List ℕ) (ending : Ending) → (os : List Came) × AreOutcomes hosts options bytes ending os
 unfolding AreOutcomes
-AreOutcomes-some hosts bytes ending = Come-some hosts DEFAULT_BUDGET new_state (statements_of bytes ending)
+AreOutcomes-some hosts options bytes ending = Come-some hosts options new_state (parts_of bytes ending)
 
 -- what its statements mean is among them
-pub AreOutcomes-meant : (hosts : HostMeanings) (bytes : List ℕ) (ending : Ending) (os : List Came) → AreAsMeant hosts new_state (statements_of bytes ending) os → AreOutcomes hosts bytes ending os
+pub AreOutcomes-meant : (hosts : HostMeanings) (options : Options) (bytes : List ℕ) (ending : Ending) (os : List Came) → AreAsMeant hosts options new_state (parts_of bytes ending) os → AreOutcomes hosts options bytes ending os
 unfolding AreOutcomes
-AreOutcomes-meant hosts bytes ending os c = AreAsMeant-Come hosts DEFAULT_BUDGET new_state (statements_of bytes ending) os c
+AreOutcomes-meant hosts options bytes ending os c = AreAsMeant-Come hosts options new_state (parts_of bytes ending) os c
 
 -- and nothing else is, where the budget is enough for each
-pub AreOutcomes-only : (hosts : HostMeanings) (bytes : List ℕ) (ending : Ending) (os : List Came) → IsEnough hosts DEFAULT_BUDGET new_state (statements_of bytes ending) → AreOutcomes hosts bytes ending os → AreAsMeant hosts new_state (statements_of bytes ending) os
+pub AreOutcomes-only : (hosts : HostMeanings) (options : Options) (bytes : List ℕ) (ending : Ending) (os : List Came) → IsEnough hosts options.budget new_state (parts_of bytes ending) → AreOutcomes hosts options bytes ending os → AreAsMeant hosts options new_state (parts_of bytes ending) os
 unfolding AreOutcomes
-AreOutcomes-only hosts bytes ending os enough c = Come-only hosts DEFAULT_BUDGET new_state (statements_of bytes ending) os enough c
+AreOutcomes-only hosts options bytes ending os enough c = Come-only hosts options new_state (parts_of bytes ending) os enough c
 
--- ---- a script that goes on
+-- ---- what is pending
 
--- ys goes on from all but the last of xs
-abbrev Grows : List (List ℕ) → List (List ℕ) → Type 0
-Grows xs ys = (rest : List (List ℕ)) × (all_but_last xs ++ rest ≡ ys) × (rest ≢ [])
+abbrev pub Longer : List Part → List Part → Type 0
+Longer xs ys = (rest : List Part) × (xs ++ rest ≡ ys)
 
-grows_first : (text : List ℕ) (xs ys : List (List ℕ)) → xs ≢ [] → Grows xs ys → Grows (text ∷ xs) (text ∷ ys)
-grows_first text [] ys some g = absurd (some refl)
-grows_first text (x ∷ xs) ys some g = (g.0, rw (but_last text x xs) (ap (λ ts. text ∷ ts) g.1), g.2)
+pub longer_behind : (front xs ys : List Part) → Longer xs ys → Longer (front ++ xs) (front ++ ys)
+longer_behind front xs ys l = (l.0, append_assoc front xs l.0 ∙ ap (λ ps. front ++ ps) l.1)
 
-onto_some : (b : ℕ) (xs : List (List ℕ)) → onto b xs ≢ []
-onto_some b [] e = cc
-onto_some b (x ∷ xs) e = cc
+-- the bytes that are left end before so many
+pub parts_from-past : (runs fresh : Bool) (skip : ℕ) (bytes : List ℕ) → length bytes ≤ skip → parts_from runs fresh skip bytes ≡ []
+parts_from-past runs fresh skip [] past = refl
+parts_from-past runs fresh zero (b ∷ bytes) past = absurd (omega arith)
+parts_from-past runs fresh (suc skip) (b ∷ bytes) past = parts_from-past runs (b == 10) skip bytes (omega arith)
 
-grows_onto : (b : ℕ) (xs ys : List (List ℕ)) → xs ≢ [] → Grows xs ys → Grows (onto b xs) (onto b ys)
-grows_onto b [] ys some g = absurd (some refl)
-grows_onto b (x ∷ []) ys some g = (onto b ys, refl, onto_some b ys)
-grows_onto b (x ∷ x' ∷ xs) ys some g =
-    let front : x ∷ (all_but_last (x' ∷ xs) ++ g.0) ≡ ys = ap (λ ts. ts ++ g.0) (sym (but_last x x' xs)) ∙ g.1 in
-    (g.0, rw (but_last (b ∷ x) x' xs) (ap (onto b) front), g.2)
+-- what stands at a place, and then the parts behind it
+abbrev pub from_here : Bool → Bool → ℕ → Bool → Option ℕ → List ℕ → Bool → List ℕ → List Part
+from_here runs is_blank width is_line end bytes fresh tail =
+    cond is_blank [] (part_up_to runs is_line end bytes) ++ parts_from runs fresh (cond is_blank width (width_up_to end bytes) - 1) tail
 
-grows_at : (c : Bool) (b : ℕ) (xs xs' ys ys' : List (List ℕ)) → xs ≢ [] → ys ≢ [] → Grows xs xs' → Grows ys ys' → Grows (cond c ([] ∷ xs) (onto b ys)) (cond c ([] ∷ xs') (onto b ys'))
-grows_at true b xs xs' ys ys' s t g h = grows_first [] xs xs' s g
-grows_at false b xs xs' ys ys' s t g h = grows_onto b ys ys' t h
+-- where what is pending runs, it comes last
+pending_here : (runs is_blank : Bool) (width : ℕ) (is_line : Bool) (end : Option ℕ) (bytes : List ℕ) (fresh : Bool) (tail : List ℕ) → length bytes ≡ suc (length tail)
+    → ((skip : ℕ) → Longer (parts_from false fresh skip tail) (parts_from runs fresh skip tail))
+    → Longer (from_here false is_blank width is_line end bytes fresh tail) (from_here runs is_blank width is_line end bytes fresh tail)
+pending_here runs true width is_line end bytes fresh tail one others = others (width - 1)
+pending_here runs false width is_line (Some end) bytes fresh tail one others =
+    longer_behind (part_of is_line (take end bytes)) (parts_from false fresh (suc end - 1) tail) (parts_from runs fresh (suc end - 1) tail) (others (suc end - 1))
+pending_here runs false width is_line None bytes fresh tail one others =
+    let none : parts_from false fresh (length bytes - 1) tail ≡ [] = parts_from-past false fresh (length bytes - 1) tail (omega (arith, one)) in (
+      part_up_to runs is_line None bytes ++ parts_from runs fresh (length bytes - 1) tail,
+      ap (λ ps. ps ++ (part_up_to runs is_line None bytes ++ parts_from runs fresh (length bytes - 1) tail)) none,
+    )
 
-texts_between-grows : (q : Bool) (bytes more : List ℕ) → Grows (texts_between q bytes) (texts_between q (bytes ++ more))
-texts_between-grows q [] more = (texts_between q more, refl, texts_between-some q more)
-texts_between-grows q (b ∷ bs) more =
-    let turned = if is_quote b then not q else q in
-    grows_at (nat_eq b 59 && not q) b (texts_between false bs) (texts_between false (bs ++ more)) (texts_between turned bs) (texts_between turned (bs ++ more))
-    (texts_between-some false bs) (texts_between-some turned bs) (texts_between-grows false bs more) (texts_between-grows turned bs more)
+parts_from-pending : (runs fresh : Bool) (skip : ℕ) (bytes : List ℕ) → Longer (parts_from false fresh skip bytes) (parts_from runs fresh skip bytes)
+parts_from-pending runs fresh skip [] = ([], refl)
+parts_from-pending runs fresh (suc skip) (b ∷ bytes) = parts_from-pending runs (b == 10) skip bytes
+parts_from-pending runs fresh zero (b ∷ bytes) =
+    let is_line = fresh && b == 46 in
+    pending_here runs (nat_lt 0 (blank_width (b ∷ bytes))) (blank_width (b ∷ bytes)) is_line (end_of is_line (b ∷ bytes)) (b ∷ bytes) (b == 10) bytes refl (λ skip. parts_from-pending runs (b == 10) skip bytes)
 
-all_but_last-append : (xs ys : List (List ℕ)) → ys ≢ [] → all_but_last (xs ++ ys) ≡ xs ++ all_but_last ys
-all_but_last-append [] ys some = refl
-all_but_last-append (x ∷ []) [] some = absurd (some refl)
-all_but_last-append (x ∷ []) (y ∷ ys) some = but_last x y ys
-all_but_last-append (x ∷ x' ∷ xs) ys some = but_last x x' (xs ++ ys) ∙ ap (λ ts. x ∷ ts) (all_but_last-append (x' ∷ xs) ys some)
+-- ---- one ending and another
 
--- what came before a read fault may go on to the end
-pub AreOutcomes-ReadFault : (hosts : HostMeanings) (bytes : List ℕ) (os : List Came) → AreOutcomes hosts bytes ReadFault os → (more : List Came) × AreOutcomes hosts bytes End (os ++ more)
-unfolding AreOutcomes
-AreOutcomes-ReadFault hosts bytes os c =
-    let texts = texts_between false bytes in
-    goes_on hosts (all_but_last texts) (drop (length texts - 1) texts) texts os (take-append-drop (length texts - 1) texts) c
+longer_all : (xs ys zs : List Part) → Longer xs ys → Longer xs (ys ++ zs)
+longer_all xs ys zs l = (l.0 ++ zs, sym (append_assoc xs l.0 zs) ∙ ap (λ ps. ps ++ zs) l.1)
 
--- and what came at the end began so
-pub AreOutcomes-End : (hosts : HostMeanings) (bytes : List ℕ) (os : List Came) → AreOutcomes hosts bytes End os → (front : List Came) × AreOutcomes hosts bytes ReadFault front × IsFrontOf front os
-unfolding AreOutcomes
-AreOutcomes-End hosts bytes os c =
-    let texts = texts_between false bytes in
-    begins hosts (all_but_last texts) (drop (length texts - 1) texts) texts os (take-append-drop (length texts - 1) texts) c
+-- behind whole characters, what may go on where the reading failed is what the end cuts
+abbrev bad_at : Bool → ℕ → Option ℕ
+bad_at goes_on place = if goes_on then None else Some place
 
--- what came before a read fault may go on, whatever the script goes on with
-pub AreOutcomes-append : (hosts : HostMeanings) (bytes more : List ℕ) (os : List Came) → AreOutcomes hosts bytes ReadFault os → (others : List Came) × AreOutcomes hosts (bytes ++ more) ReadFault (os ++ others)
-unfolding AreOutcomes
-AreOutcomes-append hosts bytes more os c =
-    let g = texts_between-grows false bytes more in
-    let front = all_but_last (texts_between false bytes) in
-    goes_on hosts front (all_but_last g.0) (all_but_last (texts_between false (bytes ++ more))) os (sym (all_but_last-append front g.0 g.2) ∙ ap all_but_last g.1) c
+abbrev parts_with : Ending → Option ℕ → List ℕ → List Part
+parts_with ending bad front = parts_from (runs_pending ending bad) true 0 front ++ bad_parts bad
+
+longer_by : (bytes : List ℕ) (place : ℕ) (front : List ℕ) → Longer (parts_with ReadFault (bad_at (may_go_on ReadFault bytes) place) front) (parts_with End (bad_at (may_go_on End bytes) place) front)
+longer_by [] place front = longer_all (parts_from false true 0 front ++ []) (parts_from true true 0 front) [] (subst (λ ps. Longer ps (parts_from true true 0 front)) (sym (append-nil (parts_from false true 0 front))) (parts_from-pending true true 0 front))
+longer_by (b ∷ bytes) place front = at (is_some (utf8_error_len (b ∷ bytes)))
+  where
+    at : (faulty : Bool) → Longer (parts_from false true 0 front ++ bad_parts (cond (not faulty) None (Some place))) (parts_from false true 0 front ++ bad_parts (Some place))
+    at true = ([], append-nil (parts_from false true 0 front ++ bad_parts (Some place)))
+    at false = (bad_parts (Some place), ap (λ ps. ps ++ bad_parts (Some place)) (append-nil (parts_from false true 0 front)))
+
+parts_in-longer : (bytes : List ℕ) → Longer (parts_in ReadFault bytes) (parts_in End bytes)
+parts_in-longer bytes = longer_by (drop (utf8_valid_len bytes) bytes) (utf8_valid_len bytes) (characters bytes)
+
+-- what came at the end began as it does where the next read fails
+pub AreOutcomes-End : (hosts : HostMeanings) (options : Options) (bytes : List ℕ) (os : List Came) → AreOutcomes hosts options bytes End os → (front : List Came) × AreOutcomes hosts options bytes ReadFault front × IsFrontOf front os
+unfolding AreOutcomes parts_of
+AreOutcomes-End hosts options bytes os c =
+    let l = parts_in-longer bytes in
+    Come-front hosts options new_state (parts_in ReadFault bytes) l.0 os (subst (λ ps. Come hosts options new_state ps os) (sym l.1) c)
+
+may_go_on-TooLong : (bytes : List ℕ) → may_go_on TooLong bytes ≡ may_go_on ReadFault bytes
+may_go_on-TooLong [] = refl
+may_go_on-TooLong (b ∷ bytes) = refl
+
+parts_in-TooLong : (bytes : List ℕ) → parts_in TooLong bytes ≡ parts_in ReadFault bytes
+parts_in-TooLong bytes =
+    let n = utf8_valid_len bytes in
+    ap (λ g. parts_from false true 0 (characters bytes) ++ bad_parts (if g then None else Some n)) (may_go_on-TooLong (drop n bytes))
 
 -- past the limit no byte is looked at
-pub AreOutcomes-TooLong : (hosts : HostMeanings) (bytes : List ℕ) (os : List Came) → AreOutcomes hosts bytes TooLong os ↔ AreOutcomes hosts (take MAX_SCRIPT_BYTES bytes) ReadFault os
-unfolding AreOutcomes
-AreOutcomes-TooLong hosts bytes os = (λ c. c, λ c. c)
+pub AreOutcomes-TooLong : (hosts : HostMeanings) (options : Options) (bytes : List ℕ) (os : List Came) → AreOutcomes hosts options bytes TooLong os ↔ AreOutcomes hosts options (take MAX_SCRIPT_BYTES bytes) ReadFault os
+unfolding AreOutcomes parts_of
+AreOutcomes-TooLong hosts options bytes os =
+    let e = parts_in-TooLong (take MAX_SCRIPT_BYTES bytes) in
+    (λ c. subst (λ ps. Come hosts options new_state ps os) e c, λ c. subst (λ ps. Come hosts options new_state ps os) (sym e) c)
 
 -- ---- the status
 
-abbrev bit : Bool → ℕ
-bit b = if b then 1 else 0
+bad-failed : (f : Option Failure) → is_bad_character f ≡ true → is_some f ≡ true
+bad-failed None e = cc
+bad-failed (Some why) e = refl
 
-one_or_zero : (b : Bool) → (bit b ≡ 1) ↔ (b ≡ true)
-one_or_zero true = (λ e. refl, λ e. refl)
-one_or_zero false = (λ e. absurd (omega arith), λ e. cc)
+either-failed : (bail failed bad : Bool) → (bad ≡ true → failed ≡ true) → ((bail && failed) || bad) ≡ true → failed ≡ true
+either-failed bail true bad so e = refl
+either-failed true false bad so e = so e
+either-failed false false bad so e = so e
 
--- at the end the status is 1 exactly where a statement was refused
-pub status_by-End : (os : List Came) → (status_by End os ≡ 1) ↔ Any (λ o. is_refused o ≡ true) os
+-- what ends a script has an error line
+ends-failed : (options : Options) (o : Came) → ends options o ≡ true → is_failed o ≡ true
+ends-failed options o e = either-failed options.bail (is_failed o) (is_bad_character o.failure) (bad-failed o.failure) e
+
+or_true : (a b c d : Bool) → (a ≡ true → c ≡ true) → (b ≡ true → d ≡ true) → (a || b) ≡ true → (c || d) ≡ true
+or_true true b true d f g e = refl
+or_true true b false d f g e = let bad : false ≡ true = f refl in cc
+or_true false b true d f g e = refl
+or_true false b false d f g e = g e
+
+ended-failed : (options : Options) (os : List Came) → list_any (ends options) os ≡ true → list_any is_failed os ≡ true
+ended-failed options [] e = cc
+ended-failed options (o ∷ os) e = or_true (ends options o) (list_any (ends options) os) (is_failed o) (list_any is_failed os) (ends-failed options o) (ended-failed options os) e
+
+abbrev status_with : Bool → Ending → Bool → ℕ
+status_with ended ending failed = if ended then 1 else status_of ending failed
+
+-- the status is 1 where an error line ended the script, and at its end where it has one
+one_where : (ended failed : Bool) (ending : Ending) → (ended ≡ true → failed ≡ true) → (status_with ended ending failed ≡ 1) ↔ ((failed ≡ true) × ((ending ≡ End) ⊎ (ended ≡ true)))
+one_where true failed ending so = (λ e. (so refl, inr refl), λ h. refl)
+one_where false true End so = (λ e. (refl, inl refl), λ h. refl)
+one_where false false End so = (λ e. absurd (omega arith), λ h. let bad : false ≡ true = h.0 in cc)
+one_where false failed ReadFault so = (λ e. absurd (omega arith), λ h. elim h.1 [ inl e ↦ cc | inr e ↦ cc ])
+one_where false failed TooLong so = (λ e. absurd (omega arith), λ h. elim h.1 [ inl e ↦ cc | inr e ↦ cc ])
+
+pub status_by-one : (options : Options) (ending : Ending) (os : List Came) → (status_by options ending os ≡ 1) ↔ (Any (λ o. is_failed o ≡ true) os × ((ending ≡ End) ⊎ Any (λ o. ends options o ≡ true) os))
 unfolding status_by
-status_by-End os =
-    let some = one_or_zero (list_any is_refused os) in
-    (λ e. Any-from_list_any is_refused os (some.0 e), λ a. some.1 (list_any-from_Any is_refused os a))
+status_by-one options ending os =
+    let one = one_where (list_any (ends options) os) (list_any is_failed os) ending (ended-failed options os) in (
+      λ e. let h = one.0 e in (Any-from_list_any is_failed os h.0, elim h.1 [ inl k ↦ inl k | inr k ↦ inr (Any-from_list_any (ends options) os k) ]),
+      λ h. one.1 (list_any-from_Any is_failed os h.0, elim h.1 [ inl k ↦ inl k | inr k ↦ inr (list_any-from_Any (ends options) os k) ]),
+    )
 
-told : (b : Bool) → ending_told (bit b) ≡ Some End
-told true = refl
-told false = refl
+-- every other status tells of the ending
+zero_where : (ended failed : Bool) (ending : Ending) → status_with ended ending failed ≡ 0 → ending ≡ End
+zero_where true failed ending e = absurd (omega (arith, e))
+zero_where false failed End e = refl
+zero_where false failed ReadFault e = absurd (omega (arith, e))
+zero_where false failed TooLong e = absurd (omega (arith, e))
 
--- the status tells of the ending, but of a read fault
-pub ending_told-End : (os : List Came) → ending_told (status_by End os) ≡ Some End
+three_where : (ended failed : Bool) (ending : Ending) → status_with ended ending failed ≡ 3 → ending ≡ ReadFault
+three_where true failed ending e = absurd (omega (arith, e))
+three_where false true End e = absurd (omega (arith, e))
+three_where false false End e = absurd (omega (arith, e))
+three_where false failed ReadFault e = refl
+three_where false failed TooLong e = absurd (omega (arith, e))
+
+five_where : (ended failed : Bool) (ending : Ending) → status_with ended ending failed ≡ 5 → ending ≡ TooLong
+five_where true failed ending e = absurd (omega (arith, e))
+five_where false true End e = absurd (omega (arith, e))
+five_where false false End e = absurd (omega (arith, e))
+five_where false failed ReadFault e = absurd (omega (arith, e))
+five_where false failed TooLong e = refl
+
+pub status_by-zero : (options : Options) (ending : Ending) (os : List Came) → status_by options ending os ≡ 0 → ending ≡ End
 unfolding status_by
-ending_told-End os = told (list_any is_refused os)
+status_by-zero options ending os e = zero_where (list_any (ends options) os) (list_any is_failed os) ending e
 
-pub ending_told-TooLong : (os : List Came) → (status_by TooLong os ≡ 5) × (ending_told (status_by TooLong os) ≡ Some TooLong)
+pub status_by-three : (options : Options) (ending : Ending) (os : List Came) → status_by options ending os ≡ 3 → ending ≡ ReadFault
 unfolding status_by
-ending_told-TooLong os = (refl, refl)
+status_by-three options ending os e = three_where (list_any (ends options) os) (list_any is_failed os) ending e
 
-pub ending_told-ReadFault : (os : List Came) → (status_by ReadFault os ≡ 3) × (ending_told (status_by ReadFault os) ≡ None)
+pub status_by-five : (options : Options) (ending : Ending) (os : List Came) → status_by options ending os ≡ 5 → ending ≡ TooLong
 unfolding status_by
-ending_told-ReadFault os = (refl, refl)
+status_by-five options ending os e = five_where (list_any (ends options) os) (list_any is_failed os) ending e

@@ -1,6 +1,6 @@
 -- The names of an expression, bound to what they stand for, or the first refusal from left to right (SQL Language Expressions;
 -- Datatypes In SQLite, sections 3.1, 4.2 and 7.1).
-use Rattle.std.specs.Prelude.{ℕ, ◌-◌, ◌^◌, nat_eq, nat_le, Bool, true, false, ◌&&◌, List, [], ◌∷◌, ◌++◌, map, length, position, slice_get, pos, negsuc, Option, Some, None, Result, Ok, Err, is_some, unwrap_or, if◌then◌else◌, codes}
+use Rattle.std.specs.Prelude.{ℕ, ◌-◌, ◌^◌, nat_eq, nat_le, Bool, true, false, ◌&&◌, List, [], ◌∷◌, ◌++◌, map, length, position, slice_get, negsuc, Option, Some, None, Result, Ok, Err, is_some, unwrap_or, if◌then◌else◌, codes}
 use Rattle.std.specs.List.{find, list_any}
 use Rattle.eng_text.specs.Texts.{folded, place_of}
 use Rattle.eng_value.specs.declared.affinity.Affinity.{Affinity}
@@ -19,7 +19,6 @@ use Rattle.eng_value.specs.declared.operators.BinaryOperator.{BinaryOperator}
 use Rattle.eng_value.specs.declared.operators.BinaryOperator.TheVariants as binary
 use Rattle.eng_value.specs.declared.operators.IntegerOp.TheVariants as integer
 use Rattle.eng_value.specs.declared.operators.Sides.{Sides}
-use Rattle.eng_value.specs.declared.operators.UnaryOperator.{UnaryOperator}
 use Rattle.eng_value.specs.declared.operators.UnaryOperator.TheVariants as unary
 use Rattle.eng_value.specs.declared.value.Value.TheVariants as value
 use Rattle.sql_lex.specs.Tokens.{slice_of}

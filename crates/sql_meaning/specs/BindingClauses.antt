@@ -1,8 +1,6 @@
 -- How each kind of expression is bound, said of the trees that they are.
-use Rattle.std.specs.Prelude.{◌≡◌, List, map, length, Option, Some, None, Result, Ok, Err, option_map}
+use Rattle.std.specs.Prelude.{◌≡◌, List, map, Ok}
 use Rattle.std.proofs.Common.{rules}
-use Rattle.eng_value.specs.declared.cause.Cause.{Cause}
-use Rattle.eng_value.specs.declared.cause.Cause.TheVariants as cause
 use Rattle.sql_tree.specs.declared.expr.BinaryOp.{BinaryOp}
 use Rattle.sql_tree.specs.declared.expr.Expr.{Expr, the_lemmas}
 use Rattle.sql_tree.specs.declared.expr.Expr.TheVariants as e

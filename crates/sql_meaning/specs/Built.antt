@@ -1,5 +1,5 @@
 -- Which statements are built: where the grammar derives a tree, some of what it may hold is not built yet.
-use Rattle.std.specs.Prelude.{ℕ, nat_eq, nat_le, Bool, true, false, not, ◌&&◌, ◌||◌, List, [], ◌∷◌, length, Option, Some, None, codes}
+use Rattle.std.specs.Prelude.{ℕ, nat_eq, Bool, true, false, not, ◌&&◌, ◌||◌, List, [], ◌∷◌, length, Option, Some, None, codes}
 use Rattle.std.specs.List.{list_all}
 use Rattle.sql_tree.specs.declared.expr.Arguments.{Arguments}
 use Rattle.sql_tree.specs.declared.expr.Arguments.TheVariants as arguments

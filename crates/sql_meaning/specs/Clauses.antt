@@ -1,11 +1,10 @@
 -- What each kind of expression comes to, said of the trees that they are.
-use Rattle.std.specs.Prelude.{◌≡◌, ℕ, List, [], ◌∷◌, map, pos, negsuc, codes, refl}
+use Rattle.std.specs.Prelude.{◌≡◌, ℕ, List, [], ◌∷◌, map, pos, codes, refl}
 use Rattle.std.proofs.Common.{rules}
 use Rattle.eng_value.specs.Applied.{plain, unary_of, binary_of, member_of}
 use Rattle.eng_value.specs.Casts.{beside}
 use Rattle.eng_value.specs.Comparisons.{comparison_of, like_escaped_of}
 use Rattle.eng_value.specs.Environments.{Environment}
-use Rattle.eng_value.specs.Outs.{bad}
 use Rattle.eng_value.specs.Truths.{and_of, choice_of, truth_of}
 use Rattle.eng_value.specs.declared.builtin.Builtin.{Builtin}
 use Rattle.eng_value.specs.declared.built.Built.{Built}

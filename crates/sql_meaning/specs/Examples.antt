@@ -1,9 +1,8 @@
 -- Statements with what they come to, computed by the definitions.
 use Rattle.std.specs.Prelude.{◌≡◌, ℕ, List, [], ◌∷◌, pos, negsuc, Some, None, codes, refl}
 use Rattle.std.specs.Fmt.{digits}
-use Rattle.std.proofs.Common.{rules}
 use Rattle.eng_number.specs.Numbers.{text_kind}
-use Rattle.eng_value.specs.Casts.{store_as, beside}
+use Rattle.eng_value.specs.Casts.{store_as}
 use Rattle.eng_value.specs.Causes.{only}
 use Rattle.eng_value.specs.HostMeanings.{no_hosts}
 use Rattle.eng_value.specs.declared.affinity.Affinity.TheVariants as affinity

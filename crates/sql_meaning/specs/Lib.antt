@@ -9,8 +9,8 @@ pub mod Clauses
 pub mod Statement
 pub mod Work
 pub mod Sizes
+pub mod Parts
 pub mod Script
-pub mod Cuts
 pub mod Due
 pub mod Runs
 pub mod Examples

@@ -1,18 +1,13 @@
 -- Queries with what they give, computed by the definitions.
-use Rattle.std.specs.Prelude.{◌≡◌, List, [], ◌∷◌, pos, negsuc, Some, None, Ok, codes, refl}
-use Rattle.sql_grammar.specs.Marks.{count}
-use Rattle.sql_grammar.specs.Statements.{all_statement_rules}
-use Rattle.sql_lex.specs.Pieces.{word_kind}
-use Rattle.sql_lex.specs.Tokens.{tokens_of}
+use Rattle.std.specs.Prelude.{◌≡◌, [], negsuc, None, Ok, codes, refl}
 use Rattle.sql_tree.specs.declared.expr.Expr.TheVariants as e
 use Rattle.sql_tree.specs.declared.expr.UnaryOp.TheVariants as sign
 use Rattle.sql_tree.specs.declared.token.Token.{Token}
-use Rattle.sql_tree.specs.declared.token.TokenKind.{TokenKind}
 use Rattle.sql_tree.specs.declared.token.TokenKind.TheVariants as kind
 use Rattle.eng_value.specs.declared.value.Value.TheVariants as value
 use Rattle.sql_meaning.specs.declared.bound.BoundExpr.TheVariants as bound
 use Rattle.sql_meaning.specs.declared.bound.Literal.TheVariants as literal
-use Rattle.sql_meaning.specs.Binding.{Scope, Bound, bound_of, over}
+use Rattle.sql_meaning.specs.Binding.{Scope, bound_of, over}
 use Rattle.sql_meaning.specs.BindingClauses.{bound_of-Literal, bound_of-Unary}
 
 abbrev number_at : Token

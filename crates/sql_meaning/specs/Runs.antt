@@ -1,11 +1,13 @@
--- Statements that run one after another, and what they come to where none is interrupted.
+-- Parts of a script that run one after another, and what they come to where none is interrupted.
 use Rattle.std.specs.Prelude.{◌≡◌, ◌≤◌, ⊤, ℕ, List, [], ◌∷◌, ◌++◌}
 use Rattle.std.specs.declared.option.Option.{Option}
 use Rattle.eng_value.specs.HostMeanings.{HostMeanings}
 use Rattle.eng_value.specs.declared.cause.Cause.{Cause}
+use Rattle.sql_meaning.specs.declared.script.Options.{Options}
+use Rattle.sql_meaning.specs.Parts.{Part, Statement, DotLine, BadCharacter}
 use Rattle.sql_meaning.specs.World.{State}
-use Rattle.sql_meaning.specs.Script.{Came, IsNamed, as_named}
-use Rattle.sql_meaning.specs.Statement.{text_outcome}
+use Rattle.sql_meaning.specs.Script.{Came, Follow, PartComes, as_named, ends}
+use Rattle.sql_meaning.specs.Statement.{IsNamed, text_outcome}
 use Rattle.sql_meaning.specs.Work.{instruction_bound}
 
 -- the state behind the last, or the first state where there is none
@@ -17,20 +19,37 @@ last_state state (o ∷ os) = last_state o.next os
 abbrev pub IsFrontOf : {X : Type 0} → List X → List X → Type 0
 IsFrontOf {X} front all = (rest : List X) × (front ++ rest ≡ all)
 
--- it is what the statement means, and a refusal names one of the causes
-abbrev pub IsAsMeant : HostMeanings → State → List ℕ → Came → Type 0
-IsAsMeant hosts state text o =
-    (why : Option Cause) × IsNamed (text_outcome hosts state [] text).refusal why × (o ≡ as_named (text_outcome hosts state [] text) why)
+-- it is what the statement means, a refusal names one of the causes, and the instructions are within the budget and the bound
+abbrev pub IsAsMeant : HostMeanings → ℕ → State → List ℕ → Came → Type 0
+IsAsMeant hosts budget state text o = (why : Option Cause) × (ran : ℕ) × IsNamed (text_outcome hosts state [] text).refusal why
+    × (ran ≤ budget) × (ran ≤ instruction_bound state text) × (o ≡ as_named (text_outcome hosts state [] text) why ran)
+
+-- the same of a part
+abbrev pub PartIsAsMeant : HostMeanings → ℕ → State → Part → Came → Type 0
+PartIsAsMeant hosts budget state (Statement text) o = IsAsMeant hosts budget state text o
+PartIsAsMeant hosts budget state (DotLine line) o = PartComes hosts budget state (DotLine line) o
+PartIsAsMeant hosts budget state (BadCharacter place) o = PartComes hosts budget state (BadCharacter place) o
 
 -- so are these, one after another
-abbrev pub AreAsMeant : HostMeanings → State → List (List ℕ) → List Came → Type 0
-AreAsMeant hosts state [] os = os ≡ []
-AreAsMeant hosts state (text ∷ texts) [] = ⊥
-AreAsMeant hosts state (text ∷ texts) (o ∷ os) =
-    IsAsMeant hosts state text o × AreAsMeant hosts (text_outcome hosts state [] text).next texts os
+abbrev pub AreAsMeant : HostMeanings → Options → State → List Part → List Came → Type 0
+AreAsMeant hosts options state [] os = os ≡ []
+AreAsMeant hosts options state (part ∷ parts) [] = ⊥
+AreAsMeant hosts options state (part ∷ parts) (o ∷ os) =
+    PartIsAsMeant hosts options.budget state part o × Follow (ends options o) os (AreAsMeant hosts options o.next parts os)
 
--- the budget is at least the bound of each
-abbrev pub IsEnough : HostMeanings → ℕ → State → List (List ℕ) → Type 0
+-- the state behind a part that runs as it means
+abbrev pub state_behind : HostMeanings → State → Part → State
+state_behind hosts state (Statement text) = (text_outcome hosts state [] text).next
+state_behind hosts state (DotLine line) = state
+state_behind hosts state (BadCharacter place) = state
+
+abbrev pub IsEnoughFor : ℕ → State → Part → Type 0
+IsEnoughFor budget state (Statement text) = instruction_bound state text ≤ budget
+IsEnoughFor budget state (DotLine line) = ⊤
+IsEnoughFor budget state (BadCharacter place) = ⊤
+
+-- the budget is at least the bound of each statement
+abbrev pub IsEnough : HostMeanings → ℕ → State → List Part → Type 0
 IsEnough hosts budget state [] = ⊤
-IsEnough hosts budget state (text ∷ texts) =
-    (instruction_bound state text ≤ budget) × IsEnough hosts budget (text_outcome hosts state [] text).next texts
+IsEnough hosts budget state (part ∷ parts) =
+    IsEnoughFor budget state part × IsEnough hosts budget (state_behind hosts state part) parts

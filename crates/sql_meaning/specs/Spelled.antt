@@ -1,6 +1,6 @@
 -- What the names and the literals of a text stand for (SQL Language Expressions, section 3; SQL Keywords).
-use Rattle.std.specs.Prelude.{◌≡◌, ℕ, suc, ◌-◌, ◌%◌, ◌^◌, ◌==◌, ◌&&◌, ◌||◌, nat_lt, Bool, true, false, List, [], ◌∷◌, take, drop, length, ℤ, pos, negsuc, ◌-ℤ◌, Option, Some, None, if◌then◌else◌, codes, refl}
-use Rattle.std.specs.Char.{digit_value, to_ascii_lowercase}
+use Rattle.std.specs.Prelude.{◌≡◌, ℕ, ◌-◌, ◌%◌, ◌^◌, ◌==◌, ◌&&◌, ◌||◌, nat_lt, Bool, false, List, [], ◌∷◌, take, drop, length, ℤ, pos, negsuc, ◌-ℤ◌, if◌then◌else◌, codes, refl}
+use Rattle.std.specs.Char.{to_ascii_lowercase}
 use Rattle.std.specs.Str.Parse.{digits_value}
 use Rattle.eng_number.specs.Forms.{digits}
 use Rattle.eng_number.specs.Numbers.{fits_integer}
@@ -8,8 +8,7 @@ use Rattle.eng_value.specs.declared.cause.Cause.TheVariants as cause
 use Rattle.eng_value.specs.declared.limits.TheConstants.{MAX_VALUE_BYTES}
 use Rattle.eng_value.specs.declared.value.Value.TheVariants as value
 use Rattle.eng_value.specs.Operators.{length_of}
-use Rattle.sql_lex.specs.Tokens.{slice_of, tokens_of}
-use Rattle.sql_lex.specs.Pieces.{word_kind}
+use Rattle.sql_lex.specs.Tokens.{slice_of}
 use Rattle.sql_tree.specs.declared.token.Token.{Token}
 use Rattle.sql_tree.specs.declared.token.TokenKind.{TokenKind}
 use Rattle.sql_tree.specs.declared.token.TokenKind.TheVariants as kind

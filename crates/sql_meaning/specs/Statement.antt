@@ -1,12 +1,11 @@
 -- The outcome of a statement.
-use Rattle.std.specs.Prelude.{ℕ, suc, nat_le, nat_lt, nat_eq, Bool, true, false, not, ◌&&◌, ◌||◌, List, [], ◌∷◌, ◌++◌, length, map, fold, drop, ◌-◌, ◌^◌, ℤ, pos, negsuc, neg_ℤ, Option, Some, None, Result, Ok, Err, option_map, if◌then◌else◌, codes}
-use Rattle.std.specs.FinSet as set
+use Rattle.std.specs.Prelude.{◌≡◌, ⊤, ℕ, suc, nat_le, nat_lt, nat_eq, Bool, true, false, List, [], ◌∷◌, ◌++◌, length, map, fold, drop, ◌-◌, ◌^◌, ℤ, negsuc, neg_ℤ, Option, Some, None, Result, Ok, Err, option_map, if◌then◌else◌, codes}
 use Rattle.std.specs.List.{list_any, flat_map}
 use Rattle.std.specs.Option.{option_to_list}
 use Rattle.eng_number.specs.Numbers.{fits_integer}
 use Rattle.eng_value.specs.Applied.{merged}
 use Rattle.eng_value.specs.Casts.{store_as}
-use Rattle.eng_value.specs.Causes.{CauseSet, only}
+use Rattle.eng_value.specs.Causes.{CauseSet, has_cause, only}
 use Rattle.eng_value.specs.Environments.{Environment}
 use Rattle.eng_value.specs.HostMeanings.{HostMeanings}
 use Rattle.eng_value.specs.StoredRows.{StoredRow, next_rowid}
@@ -391,3 +390,9 @@ parsed_outcome hosts state params text (Some s) =
 -- the outcome of a statement's text with these parameters
 abbrev pub text_outcome : HostMeanings → State → List Value → List ℕ → Outcome
 text_outcome hosts state params text = parsed_outcome hosts state params text (statement_of text)
+
+-- one of the causes is named, where there are any
+abbrev pub IsNamed : Option CauseSet → Option Cause → Type 0
+IsNamed None None = ⊤
+IsNamed (Some causes) (Some why) = has_cause causes why ≡ true
+IsNamed _ _ = ⊥

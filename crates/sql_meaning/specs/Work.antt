@@ -1,8 +1,6 @@
 -- The size of a statement and the work that it asks for. Together they bound the instructions that it runs, whatever its plan.
 use Rattle.std.specs.Prelude.{ℕ, ◌+◌, ◌*◌, List, length, Option, Some, None}
 use Rattle.sql_lex.specs.Tokens.{tokens_of}
-use Rattle.sql_tree.specs.declared.statement.Insert.{Insert}
-use Rattle.sql_tree.specs.declared.statement.Select.{Select}
 use Rattle.sql_tree.specs.declared.statement.Statement.{Statement}
 use Rattle.sql_tree.specs.declared.statement.Statement.TheVariants as statement
 use Rattle.sql_tree.specs.declared.token.Token.{Token}

@@ -10,14 +10,14 @@
 mod bound;
 mod builtins;
 mod column;
-mod ending;
 mod laws;
+mod script;
 
 pub use bound::{BoundArm, BoundExpr, BoundInsert, BoundMatch, BoundSelect, Literal};
 pub use builtins::{ArgumentCount, BUILTINS};
 pub use column::{Column, TableEntry};
-pub use ending::Ending;
 pub use laws::{
     a_refusal_keeps_the_state, each_refusal_has_a_cause, enough_budget_leaves_the_meaning,
-    scripts_are_cut_in_one_way, scripts_keep_their_outcomes, statuses_tell_of_refusals,
+    parts_stay, scripts_keep_their_outcomes, statuses_tell_of_failures,
 };
+pub use script::{Ending, Failure, Options};

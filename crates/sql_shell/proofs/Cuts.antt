@@ -1,63 +1,137 @@
--- The texts of a script, from the front.
-use Rattle.std.proofs.Common.{◌≡◌, ℕ, Bool, true, false, List, [], ◌∷◌, ◌++◌, refl, sym, ◌∙◌, ap, append_assoc, append-nil, take, drop, get_or, length, ◌<◌, ◌≤◌, ◌+◌, ◌-◌}
-use Rattle.std.proofs.lemmas.List.{drop_more, take_more, take_all, drop_all, take_rest, drop-drop}
-use Rattle.std.specs.Prelude.{nat_eq, not, ◌&&◌, cond}
-use Rattle.sql_meaning.specs.Script.{is_quote, onto, texts_between}
+-- The parts of a script, from the front.
+use Rattle.std.proofs.Common.{Bor, ◌≡◌, ◌≢◌, ℕ, zero, suc, Bool, true, false, cond, List, [], ◌∷◌, ◌++◌, Option, Some, None, refl, sym, ◌∙◌, ap, subst, take, drop, length, length-drop, ◌<◌, ◌≤◌, ◌+◌, ◌-◌, ◌==◌, ◌&&◌, arith}
+use Rattle.std.specs.Prelude.{MatchOption, if◌then◌else◌, is_some, nat_lt, not, slice_index, unwrap_or}
+use Rattle.std.proofs.lemmas.Bool.{le-ltb, lt-ltb}
+use Rattle.std.proofs.lemmas.Bool.{eqb-true}
+use Rattle.std.proofs.lemmas.List.{drop_all, take_all}
+use Rattle.std.proofs.lemmas.Str.{utf8_valid_len-IsUtf8}
+use Rattle.std.specs.Str.{IsUtf8}
+use Rattle.std.specs.Str.Lossy.{utf8_error_len, utf8_valid_len}
+use Rattle.sql_lex.specs.Cutting.{blank_width}
+use Rattle.sql_lex.specs.Pieces.{begins_with}
+use Rattle.sql_meaning.specs.declared.script.Ending.{Ending}
+use Rattle.sql_meaning.specs.declared.script.Ending.TheVariants.{End, ReadFault, TooLong}
+use Rattle.sql_meaning.specs.Parts.{Part, bad_character, characters, end_of, may_go_on, part_here, part_of, part_up_to, parts_from, width_here, width_up_to, without_return}
+use Rattle.sql_shell.specs.Cuts.{goes_on}
 
--- the texts, where the first has begun with these bytes
-abbrev pub begun : List ℕ → List (List ℕ) → List (List ℕ)
-begun front [] = front ∷ []
-begun front (text ∷ texts) = (front ++ text) ∷ texts
+-- ---- what stands at the front
 
--- whether the next byte stands inside a `'..'`
-abbrev pub quoted_behind : ℕ → Bool → Bool
-quoted_behind b quoted = cond (is_quote b) (not quoted) quoted
+-- behind so many more bytes
+parts_from-skip : (runs : Bool) (before skip : ℕ) (bytes : List ℕ) → skip ≤ length bytes → parts_from runs (before == 10) skip bytes ≡ parts_from runs (slice_index (before ∷ bytes) skip == 10) 0 (drop skip bytes)
+parts_from-skip runs before zero bytes within = refl
+parts_from-skip runs before (suc skip) [] within = absurd (omega arith)
+parts_from-skip runs before (suc skip) (b ∷ bytes) within = parts_from-skip runs b skip bytes (omega arith)
 
-begun-onto : (front : List ℕ) (b : ℕ) (texts : List (List ℕ)) → begun front (onto b texts) ≡ begun (front ++ b ∷ []) texts
-begun-onto front b [] = refl
-begun-onto front b (text ∷ texts) = ap (λ t. t ∷ texts) (sym (append_assoc front (b ∷ []) text))
+parts_from-here : (runs fresh : Bool) (bytes : List ℕ) (width : ℕ) → bytes ≢ [] → width_here (fresh && begins_with 46 bytes) bytes ≡ width → 0 < width → width ≤ length bytes
+    → parts_from runs fresh 0 bytes ≡ part_here runs (fresh && begins_with 46 bytes) bytes ++ parts_from runs (slice_index bytes (width - 1) == 10) 0 (drop width bytes)
+parts_from-here runs fresh [] width some is one within = absurd (some refl)
+parts_from-here runs fresh (b ∷ bytes) zero some is one within = absurd (omega arith)
+parts_from-here runs fresh (b ∷ bytes) (suc skip) some is one within =
+    let line = fresh && b == 46 in
+    let same : skip ≡ suc skip - 1 = omega arith in
+    let behind : width_here line (b ∷ bytes) - 1 ≡ skip = omega (arith, is) in
+    ap (λ w. part_here runs line (b ∷ bytes) ++ parts_from runs (b == 10) w bytes) behind
+    ∙ (ap (λ ps. part_here runs line (b ∷ bytes) ++ ps) (parts_from-skip runs b skip bytes (omega arith))
+    ∙ ap (λ w. part_here runs line (b ∷ bytes) ++ parts_from runs (slice_index (b ∷ bytes) w == 10) 0 (drop skip bytes)) same)
 
-begun-nil-onto : (b : ℕ) (texts : List (List ℕ)) → begun [] (onto b texts) ≡ onto b texts
-begun-nil-onto b [] = refl
-begun-nil-onto b (text ∷ texts) = refl
+-- the part that was found, so many bytes wide, and what is behind it
+pub cut_is : (runs fresh : Bool) (text : List ℕ) (width : ℕ) (part : List Part) (fresh' : Bool) (rest : List ℕ) → text ≢ [] → part_here runs (fresh && begins_with 46 text) text ≡ part → width_here (fresh && begins_with 46 text) text ≡ width
+    → 0 < width → width ≤ length text → rest ≡ drop width text → fresh' ≡ (slice_index text (width - 1) == 10) → parts_from runs fresh 0 text ≡ part ++ parts_from runs fresh' 0 rest
+cut_is runs fresh text width part fresh' rest some part_is is one within rest_is fresh_is =
+    parts_from-here runs fresh text width some is one within
+    ∙ (ap (λ ps. ps ++ parts_from runs (slice_index text (width - 1) == 10) 0 (drop width text)) part_is
+    ∙ (ap (λ f. part ++ parts_from runs f 0 (drop width text)) (sym fresh_is) ∙ ap (λ r. part ++ parts_from runs fresh' 0 r) (sym rest_is)))
 
-begun-nil-cond : (c : Bool) (texts : List (List ℕ)) (b : ℕ) (others : List (List ℕ)) → begun [] (cond c ([] ∷ texts) (onto b others)) ≡ cond c ([] ∷ texts) (onto b others)
-begun-nil-cond true texts b others = refl
-begun-nil-cond false texts b others = begun-nil-onto b others
+-- white space or a comment
+pub blank_here : (runs line : Bool) (text : List ℕ) → 0 < blank_width text → (part_here runs line text ≡ []) × (width_here line text ≡ blank_width text)
+blank_here runs line text some =
+    let e = lt-ltb 0 (blank_width text) some in (
+      ap (λ c. cond c [] (part_up_to runs line (end_of line text) text)) e,
+      ap (λ c. cond c (blank_width text) (width_up_to (end_of line text) text)) e,
+    )
 
--- there is always a first text
-pub begun-nil : (quoted : Bool) (bytes : List ℕ) → begun [] (texts_between quoted bytes) ≡ texts_between quoted bytes
-begun-nil quoted [] = refl
-begun-nil quoted (b ∷ bs) = begun-nil-cond (nat_eq b 59 && not quoted) (texts_between false bs) b (texts_between (quoted_behind b quoted) bs)
+-- a part, up to its end if it has one
+pub token_here : (runs line : Bool) (text : List ℕ) (end : Option ℕ) → blank_width text ≤ 0 → end ≡ end_of line text → (part_here runs line text ≡ part_up_to runs line end text) × (width_here line text ≡ width_up_to end text)
+token_here runs line text end none is =
+    let e = le-ltb 0 (blank_width text) none in (
+      ap (λ c. cond c [] (part_up_to runs line (end_of line text) text)) e ∙ ap (λ x. part_up_to runs line x text) (sym is),
+      ap (λ c. cond c (blank_width text) (width_up_to (end_of line text) text)) e ∙ ap (λ x. width_up_to x text) (sym is),
+    )
 
--- the next byte ends the first text
-pub begun_ends : (front : List ℕ) (quoted : Bool) (b : ℕ) (bs : List ℕ) → (nat_eq b 59 && not quoted) ≡ true → begun front (texts_between quoted (b ∷ bs)) ≡ front ∷ texts_between false bs
-begun_ends front quoted b bs e =
-    ap (λ c. begun front (cond c ([] ∷ texts_between false bs) (onto b (texts_between (quoted_behind b quoted) bs)))) e ∙ ap (λ t. t ∷ texts_between false bs) (append-nil front)
+-- ---- what the code finds there
 
--- the next byte goes on with it
-pub begun_goes_on : (front : List ℕ) (quoted : Bool) (b : ℕ) (bs : List ℕ) → (nat_eq b 59 && not quoted) ≡ false → begun front (texts_between quoted (b ∷ bs)) ≡ begun (front ++ b ∷ []) (texts_between (quoted_behind b quoted) bs)
-begun_goes_on front quoted b bs e =
-    ap (λ c. begun front (cond c ([] ∷ texts_between false bs) (onto b (texts_between (quoted_behind b quoted) bs)))) e ∙ begun-onto front b (texts_between (quoted_behind b quoted) bs)
+pub some_length : (text : List ℕ) → text ≢ [] → 0 < length text
+some_length [] some = absurd (some refl)
+some_length (b ∷ text) some = omega arith
 
--- the same at a place
-pub cut_ends : (bytes : List ℕ) (place : ℕ) (quoted : Bool) → place < length bytes → (nat_eq (get_or bytes place 0) 59 && not quoted) ≡ true → begun (take place bytes) (texts_between quoted (drop place bytes)) ≡ take place bytes ∷ texts_between false (drop (place + 1) bytes)
-cut_ends bytes place quoted within e =
-    ap (λ bs. begun (take place bytes) (texts_between quoted bs)) (drop_more bytes place 0 within) ∙ begun_ends (take place bytes) quoted (get_or bytes place 0) (drop (place + 1) bytes) e
+module _ (runs fresh line : Bool) (text : List ℕ) (part : List Part) (fresh' : Bool) (rest : List ℕ) (some : text ≢ []) where
+  pub cut_blank : (width : ℕ) → width ≡ blank_width text → 0 < width → width ≤ length text → part ≡ [] → rest ≡ drop width text → fresh' ≡ (slice_index text (width - 1) == 10)
+      → parts_from runs fresh 0 text ≡ part ++ parts_from runs fresh' 0 rest
+  cut_blank width is one within part_is rest_is fresh_is =
+      let here = blank_here runs (fresh && begins_with 46 text) text (omega (arith, is)) in
+      cut_is runs fresh text width part fresh' rest some (here.0 ∙ sym part_is) (here.1 ∙ sym is) one within rest_is fresh_is
 
-pub cut_goes_on : (bytes : List ℕ) (place : ℕ) (quoted : Bool) → place < length bytes → (nat_eq (get_or bytes place 0) 59 && not quoted) ≡ false → begun (take place bytes) (texts_between quoted (drop place bytes)) ≡ begun (take (place + 1) bytes) (texts_between (quoted_behind (get_or bytes place 0) quoted) (drop (place + 1) bytes))
-cut_goes_on bytes place quoted within e =
-    let b = get_or bytes place 0 in
-    ap (λ bs. begun (take place bytes) (texts_between quoted bs)) (drop_more bytes place 0 within)
-    ∙ (begun_goes_on (take place bytes) quoted b (drop (place + 1) bytes) e ∙ ap (λ front. begun front (texts_between (quoted_behind b quoted) (drop (place + 1) bytes))) (sym (take_more bytes place 0 within)))
+  module _ (line_is : line ≡ (fresh && begins_with 46 text)) (blank : blank_width text ≤ 0) where
+    here_is : (end : Option ℕ) → end ≡ end_of line text → (part_here runs (fresh && begins_with 46 text) text ≡ part_up_to runs line end text) × (width_here (fresh && begins_with 46 text) text ≡ width_up_to end text)
+    here_is end is = subst (λ l. (part_here runs l text ≡ part_up_to runs line end text) × (width_here l text ≡ width_up_to end text)) line_is (token_here runs line text end blank is)
 
--- past the last byte
-pub cut_none : (bytes : List ℕ) (place : ℕ) (quoted : Bool) → length bytes ≤ place → begun (take place bytes) (texts_between quoted (drop place bytes)) ≡ bytes ∷ []
-cut_none bytes place quoted past =
-    ap (λ bs. begun (take place bytes) (texts_between quoted bs)) (drop_all place bytes past) ∙ ap (λ t. t ∷ []) (append-nil (take place bytes) ∙ take_all place bytes past)
+    -- a part with an end
+    pub cut_ended : (end : ℕ) → Some end ≡ end_of line text → end < length text → part ≡ part_of line (take end text) → rest ≡ drop (end + 1) text → fresh' ≡ (slice_index text (end + 1 - 1) == 10)
+        → parts_from runs fresh 0 text ≡ part ++ parts_from runs fresh' 0 rest
+    cut_ended end is within part_is rest_is fresh_is =
+        let here = here_is (Some end) is in
+        let one : suc end ≡ end + 1 = omega arith in
+        cut_is runs fresh text (end + 1) part fresh' rest some (here.0 ∙ sym part_is) (here.1 ∙ one) (omega arith) (omega arith) rest_is fresh_is
 
--- the first text and what stands behind its `;`, as two slices
-pub cut_in_two : (bytes front back : List ℕ) (end : ℕ) → texts_between false bytes ≡ take end bytes ∷ texts_between false (drop (end + 1) bytes) → front ≡ take end bytes → back ≡ drop end bytes → texts_between false bytes ≡ front ∷ texts_between false (take (length back - 1) (drop 1 back))
-cut_in_two bytes front back end cut f b =
-    let behind : take (length back - 1) (drop 1 back) ≡ drop (end + 1) bytes = take_rest back 1 ∙ (ap (drop 1) b ∙ drop-drop 1 end bytes) in
-    cut ∙ (ap (λ t. t ∷ texts_between false (drop (end + 1) bytes)) (sym f) ∙ ap (λ bs. front ∷ texts_between false bs) (sym behind))
+    -- the pending part
+    pub cut_pending : None ≡ end_of line text → 0 < length text → part ≡ (if runs then part_of line text else []) → rest ≡ drop (length text) text → fresh' ≡ (slice_index text (length text - 1) == 10)
+        → parts_from runs fresh 0 text ≡ part ++ parts_from runs fresh' 0 rest
+    cut_pending is one part_is rest_is fresh_is =
+        let here = here_is None is in
+        cut_is runs fresh text (length text) part fresh' rest some (here.0 ∙ sym part_is) here.1 one (omega arith) rest_is fresh_is
+
+-- ---- lines
+
+-- the carriage return at the end goes
+without_return-of : (front : List ℕ) → without_return (front ++ 13 ∷ []) ≡ front
+without_return-of [] = refl
+without_return-of (b ∷ []) = refl
+without_return-of (b ∷ c ∷ front) = ap (λ line. b ∷ line) (without_return-of (c ∷ front))
+
+no_return : (b : ℕ) → ((front : List ℕ) → b ∷ [] ≢ front ++ 13 ∷ []) → (r : Bool) → (b == 13) ≡ r → cond r [] (b ∷ []) ≡ b ∷ []
+no_return b none true e = absurd (none [] (ap (λ x. x ∷ []) (eqb-true b 13 e)))
+no_return b none false e = refl
+
+-- a line that has none at its end stays
+without_return-none : (line : List ℕ) → ((front : List ℕ) → line ≢ front ++ 13 ∷ []) → without_return line ≡ line
+without_return-none [] none = refl
+without_return-none (b ∷ []) none = no_return b none (b == 13) refl
+without_return-none (b ∷ c ∷ line) none = ap (λ rest. b ∷ rest) (without_return-none (c ∷ line) (λ front e. none (b ∷ front) (ap (λ rest. b ∷ rest) e)))
+
+pub stripped : (line : Bor (List ℕ)) (r : Option (Bor (List ℕ))) → MatchOption r ((front : List ℕ) → line.now ≢ front ++ 13 ∷ []) (λ x. line.now ≡ x.now ++ 13 ∷ []) → (unwrap_or r line).now ≡ without_return line.now
+stripped line None none = sym (without_return-none line.now none)
+stripped line (Some x) is = sym (ap without_return is ∙ without_return-of x.now)
+
+-- ---- characters
+
+-- whole UTF-8 has no bad character
+pub whole-bad : (ending : Ending) (bytes : List ℕ) → IsUtf8 bytes → None ≡ bad_character ending bytes
+whole-bad ending bytes utf8 =
+    let rest : drop (utf8_valid_len bytes) bytes ≡ [] = ap (λ n. drop n bytes) (utf8_valid_len-IsUtf8 bytes utf8) ∙ drop_all (length bytes) bytes (omega arith) in
+    ap (λ r. cond (may_go_on ending r) None (Some (utf8_valid_len bytes))) (sym rest)
+
+pub whole-text : (bytes : List ℕ) → IsUtf8 bytes → bytes ≡ characters bytes
+whole-text bytes utf8 = sym (ap (λ n. take n bytes) (utf8_valid_len-IsUtf8 bytes utf8) ∙ take_all (length bytes) bytes (omega arith))
+
+-- behind whole characters, something stands there
+may_go_on-some : (ending : Ending) (rest : List ℕ) (fault : Option ℕ) → 0 < length rest → fault ≡ utf8_error_len rest → may_go_on ending rest ≡ goes_on ending fault
+may_go_on-some ending [] fault some is = absurd (omega arith)
+may_go_on-some End (b ∷ rest) fault some is = refl
+may_go_on-some ReadFault (b ∷ rest) fault some is = ap (λ f. not (is_some f)) (sym is)
+may_go_on-some TooLong (b ∷ rest) fault some is = ap (λ f. not (is_some f)) (sym is)
+
+pub faulty-bad : (ending : Ending) (bytes : List ℕ) (place : ℕ) (fault bad : Option ℕ) (goes : Bool) → place ≡ utf8_valid_len bytes → place < length bytes → fault ≡ utf8_error_len (drop place bytes) → goes ≡ goes_on ending fault
+    → bad ≡ cond goes None (Some place) → bad ≡ bad_character ending bytes
+faulty-bad ending bytes place fault bad goes is within fault_is goes_is bad_is =
+    let same : may_go_on ending (drop place bytes) ≡ goes = may_go_on-some ending (drop place bytes) fault (omega (arith, length-drop place bytes)) fault_is ∙ sym goes_is in
+    bad_is ∙ (ap (λ g. cond g None (Some place)) (sym same) ∙ ap (λ n. cond (may_go_on ending (drop n bytes)) None (Some n)) is)

@@ -1,26 +1,29 @@
--- What statements came to, one after another.
-use Rattle.std.proofs.Common.{◌≡◌, ◌≢◌, ◌≤◌, ◌⊎◌, inl, inr, ℕ, ◌+◌, ◌-◌, suc, Bool, true, false, ◌||◌, List, [], ◌∷◌, ◌++◌, length, take, filter, refl, sym, ◌∙◌, ap, subst, append-nil, append_assoc, arith}
-use Rattle.std.specs.Prelude.{cond, is_some}
+-- What parts of a script came to, one after another.
+use Rattle.std.proofs.Common.{◌≡◌, ◌≤◌, ℕ, ◌+◌, ◌-◌, Bool, true, false, ◌&&◌, ◌||◌, List, [], ◌∷◌, ◌++◌, Option, Some, None, refl, sym, ◌∙◌, ap, subst, append-nil, append_assoc, length, ◌==◌, arith}
+use Rattle.std.specs.Prelude.{is_some}
 use Rattle.std.specs.List.{flat_map, list_any}
+use Rattle.std.proofs.lemmas.Bool.{eqb-true}
 use Rattle.std.proofs.KnownBytes.{Appends-nil, Appends-trans}
 use Rattle.std.proofs.lemmas.Grind.{flat_map-append}
-use Rattle.std.proofs.lemmas.List.Elements.{filter-append}
-use Rattle.std.specs.declared.option.Option.{Option}
 use Rattle.std.specs.Io.KnownBytes.{Appends}
 use Rattle.eng_value.specs.HostMeanings.{HostMeanings}
 use Rattle.eng_value.specs.declared.cause.Cause.{Cause}
-use Rattle.eng_value.specs.declared.limits.TheConstants.{DEFAULT_BUDGET}
 use Rattle.eng_value.specs.declared.value.Value.{Value}
-use Rattle.sql_meaning.specs.declared.ending.Ending.{Ending}
-use Rattle.sql_meaning.specs.declared.ending.Ending.TheVariants.{End, ReadFault, TooLong}
+use Rattle.sql_meaning.specs.declared.script.Failure.{Failure}
+use Rattle.sql_meaning.specs.declared.script.Failure.TheVariants.{Refused, UnknownDotLine, NotUtf8}
+use Rattle.sql_meaning.specs.declared.script.Options.{Options}
 use Rattle.sql_meaning.specs.Due.{Along, CutShort}
+use Rattle.sql_meaning.specs.Parts.{Part, Statement, DotLine, BadCharacter, parts_from}
 use Rattle.sql_meaning.specs.Runs.{last_state}
-use Rattle.sql_meaning.specs.Script.{Came, Come, all_but_last, bound_together, came_lines, due_of, is_refused, is_statement, lines_of, refusal_lines, row_line, texts_between}
+use Rattle.sql_meaning.specs.Script.{Came, Come, Comes, Follow, PartComes, as_meant, as_named, came_lines, cut_off, ends, error_line, error_lines, failed, instructions, is_bad_character, is_failed, lines_of, row_line}
+use Rattle.sql_meaning.specs.Statement.{IsNamed, Outcome, text_outcome}
 use Rattle.sql_meaning.specs.Work.{instruction_bound}
 use Rattle.sql_meaning.specs.World.{State, new_state}
-use Rattle.sql_shell.specs.Running.{CameTo, Ran, RanPartly, statements_in_pending, statements_in_rest, statements_in_text}
-use Rattle.sql_meaning.proofs.CuttingLaws.{texts_between-some}
-use Rattle.sql_meaning.proofs.OutcomeLaws.{Come-append, Come-some, Comes-some, bound_together-append, last_state-append}
+use Rattle.sql_shell.specs.declared.course.Course.{Course}
+use Rattle.sql_shell.specs.Courses.{at_end, ended_in, failed_in}
+use Rattle.sql_shell.specs.Running.{Ran, RanPartly}
+use Rattle.sql_meaning.proofs.CausedLaws.{text_outcome-named}
+use Rattle.sql_meaning.proofs.OutcomeLaws.{Come-append, Come-ended, Come-more, PartComes-some, instructions-append, last_state-append}
 use Rattle.sql_shell.proofs.Due.{along_start, along_more, cut_at_start, cut_more, cut_short}
 
 -- ---- lines
@@ -50,199 +53,269 @@ front_behind u v w os ps p q =
     let all : lines_of ps ≡ lines_of ps ++ [] = sym (append-nil (lines_of ps)) in
     subst (λ xs. CutShort u w xs) (sym (lines_of-append os ps)) (cut_more u v w (lines_of ps) [] due (subst (λ r. Along u v r due) all rest) q)
 
--- ---- whether one was refused
+-- ---- whether there is an error line
 
 or_assoc : (a b c : Bool) → (a || (b || c)) ≡ ((a || b) || c)
 or_assoc true b c = refl
 or_assoc false b c = refl
 
-refused-append : (os ps : List Came) → list_any is_refused (os ++ ps) ≡ (list_any is_refused os || list_any is_refused ps)
-refused-append [] ps = refl
-refused-append (o ∷ os) ps = ap (λ b. is_refused o || b) (refused-append os ps) ∙ or_assoc (is_refused o) (list_any is_refused os) (list_any is_refused ps)
+any-append : (test : Came → Bool) (os ps : List Came) → list_any test (os ++ ps) ≡ (list_any test os || list_any test ps)
+any-append test [] ps = refl
+any-append test (o ∷ os) ps = ap (λ b. test o || b) (any-append test os ps) ∙ or_assoc (test o) (list_any test os) (list_any test ps)
 
 or-false : (b : Bool) → (b || false) ≡ b
 or-false true = refl
 or-false false = refl
 
--- ---- no statement
+pub and-false : (b : Bool) → (b && false) ≡ false
+and-false true = refl
+and-false false = refl
 
-pub ran_none : (h : HostMeanings) (s : State) (u : Option (List ℕ)) (n : ℕ) → Ran h s s [] u u n n false
-ran_none h s u n = record {
+-- ---- no part
+
+pub ran_none : (h : HostMeanings) (options : Options) (s : State) (u : Option (List ℕ)) (n : ℕ) → Ran h options s s [] u u n n false false
+ran_none h options s u n = record {
   came = [];
   outcomes = refl;
   state_is = refl;
   lines = subst (λ all. Appends u u all) (sym lines_of-none) (Appends-nil u);
-  refusals = refl;
-  most = omega arith;
+  failures = refl;
+  endings = refl;
+  ran = omega arith;
 }
 
--- ---- one statement
+-- with no error line no script ends
+pub ran_nothing : (h : HostMeanings) (options : Options) (s : State) (u : Option (List ℕ)) (n : ℕ) → Ran h options s s [] u u n n false (options.bail && false)
+ran_nothing h options s u n = subst (λ x. Ran h options s s [] u u n n false x) (sym (and-false options.bail)) (ran_none h options s u n)
 
-module _ (h : HostMeanings) (s next : State) (t : List ℕ) (rows : List (List Value)) (refusal : Option Cause) (came_to : CameTo h s t rows refusal next) where
-  abbrev it : Came
-  it = record { refusal = refusal; given = rows; next = next }
+-- ---- one part
 
-  due : (piece start : List ℕ) → start ≡ [] → piece ≡ start ++ (flat_map row_line rows ++ refusal_lines refusal) → piece ≡ lines_of (it ∷ [])
-  due piece start none printed = printed ∙ (ap (λ front. front ++ came_lines it) none ∙ sym (lines_of-one it))
+follow_none : (h : HostMeanings) (options : Options) (s : State) (e : Bool) → Follow e [] (Come h options s [] [])
+follow_none h options s true = refl
+follow_none h options s false = refl
 
-  pub ran_one : (u v : Option (List ℕ)) (before after : ℕ) (piece start : List ℕ) (refused : Bool) → start ≡ [] → piece ≡ start ++ (flat_map row_line rows ++ refusal_lines refusal)
-      → Appends u v piece → refused ≡ is_some refusal → after ≤ before + instruction_bound s t → Ran h s next (t ∷ []) u v before after refused
-  ran_one u v before after piece start refused none printed written is most = record {
-    came = it ∷ [];
-    outcomes = (came_to, refl);
+module _ (h : HostMeanings) (options : Options) (s : State) (part : Part) (o : Came) (comes : PartComes h options.budget s part o) where
+  alone : Come h options s (part ∷ []) (o ∷ [])
+  alone = (comes, follow_none h options o.next (ends options o))
+
+  -- its lines were written
+  pub ran_one : (u v : Option (List ℕ)) (before after : ℕ) (piece : List ℕ) (has_failed has_ended : Bool) → piece ≡ came_lines o → Appends u v piece → after ≡ before + o.ran → has_failed ≡ is_failed o → has_ended ≡ ends options o
+      → Ran h options s o.next (part ∷ []) u v before after has_failed has_ended
+  ran_one u v before after piece has_failed has_ended due written ticks fails ends_is = record {
+    came = o ∷ [];
+    outcomes = alone;
     state_is = refl;
-    lines = subst (λ all. Appends u v all) (due piece start none printed) written;
-    refusals = is ∙ sym (or-false (is_some refusal));
-    most = omega arith;
+    lines = subst (λ all. Appends u v all) (due ∙ sym (lines_of-one o)) written;
+    failures = fails ∙ sym (or-false (is_failed o));
+    endings = ends_is ∙ sym (or-false (ends options o));
+    ran = omega arith;
   }
 
-  pub ran_one_partly : (u v : Option (List ℕ)) (before after : ℕ) (piece start : List ℕ) → start ≡ [] → piece ≡ start ++ (flat_map row_line rows ++ refusal_lines refusal)
-      → CutShort u v piece → after ≤ before + instruction_bound s t → RanPartly h s (t ∷ []) u v before after
-  ran_one_partly u v before after piece start none printed written most = record {
-    came = it ∷ [];
-    outcomes = (came_to, refl);
-    front = subst (λ all. CutShort u v all) (due piece start none printed) written;
-    most = omega arith;
+  -- a front of them was
+  pub ran_one_partly : (u v : Option (List ℕ)) (before after : ℕ) (piece : List ℕ) → piece ≡ came_lines o → CutShort u v piece → after ≤ before + o.ran → RanPartly h options s (part ∷ []) u v before after
+  ran_one_partly u v before after piece due written ticks = record {
+    came = o ∷ [];
+    outcomes = alone;
+    front = subst (λ all. CutShort u v all) (due ∙ sym (lines_of-one o)) written;
+    ran = omega arith;
   }
+
+-- a statement's failure is no bad character
+named-good : (m : Outcome) (why : Option Cause) (ran : ℕ) → is_bad_character (as_named m why ran).failure ≡ false
+named-good m None ran = refl
+named-good m (Some why) ran = refl
+
+came-good : (h : HostMeanings) (budget : ℕ) (s : State) (text : List ℕ) (o : Came) → Comes h budget s text o → is_bad_character o.failure ≡ false
+came-good h budget s text o (as_meant why ran named within few) = named-good (text_outcome h s [] text) why ran
+came-good h budget s text o (cut_off front rest whole below) = refl
+
+-- so it ends the script where each error line does
+pub came-ends : (h : HostMeanings) (options : Options) (s : State) (text : List ℕ) (o : Came) → Comes h options.budget s text o → (options.bail && is_failed o) ≡ ends options o
+came-ends h options s text o comes = sym (ap (λ b. (options.bail && is_failed o) || b) (came-good h options.budget s text o comes) ∙ or-false (options.bail && is_failed o))
 
 -- nothing of its lines was written
-pub ran_unwritten : (h : HostMeanings) (s : State) (t : List ℕ) (u : Option (List ℕ)) (before after : ℕ) → after ≤ before + instruction_bound s t → RanPartly h s (t ∷ []) u u before after
-ran_unwritten h s t u before after most =
-    let o = Comes-some h DEFAULT_BUDGET s t in
-    record {
-      came = o.0 ∷ [];
-      outcomes = (o.1, refl);
-      front = cut_at_start u (lines_of (o.0 ∷ []));
-      most = omega arith;
-    }
+unwritten : (m : Outcome) (why : Option Cause) (ran : ℕ) → (as_named m why ran).ran ≡ ran
+unwritten m None ran = refl
+unwritten m (Some why) ran = refl
 
--- a text of white space alone has none
-pub in_text : (t : List ℕ) → is_statement t ≡ true → statements_in_text t ≡ t ∷ []
-in_text t e = ap (λ b. cond b (t ∷ []) []) e
+pub ran_unwritten : (h : HostMeanings) (options : Options) (s : State) (text : List ℕ) (u : Option (List ℕ)) (before after : ℕ) → before ≤ after → after ≤ before + options.budget → after ≤ before + instruction_bound s text
+    → RanPartly h options s (Statement text ∷ []) u u before after
+ran_unwritten h options s text u before after later within few =
+    let m = text_outcome h s [] text in
+    let n = text_outcome-named h s [] text in
+    let o : Came = as_named m n.0 (after - before) in
+    let ran_is = unwritten m n.0 (after - before) in
+    ran_one_partly h options s (Statement text) o (as_meant n.0 (after - before) n.1 (omega arith) (omega arith)) u u before after (came_lines o) refl (cut_at_start u (came_lines o)) (omega (arith, ran_is, later))
 
-pub no_statement : (t : List ℕ) → is_statement t ≡ false → statements_in_text t ≡ []
-no_statement t e = ap (λ b. cond b (t ∷ []) []) e
+-- a part that is an error line alone
+error_alone : (why : Failure) (s : State) → error_line why ≡ came_lines (failed s why)
+error_alone why s = refl
 
--- what is pending runs only where the bytes end
-pub pending_none : (ending : Ending) (t : List ℕ) → (ending ≡ ReadFault) ⊎ (ending ≡ TooLong) → statements_in_pending ending t ≡ []
-pending_none ending t (inl e) = ap (λ k. statements_in_pending k t) e
-pending_none ending t (inr e) = ap (λ k. statements_in_pending k t) e
+module _ (h : HostMeanings) (options : Options) (s : State) (u v : Option (List ℕ)) (n : ℕ) where
+  pub ran_dot_line : (line : List ℕ) → Appends u v (error_line UnknownDotLine) → Ran h options s s (DotLine line ∷ []) u v n n true (options.bail && true)
+  ran_dot_line line written =
+      ran_one h options s (DotLine line) (failed s UnknownDotLine) refl u v n n (error_line UnknownDotLine) true (options.bail && true) (error_alone UnknownDotLine s) written (omega arith) refl (sym (or-false (options.bail && true)))
 
--- ---- statements, and then others
+  pub ran_dot_line_partly : (line : List ℕ) → CutShort u v (error_line UnknownDotLine) → RanPartly h options s (DotLine line ∷ []) u v n n
+  ran_dot_line_partly line written =
+      ran_one_partly h options s (DotLine line) (failed s UnknownDotLine) refl u v n n (error_line UnknownDotLine) (error_alone UnknownDotLine s) written (omega arith)
 
-pub ran_append : (h : HostMeanings) (s s' s'' : State) (xs ys : List (List ℕ)) (u v w : Option (List ℕ)) (a b c : ℕ) (r r' : Bool) → Ran h s s' xs u v a b r → Ran h s' s'' ys v w b c r' → Ran h s s'' (xs ++ ys) u w a c (r || r')
-ran_append h s s' s'' xs ys u v w a b c r r' p q =
-    let others : Come h DEFAULT_BUDGET (last_state s p.came) ys q.came = subst (λ x. Come h DEFAULT_BUDGET x ys q.came) p.state_is q.outcomes in
-    let parts = bound_together-append h DEFAULT_BUDGET s xs ys p.came q.came p.outcomes in
-    let same : bound_together s' ys q.came ≡ bound_together (last_state s p.came) ys q.came = ap (λ x. bound_together x ys q.came) p.state_is in
-    let first = p.most in
-    let second = q.most in
-    record {
-      came = p.came ++ q.came;
-      outcomes = Come-append h DEFAULT_BUDGET s xs ys p.came q.came p.outcomes others;
-      state_is = q.state_is ∙ (ap (λ x. last_state x q.came) p.state_is ∙ sym (last_state-append s p.came q.came));
-      lines = subst (λ all. Appends u w all) (sym (lines_of-append p.came q.came)) (Appends-trans u v w (lines_of p.came) (lines_of q.came) p.lines q.lines);
-      refusals = ap (λ x. x || r') p.refusals ∙ (ap (λ x. list_any is_refused p.came || x) q.refusals ∙ sym (refused-append p.came q.came));
-      most = omega arith;
-    }
+  or-true : (b : Bool) → true ≡ (b || true)
+  or-true true = refl
+  or-true false = refl
 
-pub partly_behind : (h : HostMeanings) (s s' : State) (xs ys : List (List ℕ)) (u v w : Option (List ℕ)) (a b c : ℕ) (r : Bool) → Ran h s s' xs u v a b r → RanPartly h s' ys v w b c → RanPartly h s (xs ++ ys) u w a c
-partly_behind h s s' xs ys u v w a b c r p q =
-    let others : Come h DEFAULT_BUDGET (last_state s p.came) ys q.came = subst (λ x. Come h DEFAULT_BUDGET x ys q.came) p.state_is q.outcomes in
-    let parts = bound_together-append h DEFAULT_BUDGET s xs ys p.came q.came p.outcomes in
-    let same : bound_together s' ys q.came ≡ bound_together (last_state s p.came) ys q.came = ap (λ x. bound_together x ys q.came) p.state_is in
-    let first = p.most in
-    let second = q.most in
-    record {
-      came = p.came ++ q.came;
-      outcomes = Come-append h DEFAULT_BUDGET s xs ys p.came q.came p.outcomes others;
-      front = front_behind u v w p.came q.came p.lines q.front;
-      most = omega arith;
-    }
+  pub ran_bad : (place : ℕ) → Appends u v (error_line (NotUtf8 place)) → Ran h options s s (BadCharacter place ∷ []) u v n n true true
+  ran_bad place written =
+      ran_one h options s (BadCharacter place) (failed s (NotUtf8 place)) refl u v n n (error_line (NotUtf8 place)) true true (error_alone (NotUtf8 place) s) written (omega arith) refl (or-true (options.bail && true))
+
+  pub ran_bad_partly : (place : ℕ) → CutShort u v (error_line (NotUtf8 place)) → RanPartly h options s (BadCharacter place ∷ []) u v n n
+  ran_bad_partly place written =
+      ran_one_partly h options s (BadCharacter place) (failed s (NotUtf8 place)) refl u v n n (error_line (NotUtf8 place)) (error_alone (NotUtf8 place) s) written (omega arith)
+
+-- ---- parts, and then others
+
+module _ (h : HostMeanings) (options : Options) (s s' : State) (xs ys : List Part) (u v w : Option (List ℕ)) (a b c : ℕ) (failed : Bool) (p : Ran h options s s' xs u v a b failed false) where
+  then-come : (os : List Came) → Come h options s' ys os → Come h options s (xs ++ ys) (p.came ++ os)
+  then-come os come =
+      Come-append h options s xs ys p.came os (sym p.endings) p.outcomes (subst (λ x. Come h options x ys os) p.state_is come)
+
+  then-ran : (n k : ℕ) (os : List Came) → b ≡ a + instructions p.came → instructions (p.came ++ os) ≡ instructions p.came + instructions os
+  then-ran n k os is = instructions-append p.came os
+
+  pub ran_append : (s'' : State) (failed' ended' : Bool) → Ran h options s' s'' ys v w b c failed' ended' → Ran h options s s'' (xs ++ ys) u w a c (failed || failed') ended'
+  ran_append s'' failed' ended' q =
+      let sum = instructions-append p.came q.came in
+      let first = p.ran in
+      let second = q.ran in
+      record {
+        came = p.came ++ q.came;
+        outcomes = then-come q.came q.outcomes;
+        state_is = q.state_is ∙ (ap (λ x. last_state x q.came) p.state_is ∙ sym (last_state-append s p.came q.came));
+        lines = subst (λ all. Appends u w all) (sym (lines_of-append p.came q.came)) (Appends-trans u v w (lines_of p.came) (lines_of q.came) p.lines q.lines);
+        failures = ap (λ x. x || failed') p.failures ∙ (ap (λ x. list_any is_failed p.came || x) q.failures ∙ sym (any-append is_failed p.came q.came));
+        endings = q.endings ∙ (ap (λ x. x || list_any (ends options) q.came) p.endings ∙ sym (any-append (ends options) p.came q.came));
+        ran = omega arith;
+      }
+
+  pub partly_behind : RanPartly h options s' ys v w b c → RanPartly h options s (xs ++ ys) u w a c
+  partly_behind q =
+      let sum = instructions-append p.came q.came in
+      let first = p.ran in
+      let second = q.ran in
+      record {
+        came = p.came ++ q.came;
+        outcomes = then-come q.came q.outcomes;
+        front = front_behind u v w p.came q.came p.lines q.front;
+        ran = omega arith;
+      }
 
 -- others that did not run can go on as they mean
-pub partly_more : (h : HostMeanings) (s : State) (xs ys : List (List ℕ)) (u v : Option (List ℕ)) (a b : ℕ) → RanPartly h s xs u v a b → RanPartly h s (xs ++ ys) u v a b
-partly_more h s xs ys u v a b p =
-    let others = Come-some h DEFAULT_BUDGET (last_state s p.came) ys in
-    let parts = bound_together-append h DEFAULT_BUDGET s xs ys p.came others.0 p.outcomes in
-    let first = p.most in
+pub partly_more : (h : HostMeanings) (options : Options) (s : State) (xs ys : List Part) (u v : Option (List ℕ)) (a b : ℕ) → RanPartly h options s xs u v a b → RanPartly h options s (xs ++ ys) u v a b
+partly_more h options s xs ys u v a b p =
+    let others = Come-more h options s xs ys p.came p.outcomes in
+    let sum = instructions-append p.came others.0 in
+    let first = p.ran in
     record {
       came = p.came ++ others.0;
-      outcomes = Come-append h DEFAULT_BUDGET s xs ys p.came others.0 p.outcomes others.1;
+      outcomes = others.1;
       front = front_of_more u v p.came others.0 p.front;
-      most = omega arith;
+      ran = omega arith;
     }
 
-pub ran_partly : (h : HostMeanings) (s next : State) (texts : List (List ℕ)) (u v : Option (List ℕ)) (a b : ℕ) (r : Bool) → Ran h s next texts u v a b r → RanPartly h s texts u v a b
-ran_partly h s next texts u v a b r p = record {
+-- where the script ended, the others do not run
+pub ran_ended : (h : HostMeanings) (options : Options) (s s' : State) (xs ys : List Part) (u v : Option (List ℕ)) (a b : ℕ) (failed : Bool) → Ran h options s s' xs u v a b failed true → Ran h options s s' (xs ++ ys) u v a b failed true
+ran_ended h options s s' xs ys u v a b failed p = record {
   came = p.came;
-  outcomes = p.outcomes;
-  front = cut_short u v [] (lines_of p.came) (lines_of p.came, p.lines, append-nil (lines_of p.came));
-  most = p.most;
+  outcomes = Come-ended h options s xs ys p.came (sym p.endings) p.outcomes;
+  state_is = p.state_is;
+  lines = p.lines;
+  failures = p.failures;
+  endings = p.endings;
+  ran = p.ran;
 }
 
--- ---- the texts of a script
+pub ran_partly : (h : HostMeanings) (options : Options) (s next : State) (parts : List Part) (u v : Option (List ℕ)) (a b : ℕ) (failed ended : Bool) → Ran h options s next parts u v a b failed ended → RanPartly h options s parts u v a b
+ran_partly h options s next parts u v a b failed ended p =
+    let ticks = p.ran in
+    record {
+      came = p.came;
+      outcomes = p.outcomes;
+      front = cut_short u v [] (lines_of p.came) (lines_of p.came, p.lines, append-nil (lines_of p.came));
+      ran = omega arith;
+    }
 
-all_but_last-cons : (t : List ℕ) (ts : List (List ℕ)) → ts ≢ [] → all_but_last (t ∷ ts) ≡ t ∷ all_but_last ts
-all_but_last-cons t [] some = absurd (some refl)
-all_but_last-cons t (u ∷ ts) some =
-    let longer : length (t ∷ u ∷ ts) - 1 ≡ suc (length (u ∷ ts) - 1) = omega arith in ap (λ n. take n (t ∷ u ∷ ts)) longer
+-- ---- how it went
 
--- a text that another one follows is due
-due_of-cons : (ending : Ending) (t : List ℕ) (ts : List (List ℕ)) → ts ≢ [] → due_of ending (t ∷ ts) ≡ t ∷ due_of ending ts
-due_of-cons End t ts some = refl
-due_of-cons ReadFault t ts some = all_but_last-cons t ts some
-due_of-cons TooLong t ts some = all_but_last-cons t ts some
+failed-true : (bail fails : Bool) → (bail && fails) ≡ true → fails ≡ true
+failed-true true fails e = e
+failed-true false fails e = cc
 
--- the statements of the rest are that of its first text, and then those of what stands behind it
-rest-next : (ending : Ending) (rest t behind : List ℕ) → texts_between false rest ≡ t ∷ texts_between false behind → statements_in_rest ending rest ≡ statements_in_text t ++ statements_in_rest ending behind
-rest-next ending rest t behind cut =
-    ap (λ ts. filter is_statement (due_of ending ts)) cut
-    ∙ (ap (filter is_statement) (due_of-cons ending t (texts_between false behind) (texts_between-some false behind))
-    ∙ filter-append is_statement (t ∷ []) (due_of ending (texts_between false behind)))
+module _ (h : HostMeanings) (options : Options) (s s' : State) (parts : List Part) (u v : Option (List ℕ)) (a b : ℕ) (fails : Bool) where
+  -- an error line ended the script
+  pub ran_failed : (options.bail && fails) ≡ true → Ran h options s s' parts u v a b fails (options.bail && fails) → Ran h options s s' parts u v a b true true
+  ran_failed e p =
+      subst (λ x. Ran h options s s' parts u v a b x true) (failed-true options.bail fails e) (subst (λ x. Ran h options s s' parts u v a b fails x) e p)
 
--- where no `;` is left, the rest is what is pending
-rest-last : (ending : Ending) (rest : List ℕ) → texts_between false rest ≡ rest ∷ [] → statements_in_rest ending rest ≡ statements_in_pending ending rest
-rest-last ending rest cut = ap (λ ts. filter is_statement (due_of ending ts)) cut
+  -- it goes on
+  pub ran_going : (options.bail && fails) ≡ false → Ran h options s s' parts u v a b fails (options.bail && fails) → Ran h options s s' parts u v a b fails false
+  ran_going e p = subst (λ x. Ran h options s s' parts u v a b fails x) e p
 
--- the statements of a script in front of this rest ran
-pub record SoFar (h : HostMeanings) (ending : Ending) (bytes rest : List ℕ) (s : State) (old new : Option (List ℕ)) (before after : ℕ) (refused : Bool) : Type 0 where
-  pub done : List (List ℕ)
-  pub ran : Ran h new_state s done old new before after refused
-  pub parts : done ++ statements_in_rest ending rest ≡ statements_in_rest ending bytes
+  by_course : (f : Bool) → Ran h options s s' parts u v a b f false → Ran h options s s' parts u v a b (failed_in (at_end f)) (ended_in (at_end f))
+  by_course true p = p
+  by_course false p = p
 
-pub so_far_start : (h : HostMeanings) (ending : Ending) (bytes : List ℕ) (u : Option (List ℕ)) (n : ℕ) → SoFar h ending bytes bytes new_state u u n n false
-so_far_start h ending bytes u n = record { done = []; ran = ran_none h new_state u n; parts = refl }
+  -- it is at its end
+  pub ran_at_end : (course : Course) → course ≡ at_end fails → Ran h options s s' parts u v a b fails false → Ran h options s s' parts u v a b (failed_in course) (ended_in course)
+  ran_at_end course is p = subst (λ x. Ran h options s s' parts u v a b (failed_in x) (ended_in x)) (sym is) (by_course fails p)
 
-module _ (h : HostMeanings) (ending : Ending) (bytes rest : List ℕ) (s : State) (u v w : Option (List ℕ)) (a b c : ℕ) (r : Bool) (far : SoFar h ending bytes rest s u v a b r) where
-  parts_next : (t behind : List ℕ) → texts_between false rest ≡ t ∷ texts_between false behind → (far.done ++ statements_in_text t) ++ statements_in_rest ending behind ≡ statements_in_rest ending bytes
-  parts_next t behind cut =
-      append_assoc far.done (statements_in_text t) (statements_in_rest ending behind) ∙ (ap (λ ts. far.done ++ ts) (sym (rest-next ending rest t behind cut)) ∙ far.parts)
+-- ---- the parts of a text
 
-  -- one more text ran
-  pub so_far_next : (t behind : List ℕ) (s' : State) (r' r'' : Bool) → texts_between false rest ≡ t ∷ texts_between false behind → Ran h s s' (statements_in_text t) v w b c r' → r'' ≡ (r || r') → SoFar h ending bytes behind s' u w a c r''
-  so_far_next t behind s' r' r'' cut p is = record {
-    done = far.done ++ statements_in_text t;
-    ran = subst (λ x. Ran h new_state s' (far.done ++ statements_in_text t) u w a c x) (sym is) (ran_append h new_state s s' far.done (statements_in_text t) u v w a b c r r' far.ran p);
-    parts = parts_next t behind cut;
-  }
+pub empty_text : (text : List ℕ) → (length text == 0) ≡ true → text ≡ []
+empty_text [] e = refl
+empty_text (b ∷ text) e = let none : length (b ∷ text) ≡ 0 = eqb-true (length (b ∷ text)) 0 e in absurd (omega (arith, none))
 
-  -- the run ended at it
-  pub so_far_part : (t behind : List ℕ) → texts_between false rest ≡ t ∷ texts_between false behind → RanPartly h s (statements_in_text t) v w b c → RanPartly h new_state (statements_in_rest ending bytes) u w a c
-  so_far_part t behind cut p =
-      let first = partly_behind h new_state s far.done (statements_in_text t) u v w a b c r far.ran p in
-      subst (λ ts. RanPartly h new_state ts u w a c) (parts_next t behind cut) (partly_more h new_state (far.done ++ statements_in_text t) (statements_in_rest ending behind) u w a c first)
+-- the parts of a text in front of this rest ran, and none ended the script
+pub record SoFar (h : HostMeanings) (options : Options) (runs : Bool) (text rest : List ℕ) (fresh : Bool) (s : State) (old new : Option (List ℕ)) (before after : ℕ) (failed : Bool) : Type 0 where
+  pub done : List Part
+  pub ran : Ran h options new_state s done old new before after failed false
+  pub parts : done ++ parts_from runs fresh 0 rest ≡ parts_from runs true 0 text
 
-  parts_last : texts_between false rest ≡ rest ∷ [] → far.done ++ statements_in_pending ending rest ≡ statements_in_rest ending bytes
-  parts_last cut = ap (λ ts. far.done ++ ts) (sym (rest-last ending rest cut)) ∙ far.parts
+pub so_far_start : (h : HostMeanings) (options : Options) (runs : Bool) (text : List ℕ) (u : Option (List ℕ)) (n : ℕ) → SoFar h options runs text text true new_state u u n n false
+so_far_start h options runs text u n = record { done = []; ran = ran_none h options new_state u n; parts = refl }
 
-  -- the pending text ran
-  pub so_far_last : (s' : State) (r' r'' : Bool) → texts_between false rest ≡ rest ∷ [] → Ran h s s' (statements_in_pending ending rest) v w b c r' → r'' ≡ (r || r') → Ran h new_state s' (statements_in_rest ending bytes) u w a c r''
-  so_far_last s' r' r'' cut p is =
-      subst (λ ts. Ran h new_state s' ts u w a c r'') (parts_last cut)
-      (subst (λ x. Ran h new_state s' (far.done ++ statements_in_pending ending rest) u w a c x) (sym is) (ran_append h new_state s s' far.done (statements_in_pending ending rest) u v w a b c r r' far.ran p))
+module _ (h : HostMeanings) (options : Options) (runs : Bool) (text rest : List ℕ) (fresh : Bool) (s : State) (u v w : Option (List ℕ)) (a b c : ℕ) (failed : Bool) (far : SoFar h options runs text rest fresh s u v a b failed) where
+  module _ (front : List Part) (fresh' : Bool) (behind : List ℕ) (cut : parts_from runs fresh 0 rest ≡ front ++ parts_from runs fresh' 0 behind) where
+    parts_next : (far.done ++ front) ++ parts_from runs fresh' 0 behind ≡ parts_from runs true 0 text
+    parts_next = append_assoc far.done front (parts_from runs fresh' 0 behind) ∙ (ap (λ ps. far.done ++ ps) (sym cut) ∙ far.parts)
 
-  -- the run ended at it
-  pub so_far_last_part : texts_between false rest ≡ rest ∷ [] → RanPartly h s (statements_in_pending ending rest) v w b c → RanPartly h new_state (statements_in_rest ending bytes) u w a c
-  so_far_last_part cut p =
-      subst (λ ts. RanPartly h new_state ts u w a c) (parts_last cut) (partly_behind h new_state s far.done (statements_in_pending ending rest) u v w a b c r far.ran p)
+    -- what stands next ran
+    pub so_far_next : (s' : State) (fails failed' : Bool) → Ran h options s s' front v w b c fails false → failed' ≡ (failed || fails) → SoFar h options runs text behind fresh' s' u w a c failed'
+    so_far_next s' fails failed' p is = record {
+      done = far.done ++ front;
+      ran = subst (λ x. Ran h options new_state s' (far.done ++ front) u w a c x false) (sym is) (ran_append h options new_state s far.done front u v w a b c failed far.ran s' fails false p);
+      parts = parts_next;
+    }
+
+    or-true-right : (x : Bool) → (x || true) ≡ true
+    or-true-right true = refl
+    or-true-right false = refl
+
+    -- an error line in it ended the script
+    pub so_far_ended : (s' : State) → Ran h options s s' front v w b c true true → Ran h options new_state s' (parts_from runs true 0 text) u w a c true true
+    so_far_ended s' p =
+        let all = ran_append h options new_state s far.done front u v w a b c failed far.ran s' true true p in
+        subst (λ ps. Ran h options new_state s' ps u w a c true true) parts_next
+        (ran_ended h options new_state s' (far.done ++ front) (parts_from runs fresh' 0 behind) u w a c true
+        (subst (λ x. Ran h options new_state s' (far.done ++ front) u w a c x true) (or-true-right failed) all))
+
+    -- the run stopped in it
+    pub so_far_part : RanPartly h options s front v w b c → RanPartly h options new_state (parts_from runs true 0 text) u w a c
+    so_far_part p =
+        let first = partly_behind h options new_state s far.done front u v w a b c failed far.ran p in
+        subst (λ ps. RanPartly h options new_state ps u w a c) parts_next (partly_more h options new_state (far.done ++ front) (parts_from runs fresh' 0 behind) u w a c first)
+
+  -- nothing is left
+  pub so_far_all : rest ≡ [] → Ran h options new_state s (parts_from runs true 0 text) u v a b failed false
+  so_far_all none =
+      let end : far.done ++ [] ≡ parts_from runs true 0 text = subst (λ r. far.done ++ parts_from runs fresh 0 r ≡ parts_from runs true 0 text) none far.parts in
+      subst (λ ps. Ran h options new_state s ps u v a b failed false) (sym (append-nil far.done) ∙ end) far.ran

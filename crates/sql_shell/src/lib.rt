@@ -1,13 +1,17 @@
 //! The top call: from the bytes of a script to the written bytes and an exit status.
 //!
-//! The way of a script, a module for each step: `reading` takes the source's bytes up to their ending, `cutting` finds
-//! the end of each statement, `statement` runs it over a connection of the engine, `collected_rows` keeps its rows,
-//! `printing` makes lines of them and of why it was refused, `writing` hands them to the sink, and `script` goes from
-//! statement to statement. `top` has the one public call, `run`, whose contract is the theorem of the engine.
+//! The way of a script, a module for each step: `reading` takes the source's bytes up to their ending, `characters` finds
+//! where they stop being UTF-8, `cutting` cuts them into statements and dot lines, `statement` runs a statement over a
+//! connection of the engine, `collected_rows` keeps its rows for what it gave (`given`), `printing` makes lines of them and of why a part failed,
+//! `writing` hands them to the sink, and `script` goes from part to part; `course` says how that went. `top` has the one
+//! public call, `run`, whose contract is the theorem of the engine.
 #![tactic(auto)]
 
+mod characters;
 mod collected_rows;
+mod course;
 mod cutting;
+mod given;
 mod printing;
 mod reading;
 mod script;

@@ -1,11 +1,13 @@
 // The lines of a statement's outcome.
-ghost use Rattle.std.specs.Prelude.{◌≡◌, ◌++◌, ◌∷◌, [], map, is_some, OnOk, IfOk};
+ghost use Rattle.std.specs.Fmt.{decimal};
+ghost use Rattle.std.specs.Prelude.{◌≡◌, ◌++◌, ◌∷◌, [], codes, map, is_some, OnOk, IfOk};
 ghost use Rattle.std.specs.List.{flat_map, join_with_byte};
-ghost use Rattle.sql_meaning.specs.Script.{bar, printed, row_line, refusal_line, refusal_lines};
+ghost use Rattle.sql_meaning.specs.Script.{bar, error_line, error_lines, failure_code, failure_text, printed, row_line};
 
-use crate::statement::Given;
-use eng_value::{Cause, Row, Rows, Value};
+use crate::given::Given;
+use eng_value::{Row, Rows, Value};
 use itoa::Buffer;
+use sql_meaning::Failure;
 use std::alloc::AllocError;
 
 /// Writes a value behind `lines`: NULL as nothing, a text and a blob as their bytes.
@@ -64,44 +66,74 @@ fn print_rows(rows: &Rows, lines: &mut Vec<u8>) -> Result<(), AllocError>
     Ok(())
 }
 
-/// Writes the line of a refusal: `Error <code>: <text>`.
-fn print_refusal(why: &Cause, lines: &mut Vec<u8>) -> Result<(), AllocError>
-    ensures { OnOk result (lines.new.items ≡ lines.old.items ++ refusal_line why.now) }
+/// The code of an error line.
+fn failure_code(failure: &Failure) -> u8
+    ensures { result ≡ failure_code failure.now }
+{
+    match failure {
+        Failure::Refused(why) => why.code(),
+        Failure::UnknownDotLine | Failure::NotUtf8(_) => 1,
+    }
+}
+
+/// Writes where a character is not whole UTF-8.
+fn print_bad_place(place: usize, lines: &mut Vec<u8>) -> Result<(), AllocError>
+    ensures { OnOk result (lines.new.items ≡ lines.old.items ++ (codes "not UTF-8 at byte " ++ decimal place)) }
+{
+    lines.extend_from_slice(b"not UTF-8 at byte ")?;
+    lines.extend_from_slice(Buffer::new().format(place).as_bytes())?;
+    Ok(())
+}
+
+/// Writes why there is an error line.
+fn print_reason(failure: &Failure, lines: &mut Vec<u8>) -> Result<(), AllocError>
+    ensures { OnOk result (lines.new.items ≡ lines.old.items ++ failure_text failure.now) }
+{
+    match failure {
+        Failure::Refused(why) => why.write_text(lines),
+        Failure::UnknownDotLine => lines.extend_from_slice(b"unknown dot line"),
+        Failure::NotUtf8(place) => print_bad_place(*place, lines),
+    }
+}
+
+/// Writes an error line: `Error <code>: <text>`.
+pub(crate) fn print_failure(failure: &Failure, lines: &mut Vec<u8>) -> Result<(), AllocError>
+    ensures { OnOk result (lines.new.items ≡ lines.old.items ++ error_line failure.now) }
 {
     lines.extend_from_slice(b"Error ")?;
-    lines.extend_from_slice(Buffer::new().format(why.code()).as_bytes())?;
+    lines.extend_from_slice(Buffer::new().format(failure_code(failure)).as_bytes())?;
     lines.extend_from_slice(b": ")?;
-    why.write_text(lines)?;
+    print_reason(failure, lines)?;
     lines.push(b'\n')?;
     Ok(())
 }
 
-/// Writes the line of a refusal, where there is one.
-fn print_refusals(refusal: &Option<Cause>, lines: &mut Vec<u8>) -> Result<(), AllocError>
-    ensures { OnOk result (lines.new.items ≡ lines.old.items ++ refusal_lines refusal.now) }
+/// Writes an error line, where there is one.
+fn print_failures(failure: &Option<Failure>, lines: &mut Vec<u8>) -> Result<(), AllocError>
+    ensures { OnOk result (lines.new.items ≡ lines.old.items ++ error_lines failure.now) }
 {
-    match refusal {
+    match failure {
         None => Ok(()),
-        Some(why) => print_refusal(why, lines),
+        Some(why) => print_failure(why, lines),
     }
 }
 
-/// Writes what a statement gave: a line for each row, and then the line of the refusal.
+/// Writes what a statement gave: a line for each row, and then the error line.
 fn print_lines(given: &Given, lines: &mut Vec<u8>) -> Result<(), AllocError>
     ensures { OnOk result (lines.new.items ≡
-        lines.old.items ++ (flat_map row_line given.now.rows ++ refusal_lines given.now.refusal)) }
+        lines.old.items ++ (flat_map row_line given.now.rows ++ error_lines given.now.failure)) }
 {
     print_rows(&given.rows, lines)?;
-    print_refusals(&given.refusal, lines)?;
+    print_failures(&given.failure, lines)?;
     Ok(())
 }
 
-/// Writes the lines of what a statement gave, and says whether it was refused.
+/// Writes the lines of what a statement gave, and says whether it has an error line.
 pub(crate) fn print_given(given: Given, lines: &mut Vec<u8>) -> Result<bool, AllocError>
     ensures lines { OnOk result (lines.new.items ≡
-        lines.old.items ++ (flat_map row_line given.rows ++ refusal_lines given.refusal)) }
-    ensures refused { IfOk result (λ refused. refused ≡ is_some given.refusal) }
+        lines.old.items ++ (flat_map row_line given.rows ++ error_lines given.failure)) }
+    ensures failed { IfOk result (λ failed. failed ≡ is_some given.failure) }
 {
     print_lines(&given, lines)?;
-    Ok(given.refusal.is_some())
+    Ok(given.failure.is_some())
 }

@@ -4,8 +4,9 @@
 //! output, and the exit status is the one that `run` answers.
 #![tactic(auto)]
 
-ghost use Rattle.std.specs.Prelude.{◌≡◌, ◌<◌, ◌≤◌, ◌↔◌, ◌⊎◌, length};
+ghost use Rattle.std.specs.Prelude.{◌≡◌, ◌<◌, ◌≤◌, ◌⊎◌, map, string_bytes, None};
 ghost use Rattle.host_traits.specs.Faults.{Rose};
+ghost use Rattle.shell_words.specs.CommandLine.{options_of};
 
 use eng_value::Steps;
 use host_traits::{Sink, Source, StreamSink, StreamSource};
@@ -32,7 +33,8 @@ fn run_uncounted<S: Source, K: Sink, L: Ledger>(
     requires name { blank.name ≡ L.name }
     requires parts { blank.parts ≡ L.parts }
     requires some { 0 < blank.parts }
-    ensures words { (result ≡ 2) ↔ (1 < length words.now) }
+    ensures refused { result ≡ 2 → options_of (map string_bytes words.now) ≡ None }
+    ensures words { options_of (map string_bytes words.now) ≡ None → (result ≡ 2) ⊎ (result ≡ 4) }
     ensures fault { result ≡ 3 →
         Rose (S.fault_count src.old) (S.fault_count src.new) ⊎ Rose (K.fault_count out.old) (K.fault_count out.new) }
     ensures statuses { result ≤ 5 }
@@ -42,8 +44,8 @@ fn run_uncounted<S: Source, K: Sink, L: Ledger>(
     run(alloc, words, &mut hosts, src, out, &mut steps)
 }
 
-// The words of the command line, the program's name first. One that is no text is refused as every word behind the name
-// is, so two words stand for such a line.
+// The words of the command line, the program's name first. One that is no text is refused, so a word stands for such a line that
+// is none of the command.
 fn command_words<R: Env + AllocGlobal>(rt: &R) -> Result<Vec<String>, AllocError> {
     let alloc = rt.alloc();
     let mut words = Vec::new(alloc);

@@ -1,14 +1,16 @@
 -- One instruction more.
-use Rattle.std.proofs.Common.{◌≡◌, ℕ, zero, suc, ◌+◌, [], Ok, Err, Result, Option, IfOk, OnErr, refl, sym, ap, ◌∙◌, subst, arith}
+use Rattle.std.proofs.Common.{◌≡◌, ℕ, zero, suc, ◌+◌, List, [], Ok, Err, Result, Option, IfOk, OnErr, refl, sym, ap, ◌∙◌, subst, arith, rules}
 use Rattle.std.specs.declared.alloc.AllocError.{AllocError}
 use Rattle.vm_code.specs.declared.op.Op.{Op}
 use Rattle.vm_code.specs.declared.program.Program.{Program}
 use Rattle.vm_code.specs.Changes.{before}
-use Rattle.vm_code.specs.Machine.{World, Setting, State, Next, On, End, act, step, go_on, after}
+use Rattle.vm_code.specs.Machine.{Row, World, Setting, State, Next, On, End, act, step, go_on, after}
 use Rattle.vm_code.proofs.Kept.{shared_of, from_act}
-use Rattle.vm_core.specs.declared.flow.Flow.{Flow}
-use Rattle.vm_core.specs.declared.flow.Flow.TheVariants as flow
-use Rattle.vm_core.specs.Events.{Leads, NoneInVain}
+use Rattle.vm_core.specs.declared.event.Event.{Event}
+use Rattle.vm_core.specs.declared.event.Event.TheVariants as event
+use Rattle.vm_core.specs.declared.pace.Pace.{Pace}
+use Rattle.vm_core.specs.declared.pace.Pace.TheVariants as pace
+use Rattle.vm_core.specs.Events.{EventIs, Leads, NamesBudget, NoneInVain, StopsFor}
 use Rattle.vm_core.specs.Paused.{Progress, Paused, paused, state_at, state_of}
 
 module _ (m : Setting) where
@@ -36,6 +38,21 @@ module _ (m : Setting) where
       let fewer : j ≡ n = omega arith in
       (t, ap (λ i. after m i s) fewer ∙ e)
 
+-- the event for which a run stops is the next one, and it interrupts none
+pub event_stops : (m : Setting) (n : ℕ) (s : State) (t : List Row → State) (all : Type 0) (e : Event) (x : Next) → StopsFor e t x → after m n s ≡ x → EventIs m n s t all e
+event_stops m n s t all (event.Row row) x stops is = is ∙ stops
+event_stops m n s t all event.Done x stops is = is ∙ stops
+event_stops m n s t all (event.Bad c) x stops is = is ∙ stops
+event_stops m n s t all (event.Interrupted whole) x stops is = absurd stops
+event_stops m n s t all event.Mem x stops is = absurd stops
+
+pub names_stops : (whole : ℕ) (t : List Row → State) (e : Event) (x : Next) → StopsFor e t x → NamesBudget whole e
+names_stops whole t (event.Row row) x stops = search rules
+names_stops whole t event.Done x stops = search rules
+names_stops whole t (event.Bad c) x stops = search rules
+names_stops whole t (event.Interrupted n) x stops = absurd stops
+names_stops whole t event.Mem x stops = absurd stops
+
 -- what taking the changes back gives is the same behind an instruction
 module _ (m : Setting) (o : Option Op) (p q : Progress) (w v : World) where
   abbrev undone_in : Next → World
@@ -44,15 +61,20 @@ module _ (m : Setting) (o : Option Op) (p q : Progress) (w v : World) where
   kept : undone_in (act m o (state_at p w [])) ≡ before p.changes w
   kept = from_act (before p.changes w) m o (state_at p w []) refl
 
-  pub undo_leads : (f : Flow) → Leads f (state_at q v) (act m o (state_at p w [])) → before q.changes v ≡ before p.changes w
-  undo_leads flow.Going e = sym (ap undone_in e) ∙ kept
-  undo_leads (flow.Gave row) e = sym (ap undone_in e) ∙ kept
-  undo_leads flow.Finished e = sym (ap undone_in e) ∙ kept
-  undo_leads (flow.Failed c) e = sym (ap undone_in e) ∙ kept
+  undo_stops : (e : Event) → StopsFor e (state_at q v) (act m o (state_at p w [])) → before q.changes v ≡ before p.changes w
+  undo_stops (event.Row row) e = sym (ap undone_in e) ∙ kept
+  undo_stops event.Done e = sym (ap undone_in e) ∙ kept
+  undo_stops (event.Bad c) e = sym (ap undone_in e) ∙ kept
+  undo_stops (event.Interrupted n) e = absurd e
+  undo_stops event.Mem e = absurd e
 
-  pub undo_either : (r : Result Flow AllocError) → IfOk r (λ f. Leads f (state_at q v) (act m o (state_at p w []))) → OnErr r (q.changes ≡ p.changes) → OnErr r (v ≡ w) → before q.changes v ≡ before p.changes w
-  undo_either (Ok f) leads log tables = undo_leads f leads
-  undo_either (Err e) leads log tables = ap (λ cs. before cs v) log ∙ ap (before p.changes) tables
+  undo_leads : (f : Pace) (e : Event) → Leads f e (state_at q v) (act m o (state_at p w [])) → before q.changes v ≡ before p.changes w
+  undo_leads pace.Going e leads = sym (ap undone_in leads) ∙ kept
+  undo_leads pace.Stopping e leads = undo_stops e leads
+
+  pub undo_either : (r : Result Pace AllocError) (e : Event) → IfOk r (λ f. Leads f e (state_at q v) (act m o (state_at p w []))) → OnErr r (q.changes ≡ p.changes) → OnErr r (v ≡ w) → before q.changes v ≡ before p.changes w
+  undo_either (Ok f) e leads log tables = undo_leads f e leads
+  undo_either (Err x) e leads log tables = ap (λ cs. before cs v) log ∙ ap (before p.changes) tables
 
 -- the same from a machine that is seen as another
 pub seen_as : (p : Program) (r : Progress) (q : Paused) → paused p r ≡ q → (n : ℕ) (w : World) (x : Next) → after (record { prog = p }) n (state_at r w []) ≡ x → after (record { prog = q.prog }) n (state_of q w []) ≡ x

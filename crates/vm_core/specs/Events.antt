@@ -1,17 +1,42 @@
 -- What a run says of the machine over lists.
-use Rattle.std.specs.Prelude.{◌≡◌, ℕ, suc, List, [], ◌∷◌}
-use Rattle.vm_code.specs.Machine.{Row, Setting, State, Next, On, End, Finished, Failed, after}
-use Rattle.vm_core.specs.declared.flow.Flow.{Flow}
-use Rattle.vm_core.specs.declared.flow.Flow.TheVariants as flow
+use Rattle.std.specs.Prelude.{◌≡◌, ℕ, suc, List, [], ◌∷◌, IfOk}
+use Rattle.std.specs.declared.alloc.AllocError.{AllocError}
+use Rattle.std.specs.declared.result.Result.{Result}
+use Rattle.vm_code.specs.Machine.{Row, World, Setting, State, Next, On, End, Finished, Failed, after}
 use Rattle.vm_core.specs.declared.event.Event.{Event}
 use Rattle.vm_core.specs.declared.event.Event.TheVariants as event
+use Rattle.vm_core.specs.declared.pace.Pace.{Pace}
+use Rattle.vm_core.specs.declared.pace.Pace.TheVariants as pace
+use Rattle.vm_core.specs.Paused.{Progress, state_at}
 
--- where an instruction leads; `t` is the state then, by the rows that were given
-abbrev pub Leads : Flow → (List Row → State) → Next → Type 0
-Leads flow.Going t n = n ≡ On (t [])
-Leads (flow.Gave row) t n = n ≡ On (t (row ∷ []))
-Leads flow.Finished t n = n ≡ End Finished (t []).shared
-Leads (flow.Failed c) t n = n ≡ End (Failed c) (t []).shared
+-- what a run came to that stopped for this event; `t` is the state then, by the rows that were given
+abbrev pub StopsFor : Event → (List Row → State) → Next → Type 0
+StopsFor (event.Row row) t n = n ≡ On (t (row ∷ []))
+StopsFor event.Done t n = n ≡ End Finished (t []).shared
+StopsFor (event.Bad c) t n = n ≡ End (Failed c) (t []).shared
+StopsFor (event.Interrupted whole) t n = ⊥
+StopsFor event.Mem t n = ⊥
+
+-- where an instruction leads: on, or to an event
+abbrev pub Leads : Pace → Event → (List Row → State) → Next → Type 0
+Leads pace.Going e t n = n ≡ On (t [])
+Leads pace.Stopping e t n = StopsFor e t n
+
+-- what an instruction did, unless memory was wanting: from what the run had come to over the tables `w` it led to where `next` does,
+-- and the run came to `new`, over the tables `v`, with the event `e` where it stopped
+abbrev pub ActsOver : Result Pace AllocError → Event → Progress → World → Progress → World → (State → Next) → Type 0
+ActsOver result e old w new v next = IfOk result (λ p. Leads p e (state_at new v) (next (state_at old w [])))
+
+-- the same of one that reads no table and changes none, whatever the tables are
+abbrev pub StopsOrActs : Result Pace AllocError → Event → Progress → Progress → (State → Next) → Type 0
+StopsOrActs result e old new next = (w : World) → ActsOver result e old w new w next
+
+-- the same of one that never stops, whatever the event would be
+abbrev pub Acts : Result Pace AllocError → Progress → Progress → (State → Next) → Type 0
+Acts result old new next = (e : Event) → StopsOrActs result e old new next
+
+abbrev pub ActsOn : Result Pace AllocError → Progress → World → Progress → World → (State → Next) → Type 0
+ActsOn result old w new v next = (e : Event) → ActsOver result e old w new v next
 
 -- an event is the next one of the machine over lists, after so many instructions from the state `s`; `t` is the state then, by
 -- the rows that were given, and `all` says that the budget is used up

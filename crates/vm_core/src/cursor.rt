@@ -1,11 +1,13 @@
 // Cursors over the tables.
 ghost use Rattle.std.specs.Prelude.{◌≡◌, IfOk, slice_index_or};
+ghost use Rattle.eng_record.specs.Lent.{Lends};
 ghost use Rattle.eng_value.specs.StoredRows.{next_rowid};
 ghost use Rattle.eng_value.specs.declared.value.Value.TheVariants.{Null};
 ghost use Rattle.vm_code.specs.Machine.{cursor_rows, current};
 ghost use Rattle.vm_core.specs.Cursors.{is_on_row, on_first, on_next, table_of};
 
 use crate::Tables;
+use eng_record::Lent;
 use eng_value::Value;
 use std::alloc::{AllocError, Global};
 use vm_store::{Cursor, Spot};
@@ -45,6 +47,19 @@ pub(crate) fn column(
             place: Some(place),
         } => tables.column(alloc, table, place.rowid, number, place.near),
         _ => Ok(Value::Null),
+    }
+}
+
+/// The integer or the text in a column of a cursor's row, where there is one.
+pub(crate) fn lent<'t>(cursor: &Cursor, tables: &'t Tables, number: usize) -> Lent<'t>
+    ensures { Lends result (slice_index_or (current tables.now cursor.now) number Null) }
+{
+    match cursor.spot() {
+        Spot::Open {
+            table,
+            place: Some(place),
+        } => tables.lent(table, place.rowid, number, place.near),
+        _ => Lent::Other,
     }
 }
 

@@ -5,7 +5,7 @@ ghost use Rattle.vm_core.specs.Events.{EventIs, NamesBudget, NoneInVain};
 ghost use Rattle.vm_core.specs.Paused.{at_start, state_of};
 
 use crate::execute::instruction;
-use crate::flow::Flow;
+use crate::pace::Pace;
 use crate::running::Running;
 use crate::{Budget, Event, Tables};
 use eng_value::{Row, Steps};
@@ -65,14 +65,13 @@ impl Machine {
         ensures interrupted { NamesBudget budget.old.whole result }
         ensures undo { before self.new.changes tables.new ≡ before self.old.changes tables.old }
     {
+        let mut event = Event::Done;
         while budget.ran < budget.whole {
             budget.ran += 1;
             steps.tick();
-            match instruction(&mut self.running, alloc, &self.program, tables) {
-                Ok(Flow::Going) => {}
-                Ok(Flow::Gave(row)) => return Event::Row(row),
-                Ok(Flow::Finished) => return Event::Done,
-                Ok(Flow::Failed(causes)) => return Event::Bad(causes),
+            match instruction(&mut self.running, alloc, &self.program, tables, &mut event) {
+                Ok(Pace::Going) => {}
+                Ok(Pace::Stopping) => return event,
                 Err(_) => return Event::Mem,
             }
         }

@@ -1,21 +1,24 @@
 // What a run has come to, and the parts of which instructions are made.
-ghost use Rattle.std.specs.Prelude.{◌≡◌, ◌+◌, ◌^◌, ◌<◌, if◌then◌else◌, [], ◌∷◌, replicate, slice_get, slice_set, IfOk, OnOk, OnErr, OnSome};
+ghost use Rattle.std.specs.Prelude.{◌≡◌, ◌+◌, ◌^◌, ◌<◌, if◌then◌else◌, [], ◌∷◌, ◌++◌, None, replicate, slice_get, slice_index_or, slice_set, IfOk, OnOk, OnErr, OnSome};
 ghost use Rattle.std.specs.Option.{option_copied};
+ghost use Rattle.eng_record.specs.Lent.{Lends};
 ghost use Rattle.eng_value.specs.Casts.{store_as};
 ghost use Rattle.eng_value.specs.Outs.{turned};
 ghost use Rattle.eng_value.specs.StoredRows.{next_rowid};
 ghost use Rattle.eng_value.specs.declared.out.Out.TheVariants.{Good};
-ghost use Rattle.eng_value.specs.declared.value.Value.TheVariants.{Null};
-ghost use Rattle.vm_code.specs.Machine.{World, Closed, End, On, called, code_of, column, current, cursor_at, cursor_rows, ending_of, inserted, integer_in, is_accepted, is_bad, is_known, is_null, is_rejected, outs_from, read as read_of, returned, unit_at, values_from, with_table};
+ghost use Rattle.eng_value.specs.declared.value.Value.TheVariants as sql;
+ghost use Rattle.eng_value.specs.declared.value.Value.TheVariants.{Integer, Null};
+ghost use Rattle.vm_code.specs.Machine.{Closed, End, Finished, Open, called, code_of, column, current, cursor_at, cursor_rows, ending_of, inserted, integer_in, is_accepted, is_bad, is_known, is_null, is_rejected, jump, outs_from, put, read as read_of, returned, skip, unit_at, values_from, with_cursor, with_table};
 ghost use Rattle.vm_core.specs.Cursors.{is_on_row, on_first, on_next, table_of};
-ghost use Rattle.vm_core.specs.Events.{Leads};
+ghost use Rattle.vm_core.specs.Events.{Acts, ActsOn, StopsOrActs};
 ghost use Rattle.vm_core.specs.Paused.{shared_of, state_at};
 
-use crate::Tables;
-use crate::cursor::{advance, column, next_rowid, rewind, table};
-use crate::flow::Flow;
+use crate::cursor::{advance, column, lent, next_rowid, rewind, table};
+use crate::pace::Pace;
 use crate::values::stored;
-use eng_value::{Affinity, Out, Row, StoredRow, Value};
+use crate::{Event, Tables};
+use eng_record::Lent;
+use eng_value::{Affinity, Out, Row, StoredRow, Text, Value};
 use std::alloc::{AllocError, Global};
 use std::marker::Model;
 use std::mem;
@@ -119,6 +122,15 @@ impl Running {
         self.pc += 1;
     }
 
+    /// Goes on at a place, as an instruction.
+    pub fn go_to(&mut self, target: usize) -> Result<Pace, AllocError>
+        ensures leads { Acts result self.old self.new (λ s. jump s target) }
+        ensures log { OnErr result (self.new.changes ≡ self.old.changes) }
+    {
+        self.jump(target);
+        Ok(Pace::Going)
+    }
+
     /// Goes on at a place.
     pub fn jump(&mut self, target: usize)
         ensures { self.new ≡ record self.old { pc = target } }
@@ -158,6 +170,33 @@ impl Running {
         ensures { self.new ≡ record self.old { pc = self.old.pc + 1; regs = slice_set self.old.regs register out } }
     {
         self.registers.write(register, out);
+        self.pc += 1;
+    }
+
+    /// Writes NULL and goes on.
+    pub fn set_null(&mut self, register: u32)
+        requires { self.old.pc + 1 < 2 ^ 64 }
+        ensures { self.new ≡ record self.old { pc = self.old.pc + 1; regs = slice_set self.old.regs register (Good Null) } }
+    {
+        self.registers.write_null(register);
+        self.pc += 1;
+    }
+
+    /// Writes an integer and goes on.
+    pub fn set_integer(&mut self, register: u32, n: i64)
+        requires { self.old.pc + 1 < 2 ^ 64 }
+        ensures { self.new ≡ record self.old { pc = self.old.pc + 1; regs = slice_set self.old.regs register (Good (Integer n)) } }
+    {
+        self.registers.write_integer(register, n);
+        self.pc += 1;
+    }
+
+    /// Writes a text and goes on.
+    pub fn set_text(&mut self, register: u32, text: Text)
+        requires { self.old.pc + 1 < 2 ^ 64 }
+        ensures { self.new ≡ record self.old { pc = self.old.pc + 1; regs = slice_set self.old.regs register (Good (sql.Text text)) } }
+    {
+        self.registers.write_text(register, text);
         self.pc += 1;
     }
 
@@ -207,38 +246,88 @@ impl Running {
 
     /// Turns a register into what a column of the affinity would hold, and goes on.
     #[tactic(auto, using(crate::proofs::RegisterLaws::written_twice))]
+    #[inline(never)]
     pub fn store_as(
         &mut self,
         alloc: Global,
         register: u32,
         affinity: Affinity,
-    ) -> Result<(), AllocError>
+    ) -> Result<Pace, AllocError>
         requires { self.old.pc + 1 < 2 ^ 64 }
-        ensures ok { OnOk result (self.new ≡ record self.old {
-          pc = self.old.pc + 1;
-          regs = slice_set self.old.regs register (turned (store_as affinity) (read_of self.old.regs register));
-        }) }
+        ensures leads { Acts result self.old self.new (λ s. put s register (turned (store_as affinity) (read_of s.regs register))) }
         ensures log { OnErr result (self.new.changes ≡ self.old.changes) }
     {
         let out = self.registers.take(register);
         let out = stored(alloc, affinity, out)?;
         self.put(register, out);
-        Ok(())
+        Ok(Pace::Going)
     }
 
     /// Ends the run with the causes of a register, where it has some.
-    pub fn halt(&mut self, register: u32) -> Flow
-        ensures leads { (w : World) → Leads result (state_at self.new w)
-            (End (ending_of (read_of self.old.regs register)) (shared_of self.old.params w self.old.changes)) }
+    #[inline(never)]
+    pub fn halt(&mut self, register: u32, event: &mut Event) -> Result<Pace, AllocError>
+        ensures leads { StopsOrActs result event.new self.old self.new (λ s. End (ending_of (read_of s.regs register)) s.shared) }
+        ensures log { OnErr result (self.new.changes ≡ self.old.changes) }
     {
-        match self.registers.take(register) {
-            Out::Good(_) => Flow::Finished,
-            Out::Bad(causes) => Flow::Failed(causes),
-        }
+        *event = match self.registers.take(register) {
+            Out::Good(_) => Event::Done,
+            Out::Bad(causes) => Event::Bad(causes),
+        };
+        Ok(Pace::Stopping)
+    }
+
+    /// Ends the run.
+    pub fn finish(&self, event: &mut Event) -> Result<Pace, AllocError>
+        ensures leads { StopsOrActs result event.new self.now self.now (λ s. End Finished s.shared) }
+    {
+        *event = Event::Done;
+        Ok(Pace::Stopping)
+    }
+
+    /// Gives the values of so many registers as a row, and goes on.
+    #[inline(never)]
+    pub fn give(
+        &mut self,
+        alloc: Global,
+        first: u32,
+        count: u32,
+        event: &mut Event,
+    ) -> Result<Pace, AllocError>
+        requires { self.old.pc + 1 < 2 ^ 64 }
+        ensures leads { StopsOrActs result event.new self.old self.new (λ s. let rows = s.shared.given ++ values_from s.regs first count ∷ [] in
+            skip (record s { shared = record s.shared { given = rows } })) }
+        ensures log { OnErr result (self.new.changes ≡ self.old.changes) }
+    {
+        let row = self.registers.values(alloc, first, count)?;
+        self.go_on();
+        *event = Event::Row(row);
+        Ok(Pace::Stopping)
+    }
+
+    /// Opens a cursor on a table, on no row, and goes on.
+    #[inline(never)]
+    pub fn open(&mut self, number: u32, table: u32) -> Result<Pace, AllocError>
+        requires { self.old.pc + 1 < 2 ^ 64 }
+        ensures leads { Acts result self.old self.new (λ s. skip (with_cursor s number (Open table None))) }
+        ensures log { OnErr result (self.new.changes ≡ self.old.changes) }
+    {
+        self.put_cursor(number, Cursor::open(table));
+        Ok(Pace::Going)
+    }
+
+    /// Closes a cursor and goes on.
+    #[inline(never)]
+    pub fn close(&mut self, number: u32) -> Result<Pace, AllocError>
+        requires { self.old.pc + 1 < 2 ^ 64 }
+        ensures leads { Acts result self.old self.new (λ s. skip (with_cursor s number Closed)) }
+        ensures log { OnErr result (self.new.changes ≡ self.old.changes) }
+    {
+        self.put_cursor(number, Cursor::closed());
+        Ok(Pace::Going)
     }
 
     /// Puts a cursor in the place of another and goes on.
-    pub fn put_cursor(&mut self, number: u32, cursor: Cursor)
+    fn put_cursor(&mut self, number: u32, cursor: Cursor)
         requires { self.old.pc + 1 < 2 ^ 64 }
         ensures { self.new ≡ record self.old {
           pc = self.old.pc + 1;
@@ -297,6 +386,16 @@ impl Running {
         }
     }
 
+    /// The integer or the text in a column of a cursor's row, where there is one.
+    pub fn lent<'t>(&self, tables: &'t Tables, number: u32, place: u32) -> Lent<'t>
+        ensures { Lends result (slice_index_or (current tables.now (cursor_at self.now.cursors number)) place Null) }
+    {
+        match self.cursors.get(number as usize) {
+            None => Lent::Other,
+            Some(cursor) => lent(cursor, tables, place as usize),
+        }
+    }
+
     /// The rowid behind the last of a cursor's table, if there is one.
     pub fn next_rowid(&self, tables: &Tables, number: u32) -> Option<i64>
         ensures { result ≡ next_rowid (cursor_rows tables.now (cursor_at self.now.cursors number)) }
@@ -331,22 +430,21 @@ impl Running {
     }
 
     /// Adds a table without rows behind the others and goes on.
-    pub fn add_table(&mut self, alloc: Global, tables: &mut Tables) -> Result<(), AllocError>
+    #[inline(never)]
+    pub fn add_table(&mut self, alloc: Global, tables: &mut Tables) -> Result<Pace, AllocError>
         requires { self.old.pc + 1 < 2 ^ 64 }
-        ensures ok { OnOk result (state_at self.new tables.new [] ≡ record (state_at self.old tables.old []) {
-          pc = self.old.pc + 1;
-          shared = with_table (shared_of self.old.params tables.old self.old.changes);
-        }) }
+        ensures leads { ActsOn result self.old tables.old self.new tables.new (λ s. skip (record s { shared = with_table s.shared })) }
         ensures log { OnErr result (self.new.changes ≡ self.old.changes) }
         ensures tables { OnErr result (tables.new ≡ tables.old) }
     {
         tables.add(alloc, &mut self.changes)?;
         self.pc += 1;
-        Ok(())
+        Ok(Pace::Going)
     }
 
     /// Runs a unit in a new frame, with so many registers as its arguments; its result goes to a register. A unit that is not
     /// there leaves NULL.
+    #[inline(never)]
     pub fn call(
         &mut self,
         alloc: Global,
@@ -355,21 +453,20 @@ impl Running {
         first: u32,
         count: u32,
         to: u32,
-    ) -> Result<(), AllocError>
+    ) -> Result<Pace, AllocError>
         requires { self.old.pc + 1 < 2 ^ 64 }
-        ensures ok { OnOk result ((w : World) →
-            called (unit_at program.now unit) (state_at self.old w []) unit (outs_from self.old.regs first count) to
-            ≡ On (state_at self.new w [])) }
+        ensures leads { Acts result self.old self.new (λ s. called (unit_at program.now unit) s unit (outs_from s.regs first count) to) }
         ensures log { OnErr result (self.new.changes ≡ self.old.changes) }
     {
         match unit_at(program, unit) {
             None => {
                 self.put(to, Out::Good(Value::Null));
-                Ok(())
+                Ok(Pace::Going)
             }
             Some(callee) => {
                 let args = self.registers.range(alloc, first, count)?;
-                self.enter(alloc, unit, callee, args, to)
+                self.enter(alloc, unit, callee, args, to)?;
+                Ok(Pace::Going)
             }
         }
     }
@@ -420,16 +517,20 @@ impl Running {
     }
 
     /// Leaves the unit with a register as its result. Where no frame waits the run is at its end.
-    pub fn ret(&mut self, from: u32) -> Flow
-        ensures { (w : World) → Leads result (state_at self.new w)
-            (returned self.old.stack (shared_of self.old.params w self.old.changes) (read_of self.old.regs from)) }
+    #[inline(never)]
+    pub fn ret(&mut self, from: u32, event: &mut Event) -> Result<Pace, AllocError>
+        ensures leads { StopsOrActs result event.new self.old self.new (λ s. returned s.stack s.shared (read_of s.regs from)) }
+        ensures log { OnErr result (self.new.changes ≡ self.old.changes) }
     {
         match self.frames.pop() {
-            None => Flow::Finished,
+            None => {
+                *event = Event::Done;
+                Ok(Pace::Stopping)
+            }
             Some(frame) => {
                 let out = self.registers.take(from);
                 self.resume(frame, out);
-                Flow::Going
+                Ok(Pace::Going)
             }
         }
     }

@@ -1,5 +1,6 @@
 // The rows of one table.
 ghost use Rattle.std.specs.Prelude.{◌≡◌, ◌-◌, [], length, None, Ok, OnOk, OnErr, IfOk, is_some, slice_get, slice_index_or};
+ghost use Rattle.eng_record.specs.Lent.{Lends};
 ghost use Rattle.eng_record.specs.Reading.{reading};
 ghost use Rattle.eng_value.specs.StoredRows.{IsAscending, next_rowid};
 ghost use Rattle.eng_value.specs.declared.value.Value.TheVariants.{Null};
@@ -9,7 +10,7 @@ ghost use Rattle.vm_core.specs.Cursors.{on_row};
 ghost use Rattle.vm_core.specs.Stored.{row_from};
 
 use eng_key::{rowid_key, rowid_of_key};
-use eng_record::{column, decode, encode};
+use eng_record::{Lent, column, decode, encode, lent_column};
 use eng_tree::{Bytes, Tree};
 use eng_value::{MAX_ROWID, Row, StoredRow, Value};
 use std::alloc::{AllocError, Global};
@@ -64,7 +65,10 @@ impl Table {
         let _tree = &self.tree;
         match rowid.checked_add(1) {
             None => None,
-            Some(least) => self.rowid_from(least, near),
+            Some(least) => {
+                *near = near.saturating_add(1);
+                self.rowid_from(least, near)
+            }
         }
     }
 
@@ -119,6 +123,16 @@ impl Table {
         match self.tree.get_near(&rowid_key(rowid), near) {
             None => Ok(Value::Null),
             Some(record) => column_of(alloc, record, place),
+        }
+    }
+
+    /// The integer or the text in a column of the row of this rowid, where there is one.
+    pub fn lent(&self, rowid: i64, place: usize, near: usize) -> Lent<'_>
+        ensures { Lends result (slice_index_or (values_of (row_under self.now rowid)) place Null) }
+    {
+        match self.tree.get_near(&rowid_key(rowid), near) {
+            None => Lent::Other,
+            Some(record) => lent_column(record, place),
         }
     }
 

@@ -1,5 +1,6 @@
 // The tables.
 ghost use Rattle.std.specs.Prelude.{◌≡◌, List, [], length, OnOk, OnErr, IfOk, slice_get, slice_index_or};
+ghost use Rattle.eng_record.specs.Lent.{Lends};
 ghost use Rattle.eng_value.specs.StoredRows.{next_rowid};
 ghost use Rattle.eng_value.specs.declared.value.Value.{Value as MeantValue};
 ghost use Rattle.eng_value.specs.declared.value.Value.TheVariants.{Null};
@@ -9,6 +10,7 @@ ghost use Rattle.vm_core.specs.Cursors.{on_row};
 ghost use Rattle.vm_core.specs.Paused.{shared_of};
 
 use crate::table::Table;
+use eng_record::Lent;
 use eng_value::{StoredRow, Value};
 use std::alloc::{AllocError, Global};
 use std::marker::Model;
@@ -102,6 +104,16 @@ impl Tables {
         match self.tables.get(table as usize) {
             None => Ok(Value::Null),
             Some(table) => table.column(alloc, rowid, place, near),
+        }
+    }
+
+    /// The integer or the text in a column of the row of a rowid, where there is one.
+    pub(crate) fn lent(&self, table: u32, rowid: i64, place: usize, near: usize) -> Lent<'_>
+        ensures { Lends result (slice_index_or (values_of (row_under (rows_of self.now table) rowid)) place Null) }
+    {
+        match self.tables.get(table as usize) {
+            None => Lent::Other,
+            Some(table) => table.lent(rowid, place, near),
         }
     }
 

@@ -1,12 +1,13 @@
 // What instructions make of registers.
-ghost use Rattle.std.specs.Prelude.{◌≡◌, IfOk, slice_index_or};
+ghost use Rattle.std.specs.Prelude.{◌≡◌, IfOk, IfSome, slice_index_or};
 ghost use Rattle.eng_key.specs.Values.{value_key};
 ghost use Rattle.eng_value.specs.Applied.{binary_of, function_by, merged, unary_of};
 ghost use Rattle.eng_value.specs.Casts.{store_as};
 ghost use Rattle.eng_value.specs.Comparisons.{like_escaped_of};
 ghost use Rattle.eng_value.specs.Operators.{length_of, made};
 ghost use Rattle.eng_value.specs.Outs.{turned};
-ghost use Rattle.eng_value.specs.declared.value.Value.TheVariants.{Null};
+ghost use Rattle.eng_value.specs.declared.out.Out.TheVariants.{Good};
+ghost use Rattle.eng_value.specs.declared.value.Value.TheVariants.{Integer, Null};
 ghost use Rattle.vm_code.specs.Machine.{outs_from, parameter_at, read as read_of};
 
 use eng_operator as operator;
@@ -49,6 +50,38 @@ pub(crate) fn binary(
         registers.read(left, &null),
         registers.read(right, &null),
     )
+}
+
+/// The same where both registers hold integers and an integer comes of them; none says nothing.
+pub(crate) fn integers(
+    registers: &Registers,
+    operator: &BinaryOperator,
+    left: u32,
+    right: u32,
+) -> Option<i64>
+    ensures { IfSome result (λ n.
+        binary_of operator.now (read_of registers.now left) (read_of registers.now right) ≡ Good (Integer n)) }
+{
+    match (registers.integer_at(left), registers.integer_at(right)) {
+        (Some(a), Some(b)) => operator::binary_of_integers(operator, a, b),
+        _ => None,
+    }
+}
+
+/// The same where both registers hold texts and an integer comes of them; none says nothing.
+pub(crate) fn texts(
+    registers: &Registers,
+    operator: &BinaryOperator,
+    left: u32,
+    right: u32,
+) -> Option<i64>
+    ensures { IfSome result (λ n.
+        binary_of operator.now (read_of registers.now left) (read_of registers.now right) ≡ Good (Integer n)) }
+{
+    match (registers.text_at(left), registers.text_at(right)) {
+        (Some(a), Some(b)) => operator::binary_of_texts(operator, a, b),
+        _ => None,
+    }
 }
 
 /// Whether a text is like a pattern with a character of escape, of three registers.

@@ -1,10 +1,11 @@
 // Registers.
-ghost use Rattle.std.specs.Prelude.{◌≡◌, ◌+◌, [], replicate, slice_index_or, slice_set, IfOk};
+ghost use Rattle.std.specs.Prelude.{◌≡◌, ◌≢◌, ◌+◌, ℕ, ℤ, List, [], replicate, slice_index_or, slice_set, IfOk, MatchOption};
 ghost use Rattle.eng_value.specs.declared.out.Out.TheVariants.{Good};
-ghost use Rattle.eng_value.specs.declared.value.Value.TheVariants.{Null};
+ghost use Rattle.eng_value.specs.declared.value.Value.TheVariants as sql;
+ghost use Rattle.eng_value.specs.declared.value.Value.TheVariants.{Integer, Null};
 ghost use Rattle.vm_code.specs.Machine.{good_or_null, integer_in, integer_of, outs_from, read as read_of, values_from};
 
-use eng_value::{Out, Row, Value};
+use eng_value::{Out, Row, Text, Value};
 use std::alloc::{AllocError, Global};
 use std::marker::Model;
 use std::mem;
@@ -103,8 +104,72 @@ impl Registers {
         integer(self.read(register, &Out::Good(Value::Null)))
     }
 
+    /// The integer that a register holds, if it holds one.
+    pub fn integer_at(&self, register: u32) -> Option<i64>
+        ensures { MatchOption result ((n : ℤ) → read_of self.now register ≢ Good (Integer n)) (λ n. read_of self.now register ≡ Good (Integer n)) }
+    {
+        match self.outs.get(register as usize) {
+            Some(Out::Good(Value::Integer(n))) => Some(*n),
+            _ => None,
+        }
+    }
+
+    /// The text that a register holds, if it holds one.
+    pub fn text_at(&self, register: u32) -> Option<&Text>
+        ensures { MatchOption result ((text : List ℕ) → read_of self.now register ≢ Good (sql.Text text)) (λ text. read_of self.now register ≡ Good (sql.Text text.now)) }
+    {
+        match self.outs.get(register as usize) {
+            Some(Out::Good(Value::Text(text))) => Some(text),
+            _ => None,
+        }
+    }
+
     /// Writes a register. Takes no memory.
+    #[inline]
     pub fn write(&mut self, register: u32, out: Out)
+        ensures { self.new ≡ slice_set self.old register out }
+    {
+        match out {
+            Out::Good(Value::Null) => self.write_null(register),
+            Out::Good(Value::Integer(n)) => self.write_integer(register, n),
+            out => self.replace(register, out),
+        }
+    }
+
+    /// Writes NULL.
+    #[inline]
+    pub fn write_null(&mut self, register: u32)
+        ensures { self.new ≡ slice_set self.old register (Good Null) }
+    {
+        let at = register as usize;
+        if at < self.outs.len() {
+            set_null(&mut self.outs[at]);
+        }
+    }
+
+    /// Writes an integer.
+    #[inline]
+    pub fn write_integer(&mut self, register: u32, n: i64)
+        ensures { self.new ≡ slice_set self.old register (Good (Integer n)) }
+    {
+        let at = register as usize;
+        if at < self.outs.len() {
+            set_integer(&mut self.outs[at], n);
+        }
+    }
+
+    /// Writes a text.
+    pub fn write_text(&mut self, register: u32, text: Text)
+        ensures { self.new ≡ slice_set self.old register (Good (sql.Text text)) }
+    {
+        let at = register as usize;
+        if at < self.outs.len() {
+            set_text(&mut self.outs[at], text);
+        }
+    }
+
+    #[inline(never)]
+    fn replace(&mut self, register: u32, out: Out)
         ensures { self.new ≡ slice_set self.old register out }
     {
         let at = register as usize;
@@ -125,6 +190,51 @@ impl Registers {
             Out::Good(Value::Null)
         }
     }
+}
+
+// The next three write in place where they can: then little is moved, and nothing of another kind is dropped.
+#[inline]
+fn set_null(out: &mut Out)
+    ensures { out.new ≡ Good Null }
+{
+    match out {
+        Out::Good(Value::Null) => {}
+        _ => drop_to_null(out),
+    }
+}
+
+#[inline]
+fn set_integer(out: &mut Out, n: i64)
+    ensures { out.new ≡ Good (Integer n) }
+{
+    match out {
+        Out::Good(Value::Integer(old)) => *old = n,
+        _ => drop_to_integer(out, n),
+    }
+}
+
+#[inline]
+fn set_text(out: &mut Out, text: Text)
+    ensures { out.new ≡ Good (sql.Text text) }
+{
+    match out {
+        Out::Good(Value::Text(old)) => *old = text,
+        _ => *out = Out::Good(Value::Text(text)),
+    }
+}
+
+#[inline(never)]
+fn drop_to_null(out: &mut Out)
+    ensures { out.new ≡ Good Null }
+{
+    *out = Out::Good(Value::Null);
+}
+
+#[inline(never)]
+fn drop_to_integer(out: &mut Out, n: i64)
+    ensures { out.new ≡ Good (Integer n) }
+{
+    *out = Out::Good(Value::Integer(n));
 }
 
 fn copied(outs: &[Out], register: usize) -> Result<Out, AllocError>

@@ -53,8 +53,30 @@ fn registers_hold_what_was_written(rt: HostRuntime) -> Result<(), Fail> {
     assert_eq!(rt; registers.integer(0), 7);
     assert_eq!(rt; registers.integer(1), 0);
     assert_eq!(rt; registers.integer(9), 0);
+    assert_eq!(rt; registers.integer_at(0), Some(7));
+    assert_eq!(rt; registers.integer_at(1), None);
+    assert_eq!(rt; registers.text_at(1).map(|text| text.as_str()), Some("x"));
+    assert!(rt; registers.text_at(0).is_none());
     let none = Registers::empty(alloc);
     assert_eq!(rt; shown(alloc, none.read(0, &null))?.as_str(), "NULL");
+    Ok(())
+}
+
+// Over what is alike and over what is not.
+#[test]
+fn plain_values_are_written_in_place(rt: HostRuntime) -> Result<(), Fail> {
+    let alloc = rt.alloc();
+    let mut registers = four(alloc)?;
+    for register in [0, 1, 2, 3, 4] {
+        registers.write_integer(register, 5);
+    }
+    assert_eq!(rt; shown(alloc, &registers.take(2))?.as_str(), "5");
+    registers.write_integer(0, 6);
+    registers.write_null(1);
+    registers.write_null(2);
+    for (register, wanted) in [(0, "6"), (1, "NULL"), (2, "NULL"), (3, "5"), (4, "NULL")] {
+        assert_eq!(rt; shown(alloc, &registers.take(register))?.as_str(), wanted);
+    }
     Ok(())
 }
 

@@ -1,8 +1,9 @@
 use super::Given::{Blob, Integer, Null, Refused, Text};
 use super::*;
-use crate::{binary, unary};
+use crate::{binary, binary_of_integers, binary_of_texts, unary};
 use eng_value::{
-    Affinity, ArithmeticOp, BinaryOperator, Built, CompareOp, IntegerOp, Sides, UnaryOperator,
+    Affinity, ArithmeticOp, BinaryOperator, Built, CompareOp, IntegerOp, Sides, Text as SqlText,
+    UnaryOperator,
 };
 use std::test::Fail;
 
@@ -133,5 +134,34 @@ fn first_other_on_two(
 fn operators_on_two(rt: HostRuntime) -> Result<(), Fail> {
     let alloc = rt.alloc();
     assert_eq!(rt; first_other_on_two(alloc, &BINARY)?, None);
+    Ok(())
+}
+
+#[test]
+fn operators_on_two_integers_and_on_two_texts(rt: HostRuntime) -> Result<(), Fail> {
+    let alloc = rt.alloc();
+    let add = BinaryOperator::Arithmetic(ArithmeticOp::Add);
+    assert_eq!(rt; binary_of_integers(&add, 2, 3), Some(5));
+    assert_eq!(rt; binary_of_integers(&add, i64::MAX, 1), None);
+    assert_eq!(rt; binary_of_integers(&BinaryOperator::And, 2, 0), Some(0));
+    assert_eq!(rt; binary_of_integers(&BinaryOperator::Or, 0, 7), Some(1));
+    assert_eq!(rt;
+        binary_of_integers(&BinaryOperator::Concatenate, 1, 2),
+        None
+    );
+    let text = SqlText::from_str(alloc, "x15")?;
+    let pattern = SqlText::from_str(alloc, "%5")?;
+    assert_eq!(rt;
+        binary_of_texts(&BinaryOperator::Like, &text, &pattern),
+        Some(1)
+    );
+    assert_eq!(rt;
+        binary_of_texts(&BinaryOperator::Glob, &text, &pattern),
+        Some(0)
+    );
+    assert_eq!(rt;
+        binary_of_texts(&BinaryOperator::Concatenate, &text, &pattern),
+        None
+    );
     Ok(())
 }

@@ -1,8 +1,8 @@
 use Rattle.std.proofs.Common.{◌≡◌, ◌+◌, ◌-◌, [], ap, sym, ◌∙◌, arith}
 use Rattle.vm_code.specs.declared.program.Program.{Program}
 use Rattle.vm_code.specs.Machine.{step}
-use Rattle.vm_core.specs.Paused.{state_at}
-use Rattle.vm_core.proofs.Steps.{after_count, none_in_vain, seen_as, needed_as}
+use Rattle.vm_core.specs.Paused.{state_at, state_of}
+use Rattle.vm_core.proofs.Steps.{after_count, event_stops, names_stops, none_in_vain, seen_as, needed_as}
 use Rattle.vm_core.proofs.machine.Machine.step.Goals as goal
 
 pub loop-budget-preserved : goal.loop-budget-preserved
@@ -23,49 +23,21 @@ loop-budget-preserved g c =
       undo = c.in-Ok-Going.ensures.undo ∙ i.undo;
     }
 
-pub returns-in-Ok-Gave-clause-event : goal.returns-in-Ok-Gave-clause-event
-returns-in-Ok-Gave-clause-event g c =
+pub returns-in-Ok-Stopping-clause-event : goal.returns-in-Ok-Stopping-clause-event
+returns-in-Ok-Stopping-clause-event g c =
     let i = c.loop-budget.invariant in
     let s = state_at c.loop-budget.self-inside.running c.loop-budget.tables [] in
     let count : c.loop-budget.budget.ran + 1 - c.args.budget.now.ran ≡ c.loop-budget.budget.ran - c.args.budget.now.ran + 1 = omega arith in
-    let leads = rw c.in-Ok-Gave.field-0-is at c.in-Ok-Gave.ensures.leads in
+    let stops = rw c.in-Ok-Stopping.field-0-is at c.in-Ok-Stopping.ensures.leads in
     let same = ap (λ (p : Program). step (record { prog = p }) s) (sym i.program) in
-    seen_as c.self.inside.program c.self.inside.running c.args.self.now c.self.view_is _ c.args.tables.now _ (after_count (record { prog = c.self.inside.program }) _ _ _ s _ count i.is (same ∙ leads))
+    event_stops (record { prog = c.args.self.now.prog }) (c.loop-budget.budget.ran + 1 - c.args.budget.now.ran) (state_of c.args.self.now c.args.tables.now []) _ _ _ _ stops (seen_as c.self.inside.program c.self.inside.running c.args.self.now c.self.view_is _ c.args.tables.now _ (after_count (record { prog = c.self.inside.program }) _ _ _ s _ count i.is same))
 
-pub returns-in-Ok-Finished-clause-event : goal.returns-in-Ok-Finished-clause-event
-returns-in-Ok-Finished-clause-event g c =
-    let i = c.loop-budget.invariant in
-    let s = state_at c.loop-budget.self-inside.running c.loop-budget.tables [] in
-    let count : c.loop-budget.budget.ran + 1 - c.args.budget.now.ran ≡ c.loop-budget.budget.ran - c.args.budget.now.ran + 1 = omega arith in
-    let leads = rw c.in-Ok-Finished.field-0-is at c.in-Ok-Finished.ensures.leads in
-    let same = ap (λ (p : Program). step (record { prog = p }) s) (sym i.program) in
-    seen_as c.self.inside.program c.self.inside.running c.args.self.now c.self.view_is _ c.args.tables.now _ (after_count (record { prog = c.self.inside.program }) _ _ _ s _ count i.is (same ∙ leads))
+pub returns-in-Ok-Stopping-clause-interrupted : goal.returns-in-Ok-Stopping-clause-interrupted
+returns-in-Ok-Stopping-clause-interrupted g c =
+    names_stops _ _ _ _ (rw c.in-Ok-Stopping.field-0-is at c.in-Ok-Stopping.ensures.leads)
 
-pub returns-in-Ok-Failed-clause-event : goal.returns-in-Ok-Failed-clause-event
-returns-in-Ok-Failed-clause-event g c =
-    let i = c.loop-budget.invariant in
-    let s = state_at c.loop-budget.self-inside.running c.loop-budget.tables [] in
-    let count : c.loop-budget.budget.ran + 1 - c.args.budget.now.ran ≡ c.loop-budget.budget.ran - c.args.budget.now.ran + 1 = omega arith in
-    let leads = rw c.in-Ok-Failed.field-0-is at c.in-Ok-Failed.ensures.leads in
-    let same = ap (λ (p : Program). step (record { prog = p }) s) (sym i.program) in
-    seen_as c.self.inside.program c.self.inside.running c.args.self.now c.self.view_is _ c.args.tables.now _ (after_count (record { prog = c.self.inside.program }) _ _ _ s _ count i.is (same ∙ leads))
-
-pub returns-in-Ok-Gave-clause-needed : goal.returns-in-Ok-Gave-clause-needed
-returns-in-Ok-Gave-clause-needed g c =
-    let i = c.loop-budget.invariant in
-    let s = state_at c.loop-budget.self-inside.running c.loop-budget.tables [] in
-    let count : c.loop-budget.budget.ran + 1 - c.args.budget.now.ran ≡ c.loop-budget.budget.ran - c.args.budget.now.ran + 1 = omega arith in
-    needed_as c.self.inside.program c.self.inside.running c.args.self.now c.self.view_is _ c.args.tables.now (none_in_vain (record { prog = c.self.inside.program }) _ _ _ s count i.is)
-
-pub returns-in-Ok-Finished-clause-needed : goal.returns-in-Ok-Finished-clause-needed
-returns-in-Ok-Finished-clause-needed g c =
-    let i = c.loop-budget.invariant in
-    let s = state_at c.loop-budget.self-inside.running c.loop-budget.tables [] in
-    let count : c.loop-budget.budget.ran + 1 - c.args.budget.now.ran ≡ c.loop-budget.budget.ran - c.args.budget.now.ran + 1 = omega arith in
-    needed_as c.self.inside.program c.self.inside.running c.args.self.now c.self.view_is _ c.args.tables.now (none_in_vain (record { prog = c.self.inside.program }) _ _ _ s count i.is)
-
-pub returns-in-Ok-Failed-clause-needed : goal.returns-in-Ok-Failed-clause-needed
-returns-in-Ok-Failed-clause-needed g c =
+pub returns-in-Ok-Stopping-clause-needed : goal.returns-in-Ok-Stopping-clause-needed
+returns-in-Ok-Stopping-clause-needed g c =
     let i = c.loop-budget.invariant in
     let s = state_at c.loop-budget.self-inside.running c.loop-budget.tables [] in
     let count : c.loop-budget.budget.ran + 1 - c.args.budget.now.ran ≡ c.loop-budget.budget.ran - c.args.budget.now.ran + 1 = omega arith in

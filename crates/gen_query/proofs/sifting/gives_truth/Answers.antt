@@ -1,0 +1,11 @@
+use Rattle.gen_query.proofs.Truths.{between_gives, in_gives, like_escaped_gives}
+use Rattle.gen_query.proofs.sifting.gives_truth.Goals as goal
+
+pub returns-in-LikeEscaped : goal.returns-in-LikeEscaped
+returns-in-LikeEscaped c e = rw c.in-LikeEscaped.is (like_escaped_gives c.in-LikeEscaped.field-0 c.in-LikeEscaped.field-1 c.in-LikeEscaped.field-2)
+
+pub returns-in-Between : goal.returns-in-Between
+returns-in-Between c e = rw c.in-Between.is (between_gives c.in-Between.field-0 c.in-Between.field-1 c.in-Between.field-2 c.in-Between.field-3 c.in-Between.field-4)
+
+pub returns-in-In : goal.returns-in-In
+returns-in-In c e = rw c.in-In.is (in_gives c.in-In.field-0 c.in-In.field-1 c.in-In.field-2)

@@ -1,0 +1,6 @@
+/// Whether a run goes on behind an instruction, or stops there for an event.
+#[derive(Clone, Copy, Debug)]
+pub(crate) enum Pace {
+    Going,
+    Stopping,
+}
