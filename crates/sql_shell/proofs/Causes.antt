@@ -9,7 +9,6 @@ use Rattle.eng_value.specs.declared.value.Value.{Value}
 use Rattle.engine.specs.Causes.{IsCause, no_memory, used_up, sink_failed, meant}
 use Rattle.engine.specs.Taking.{AddsFront}
 use Rattle.host_traits.specs.Faults.{Rose}
-use Rattle.sql_meaning.specs.declared.script.Failure.{Failure}
 use Rattle.sql_meaning.specs.declared.script.Failure.TheVariants.{Refused}
 use Rattle.sql_meaning.specs.Script.{as_meant, cut_off}
 use Rattle.sql_meaning.specs.Statement.{IsNamed, Outcome, text_outcome}

@@ -1,29 +1,27 @@
 -- What parts of a script came to, one after another.
 use Rattle.std.proofs.Common.{◌≡◌, ◌≤◌, ℕ, ◌+◌, ◌-◌, Bool, true, false, ◌&&◌, ◌||◌, List, [], ◌∷◌, ◌++◌, Option, Some, None, refl, sym, ◌∙◌, ap, subst, append-nil, append_assoc, length, ◌==◌, arith}
-use Rattle.std.specs.Prelude.{is_some}
-use Rattle.std.specs.List.{flat_map, list_any}
+use Rattle.std.specs.List.{list_any}
 use Rattle.std.proofs.lemmas.Bool.{eqb-true}
 use Rattle.std.proofs.KnownBytes.{Appends-nil, Appends-trans}
 use Rattle.std.proofs.lemmas.Grind.{flat_map-append}
 use Rattle.std.specs.Io.KnownBytes.{Appends}
 use Rattle.eng_value.specs.HostMeanings.{HostMeanings}
 use Rattle.eng_value.specs.declared.cause.Cause.{Cause}
-use Rattle.eng_value.specs.declared.value.Value.{Value}
 use Rattle.sql_meaning.specs.declared.script.Failure.{Failure}
-use Rattle.sql_meaning.specs.declared.script.Failure.TheVariants.{Refused, UnknownDotLine, NotUtf8}
+use Rattle.sql_meaning.specs.declared.script.Failure.TheVariants.{UnknownDotLine, NotUtf8}
 use Rattle.sql_meaning.specs.declared.script.Options.{Options}
 use Rattle.sql_meaning.specs.Due.{Along, CutShort}
 use Rattle.sql_meaning.specs.Parts.{Part, Statement, DotLine, BadCharacter, parts_from}
 use Rattle.sql_meaning.specs.Runs.{last_state}
-use Rattle.sql_meaning.specs.Script.{Came, Come, Comes, Follow, PartComes, as_meant, as_named, came_lines, cut_off, ends, error_line, error_lines, failed, instructions, is_bad_character, is_failed, lines_of, row_line}
-use Rattle.sql_meaning.specs.Statement.{IsNamed, Outcome, text_outcome}
+use Rattle.sql_meaning.specs.Script.{Came, Come, Comes, Follow, PartComes, as_meant, as_named, came_lines, cut_off, ends, error_line, failed, is_bad_character, is_failed, lines_of}
+use Rattle.sql_meaning.specs.Statement.{Outcome, text_outcome}
 use Rattle.sql_meaning.specs.Work.{instruction_bound}
 use Rattle.sql_meaning.specs.World.{State, new_state}
 use Rattle.sql_shell.specs.declared.course.Course.{Course}
 use Rattle.sql_shell.specs.Courses.{at_end, ended_in, failed_in}
 use Rattle.sql_shell.specs.Running.{Ran, RanPartly}
 use Rattle.sql_meaning.proofs.CausedLaws.{text_outcome-named}
-use Rattle.sql_meaning.proofs.OutcomeLaws.{Come-append, Come-ended, Come-more, PartComes-some, instructions-append, last_state-append}
+use Rattle.sql_meaning.proofs.OutcomeLaws.{Come-append, Come-ended, Come-more, instructions-append, last_state-append}
 use Rattle.sql_shell.proofs.Due.{along_start, along_more, cut_at_start, cut_more, cut_short}
 
 -- ---- lines
@@ -178,9 +176,6 @@ module _ (h : HostMeanings) (options : Options) (s s' : State) (xs ys : List Par
   then-come : (os : List Came) → Come h options s' ys os → Come h options s (xs ++ ys) (p.came ++ os)
   then-come os come =
       Come-append h options s xs ys p.came os (sym p.endings) p.outcomes (subst (λ x. Come h options x ys os) p.state_is come)
-
-  then-ran : (n k : ℕ) (os : List Came) → b ≡ a + instructions p.came → instructions (p.came ++ os) ≡ instructions p.came + instructions os
-  then-ran n k os is = instructions-append p.came os
 
   pub ran_append : (s'' : State) (failed' ended' : Bool) → Ran h options s' s'' ys v w b c failed' ended' → Ran h options s s'' (xs ++ ys) u w a c (failed || failed') ended'
   ran_append s'' failed' ended' q =

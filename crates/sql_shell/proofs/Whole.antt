@@ -1,5 +1,5 @@
 -- A whole script: its outcomes, its status, and the bytes that the source tells.
-use Rattle.std.proofs.Common.{◌≡◌, ◌≢◌, ◌≤◌, ◌<◌, ◌+◌, ◌⊎◌, inl, inr, ℕ, length, Bool, true, false, ◌||◌, List, [], ◌++◌, Option, Some, None, IfSome, Ok, Err, IfOk, Result, refl, sym, ◌∙◌, ap, ap₂, subst, append-nil, length-append, arith}
+use Rattle.std.proofs.Common.{◌≡◌, ◌≢◌, ◌≤◌, ◌<◌, ◌+◌, ◌⊎◌, inl, inr, ℕ, length, Bool, true, false, ◌||◌, List, ◌++◌, Option, Some, None, IfSome, refl, sym, ◌∙◌, ap, ap₂, subst, append-nil, length-append, arith}
 use Rattle.std.proofs.Math.Nat.{eq-or-lt_of_le}
 use Rattle.std.specs.List.{list_any}
 use Rattle.std.specs.Prelude.{cond}

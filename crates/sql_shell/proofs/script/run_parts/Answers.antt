@@ -1,6 +1,4 @@
-use Rattle.std.proofs.Common.{◌≡◌, ◌&&◌, ◌||◌, Bool, false, true, [], List, length, ◌==◌, refl, sym, ◌∙◌, ap, subst, arith}
-use Rattle.sql_shell.specs.Courses.{at_end, ended_in, failed_in}
-use Rattle.sql_shell.specs.Running.{Ran, RanPartly}
+use Rattle.std.proofs.Common.{◌≡◌, false, true, length, ◌==◌, sym, ◌∙◌, ap, subst, arith}
 use Rattle.sql_shell.proofs.Running.{SoFar, ran_at_end, ran_failed, ran_going, ran_partly, empty_text, so_far_all, so_far_ended, so_far_next, so_far_part, so_far_start}
 use Rattle.sql_shell.proofs.script.run_parts.Goals as goal
 

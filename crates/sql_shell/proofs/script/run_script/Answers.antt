@@ -1,5 +1,4 @@
-use Rattle.std.proofs.Common.{◌≡◌, Some, None, sym, ◌∙◌}
-use Rattle.sql_shell.proofs.Running.{ran_partly}
+use Rattle.std.proofs.Common.{sym, ◌∙◌}
 use Rattle.sql_shell.proofs.Whole.{script_bad, script_bad_part, script_ended, script_part, script_whole}
 use Rattle.sql_shell.proofs.script.run_script.Goals as goal
 

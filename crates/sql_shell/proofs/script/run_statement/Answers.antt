@@ -1,4 +1,4 @@
-use Rattle.std.proofs.Common.{◌≡◌, ◌∙◌, ◌&&◌, ◌-◌, ◌+◌, [], ◌++◌, ap, subst, arith}
+use Rattle.std.proofs.Common.{◌≡◌, ◌∙◌, ◌&&◌, ◌-◌, ◌++◌, ap, subst, arith}
 use Rattle.sql_meaning.specs.Parts as part
 use Rattle.sql_meaning.specs.Script.{Came, Comes, came_lines}
 use Rattle.sql_shell.proofs.Running.{came-ends, ran_one, ran_one_partly, ran_unwritten}

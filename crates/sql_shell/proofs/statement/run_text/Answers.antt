@@ -1,4 +1,4 @@
-use Rattle.std.proofs.Common.{[], ◌++◌, ◌-◌, ◌+◌, ◌≤◌, None, IfOk, ◌∙◌, ap, subst, arith}
+use Rattle.std.proofs.Common.{[], ◌++◌, ◌-◌, None, IfOk, ◌∙◌, ap, subst, arith}
 use Rattle.sql_meaning.specs.Statement.{text_outcome}
 use Rattle.sql_shell.specs.Running.{CameTo}
 use Rattle.vm_core.specs.Meant.{meant}

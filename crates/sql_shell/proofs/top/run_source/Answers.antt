@@ -1,4 +1,4 @@
-use Rattle.std.proofs.Common.{inl, inr, sym, ◌∙◌}
+use Rattle.std.proofs.Common.{inr}
 use Rattle.sql_shell.proofs.Whole.{told_nothing, told_partly, told_whole}
 use Rattle.sql_shell.proofs.top.run_source.Goals as goal
 
