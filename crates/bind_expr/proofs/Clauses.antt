@@ -1,19 +1,34 @@
 -- What binding comes to for each kind of expression, said of the trees that they are.
 use Rattle.std.specs.Prelude.{◌≡◌, List, map, length, Option, Ok, Err}
 use Rattle.std.specs.Option.{option_map}
-use Rattle.std.proofs.Common.{rules}
+use Rattle.std.proofs.Common.{rules, ap}
 use Rattle.std.proofs.lemmas.List.{length-map}
 use Rattle.eng_value.specs.declared.cause.Cause.TheVariants as cause
 use Rattle.sql_tree.specs.declared.expr.Arguments.{Arguments}
+use Rattle.sql_tree.specs.Folds.{ExprStep, ArmStep, fold_expr, fold_arm}
+use Rattle.sql_tree.specs.declared.expr.Expr.TheOpen.{Expr-F}
 use Rattle.sql_tree.specs.declared.expr.Arm.{Arm as SyntaxArm, roll-Arm}
 use Rattle.sql_tree.specs.declared.expr.BinaryOp.{BinaryOp}
 use Rattle.sql_tree.specs.declared.expr.Expr.{Expr, the_lemmas}
 use Rattle.sql_tree.specs.declared.expr.Expr.TheVariants as x
 use Rattle.sql_tree.specs.declared.expr.TypeName.{TypeName}
 use Rattle.sql_tree.specs.declared.expr.UnaryOp.{UnaryOp}
+use Rattle.sql_tree.specs.declared.query.Query.{Query}
 use Rattle.sql_tree.specs.declared.token.Token.{Token}
-use Rattle.sql_meaning.specs.Binding.{◌>>=◌, Scope, all_in, option_in, bound_of, arm_bound, literal_bound, parameter_bound, column_bound, table_column_bound, unary_bound, binary_bound, between_bound, like_bound, in_bound, collate_bound, collation_named, cast_bound, affinity_of_type, function_called, builtin_named, call_bound, case_bound}
+use Rattle.sql_meaning.specs.Binding.{◌>>=◌, Binding, bind_step, bind_arm_step, Scope, all_in, option_in, bound_of, arm_bound, literal_bound, parameter_bound, column_bound, table_column_bound, unary_bound, binary_bound, between_bound, like_bound, in_bound, collate_bound, collation_named, cast_bound, affinity_of_type, function_called, builtin_named, call_bound, case_bound}
 use Rattle.sql_meaning.specs.Spelled.{name_at}
+
+-- ---- folds at the nodes that may lack a part
+
+fold-Like : {A B : Type 0} (f : ExprStep A B → A) (g : ArmStep A B → B) (a b : Expr) (c : Option Expr)
+    → fold_expr f g (x.Like a b c) ≡ f (Expr-F.Like (fold_expr f g a) (fold_expr f g b) (option_map (fold_expr f g) c))
+fold-Like f g a b c = search (rules, the_lemmas)
+
+fold-Case : {A B : Type 0} (f : ExprStep A B → A) (g : ArmStep A B → B) (a : Option Expr) (arms : List SyntaxArm) (c : Option Expr)
+    → fold_expr f g (x.Case a arms c) ≡ f (Expr-F.Case (option_map (fold_expr f g) a) (map (fold_arm f g) arms) (option_map (fold_expr f g) c))
+fold-Case f g a arms c = search (rules, the_lemmas)
+
+-- ---- how each kind is bound
 
 pub bound_of-Literal : (t : Token) (s : Scope) → bound_of (x.Literal t) s ≡ Ok (literal_bound s.text t)
 bound_of-Literal t s = search (rules, the_lemmas)
@@ -39,7 +54,7 @@ bound_of-Between a b c s = search (rules, the_lemmas)
 
 pub bound_of-Like : (a b : Expr) (c : Option Expr) (s : Scope)
     → bound_of (x.Like a b c) s ≡ (bound_of a s >>= λ x. bound_of b s >>= λ y. option_in s (option_map bound_of c) >>= λ z. Ok (like_bound x y z))
-bound_of-Like a b c s = search (rules, the_lemmas)
+bound_of-Like a b c s = ap (λ (m : Binding). m s) (fold-Like bind_step bind_arm_step a b c)
 
 pub bound_of-In : (a : Expr) (others : List Expr) (s : Scope) → bound_of (x.In a others) s ≡ (bound_of a s >>= λ x. all_in s (map bound_of others) >>= λ ys. Ok (in_bound x ys))
 bound_of-In a others s = search (rules, the_lemmas)
@@ -61,7 +76,7 @@ bound_of-Call t how args filter s = rw (← length-map args bound_of) (call_over
 
 pub bound_of-Case : (a : Option Expr) (arms : List SyntaxArm) (otherwise : Option Expr) (s : Scope)
     → bound_of (x.Case a arms otherwise) s ≡ (option_in s (option_map bound_of a) >>= λ x. all_in s (map arm_bound arms) >>= λ ys. option_in s (option_map bound_of otherwise) >>= λ z. Ok (case_bound x ys z))
-bound_of-Case a arms otherwise s = search (rules, the_lemmas)
+bound_of-Case a arms otherwise s = ap (λ (m : Binding). m s) (fold-Case bind_step bind_arm_step a arms otherwise)
 
 pub bound_of-RaiseIgnore : (s : Scope) → bound_of x.RaiseIgnore s ≡ Err cause.NotYet
 bound_of-RaiseIgnore s = search (rules, the_lemmas)
@@ -72,3 +87,12 @@ bound_of-RaiseAbort t s = search (rules, the_lemmas)
 pub arm_bound-is : (condition shown : Expr) (s : Scope)
     → arm_bound (roll-Arm (record { condition = condition; value = shown })) s ≡ (bound_of condition s >>= λ x. bound_of shown s >>= λ y. Ok (record { condition = x; value = y }))
 arm_bound-is condition shown s = search (rules, the_lemmas)
+
+pub bound_of-InQuery : (a : Expr) (q : Query) (s : Scope) → bound_of (x.InQuery a q) s ≡ Err cause.NotYet
+bound_of-InQuery a q s = search (rules, the_lemmas)
+
+pub bound_of-Subquery : (q : Query) (s : Scope) → bound_of (x.Subquery q) s ≡ Err cause.NotYet
+bound_of-Subquery q s = search (rules, the_lemmas)
+
+pub bound_of-Exists : (q : Query) (s : Scope) → bound_of (x.Exists q) s ≡ Err cause.NotYet
+bound_of-Exists q s = search (rules, the_lemmas)

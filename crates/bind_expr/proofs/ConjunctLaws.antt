@@ -10,8 +10,9 @@ use Rattle.sql_tree.specs.declared.expr.Arm.{Arm as SyntaxArm}
 use Rattle.sql_tree.specs.declared.expr.BinaryOp.{BinaryOp}
 use Rattle.sql_tree.specs.declared.expr.BinaryOp.TheVariants as op
 use Rattle.sql_tree.specs.declared.expr.Expr.{Expr, out-Expr, roll-Expr, roll-out-Expr}
+use Rattle.sql_tree.specs.Layers.{ExprLayer}
 use Rattle.sql_tree.specs.declared.expr.Expr.TheOpen.{Expr-F}
-use Rattle.sql_tree.specs.declared.expr.Expr.TheVariants.{rolls-Literal, rolls-Parameter, rolls-Column, rolls-TableColumn, rolls-Unary, rolls-Binary, rolls-Between, rolls-Like, rolls-In, rolls-Collate, rolls-Cast, rolls-Call, rolls-Case, rolls-RaiseIgnore, rolls-RaiseAbort}
+use Rattle.sql_tree.specs.declared.expr.Expr.TheVariants.{rolls-Literal, rolls-Parameter, rolls-Column, rolls-TableColumn, rolls-Unary, rolls-Binary, rolls-Between, rolls-Like, rolls-In, rolls-Collate, rolls-Cast, rolls-Call, rolls-Case, rolls-InQuery, rolls-Subquery, rolls-Exists, rolls-RaiseIgnore, rolls-RaiseAbort}
 use Rattle.sql_tree.specs.declared.expr.Expr.TheVariants as x
 use Rattle.sql_tree.specs.declared.expr.TypeName.{TypeName}
 use Rattle.sql_tree.specs.declared.expr.UnaryOp.{UnaryOp}
@@ -22,7 +23,7 @@ use Rattle.sql_meaning.specs.Binding.{◌>>=◌, Scope, Bound, Form, Plain, Leas
 use Rattle.sql_meaning.specs.Spelled.{name_at}
 use Rattle.bind_expr.specs.Gathers.{part_of}
 use Rattle.bind_expr.specs.Parts.{part_in, unsplit, compared_in, Appends}
-use Rattle.bind_expr.proofs.Clauses.{bound_of-Literal, bound_of-Parameter, bound_of-Column, bound_of-TableColumn, bound_of-RaiseIgnore, bound_of-RaiseAbort, bound_of-Unary, bound_of-Binary, bound_of-Between, bound_of-Like, bound_of-In, bound_of-Collate, bound_of-Cast, bound_of-Call, bound_of-Case}
+use Rattle.bind_expr.proofs.Clauses.{bound_of-Literal, bound_of-Parameter, bound_of-Column, bound_of-TableColumn, bound_of-InQuery, bound_of-Subquery, bound_of-Exists, bound_of-RaiseIgnore, bound_of-RaiseAbort, bound_of-Unary, bound_of-Binary, bound_of-Between, bound_of-Like, bound_of-In, bound_of-Collate, bound_of-Cast, bound_of-Call, bound_of-Case}
 use Rattle.bind_expr.proofs.PartLaws.{column_part, table_column_part, then_then, same_then}
 
 -- ---- what is one conjunct
@@ -187,7 +188,7 @@ refuses_between a b c s old mid new why (inr h) = inr (bound_of-Between a b c s 
 
 -- ---- all others
 
-whole_by : (y : Expr-F Expr SyntaxArm) (s : Scope) → ((o : BinaryOp) (a b : Expr) → roll-Expr y ≢ x.Binary o a b) → ((a b c : Expr) → roll-Expr y ≢ x.Between a b c) → part_of s (roll-Expr y) ≡ bound_of (roll-Expr y) s
+whole_by : (y : ExprLayer) (s : Scope) → ((o : BinaryOp) (a b : Expr) → roll-Expr y ≢ x.Binary o a b) → ((a b c : Expr) → roll-Expr y ≢ x.Between a b c) → part_of s (roll-Expr y) ≡ bound_of (roll-Expr y) s
 whole_by (Expr-F.Literal t) s not_binary not_between = rw (rolls-Literal t) (rw (bound_of-Literal t s) refl)
 whole_by (Expr-F.Parameter t) s not_binary not_between = rw (rolls-Parameter t) (rw (bound_of-Parameter t s) refl)
 whole_by (Expr-F.Column t) s not_binary not_between = rw (rolls-Column t) (rw (bound_of-Column t s) (column_part (name_at s.text t) s.table))
@@ -201,6 +202,9 @@ whole_by (Expr-F.Collate a t) s not_binary not_between = rw (rolls-Collate a t) 
 whole_by (Expr-F.Cast a t) s not_binary not_between = rw (rolls-Cast a t) (whole_of-Cast a t s)
 whole_by (Expr-F.Call t how args filter) s not_binary not_between = rw (rolls-Call t how args filter) (whole_of-Call t how args filter s)
 whole_by (Expr-F.Case a arms otherwise) s not_binary not_between = rw (rolls-Case a arms otherwise) (whole_of-Case a arms otherwise s)
+whole_by (Expr-F.InQuery a q) s not_binary not_between = rw (rolls-InQuery a q) (rw (bound_of-InQuery a q s) refl)
+whole_by (Expr-F.Subquery q) s not_binary not_between = rw (rolls-Subquery q) (rw (bound_of-Subquery q s) refl)
+whole_by (Expr-F.Exists q) s not_binary not_between = rw (rolls-Exists q) (rw (bound_of-Exists q s) refl)
 whole_by Expr-F.RaiseIgnore s not_binary not_between = rw rolls-RaiseIgnore (rw (bound_of-RaiseIgnore s) refl)
 whole_by (Expr-F.RaiseAbort t) s not_binary not_between = rw (rolls-RaiseAbort t) (rw (bound_of-RaiseAbort t s) refl)
 

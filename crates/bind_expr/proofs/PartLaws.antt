@@ -14,6 +14,7 @@ use Rattle.sql_tree.specs.declared.expr.Expr.TheVariants as x
 use Rattle.sql_tree.specs.declared.expr.TypeName.{TypeName}
 use Rattle.sql_tree.specs.declared.expr.UnaryOp.{UnaryOp}
 use Rattle.sql_tree.specs.declared.expr.UnaryOp.TheVariants as sign
+use Rattle.sql_tree.specs.declared.query.Query.{Query}
 use Rattle.sql_tree.specs.declared.token.Token.{Token}
 use Rattle.sql_meaning.specs.declared.bound.BoundArm.{BoundArm}
 use Rattle.sql_meaning.specs.declared.bound.BoundExpr.{BoundExpr}
@@ -25,7 +26,7 @@ use Rattle.bind_expr.specs.declared.groups.Group.{Group}
 use Rattle.bind_expr.specs.Gathers.{part_of, option_part, arm_in, operand, operand_of, operands_of, choice, choice_of, choices_of, matching, match_of, matches_of, call_part, case_part}
 use Rattle.bind_expr.specs.Groups.{empty, beside, gathered, collation_of, in_group, call_group, choose_group, match_group}
 use Rattle.bind_expr.specs.Parts.{part_in, unsplit}
-use Rattle.bind_expr.proofs.Clauses.{bound_of-Literal, bound_of-Parameter, bound_of-Column, bound_of-TableColumn, bound_of-Unary, bound_of-Binary, bound_of-Between, bound_of-Like, bound_of-In, bound_of-Collate, bound_of-Cast, bound_of-Call, bound_of-Case, bound_of-RaiseIgnore, bound_of-RaiseAbort}
+use Rattle.bind_expr.proofs.Clauses.{bound_of-Literal, bound_of-Parameter, bound_of-Column, bound_of-TableColumn, bound_of-Unary, bound_of-Binary, bound_of-Between, bound_of-Like, bound_of-In, bound_of-Collate, bound_of-Cast, bound_of-Call, bound_of-Case, bound_of-InQuery, bound_of-Subquery, bound_of-Exists, bound_of-RaiseIgnore, bound_of-RaiseAbort}
 use Rattle.bind_expr.proofs.Collations.{or_else-none, or_else-assoc, first_collation-append}
 
 -- ---- refusals
@@ -316,4 +317,13 @@ part_of-RaiseIgnore s = rw (bound_of-RaiseIgnore s) refl
 pub part_of-RaiseAbort : (t : Token) (s : Scope) → part_of s (x.RaiseAbort t) ≡ Err cause.NotYet
 part_of-RaiseAbort t s = rw (bound_of-RaiseAbort t s) refl
 
-pub ruleset part_steps = (part_of-Literal, part_of-Parameter, part_of-Column, part_of-TableColumn, part_of-Unary, part_of-Binary, part_of-Between, part_of-Like, part_of-In, part_of-Collate, part_of-Cast, part_of-Call, part_of-Case, part_of-RaiseIgnore, part_of-RaiseAbort)
+pub part_of-InQuery : (a : Expr) (q : Query) (s : Scope) → part_of s (x.InQuery a q) ≡ Err cause.NotYet
+part_of-InQuery a q s = rw (bound_of-InQuery a q s) refl
+
+pub part_of-Subquery : (q : Query) (s : Scope) → part_of s (x.Subquery q) ≡ Err cause.NotYet
+part_of-Subquery q s = rw (bound_of-Subquery q s) refl
+
+pub part_of-Exists : (q : Query) (s : Scope) → part_of s (x.Exists q) ≡ Err cause.NotYet
+part_of-Exists q s = rw (bound_of-Exists q s) refl
+
+pub ruleset part_steps = (part_of-Literal, part_of-Parameter, part_of-Column, part_of-TableColumn, part_of-Unary, part_of-Binary, part_of-Between, part_of-Like, part_of-In, part_of-Collate, part_of-Cast, part_of-Call, part_of-Case, part_of-InQuery, part_of-Subquery, part_of-Exists, part_of-RaiseIgnore, part_of-RaiseAbort)

@@ -17,7 +17,7 @@ use Rattle.sql_meaning.specs.Names.{is_same_name}
 use Rattle.sql_meaning.specs.Spelled.{name_at, literal_at}
 use Rattle.bind_expr.specs.declared.part.BoundPart.{BoundPart}
 use Rattle.bind_expr.specs.Parts.{part_in, unsplit, whole}
-use Rattle.bind_expr.proofs.Clauses.{bound_of-Literal, bound_of-Parameter, bound_of-Column, bound_of-TableColumn, bound_of-Unary, bound_of-Binary, bound_of-Between, bound_of-Like, bound_of-In, bound_of-Collate, bound_of-Cast, bound_of-Call, bound_of-Case, bound_of-RaiseIgnore, bound_of-RaiseAbort, arm_bound-is}
+use Rattle.bind_expr.proofs.Clauses.{bound_of-Literal, bound_of-Parameter, bound_of-Column, bound_of-TableColumn, bound_of-Unary, bound_of-Binary, bound_of-Between, bound_of-Like, bound_of-In, bound_of-Collate, bound_of-Cast, bound_of-Call, bound_of-Case, bound_of-InQuery, bound_of-Subquery, bound_of-Exists, bound_of-RaiseIgnore, bound_of-RaiseAbort, arm_bound-is}
 use Rattle.eng_value.specs.declared.operators.BinaryOperator.{BinaryOperator}
 use Rattle.eng_value.specs.declared.operators.Sides.{Sides}
 use Rattle.eng_value.specs.declared.operators.UnaryOperator.{UnaryOperator}
@@ -27,9 +27,21 @@ use Rattle.sql_tree.specs.declared.expr.BinaryOp.{BinaryOp}
 use Rattle.sql_tree.specs.declared.expr.BinaryOp.TheVariants as op
 use Rattle.sql_tree.specs.declared.expr.Expr.{Expr, ind-Expr, map-Expr, roll-Expr, the_lemmas}
 use Rattle.sql_tree.specs.declared.expr.Expr.TheOpen.{Expr-F, Arm-F}
-use Rattle.sql_tree.specs.declared.expr.Expr.TheVariants.{rolls-Literal, rolls-Parameter, rolls-Column, rolls-TableColumn, rolls-Unary, rolls-Binary, rolls-Between, rolls-Like, rolls-In, rolls-Collate, rolls-Cast, rolls-Call, rolls-Case, rolls-RaiseIgnore, rolls-RaiseAbort}
+use Rattle.sql_tree.specs.declared.expr.Expr.TheVariants.{rolls-Literal, rolls-Parameter, rolls-Column, rolls-TableColumn, rolls-Unary, rolls-Binary, rolls-Between, rolls-Like, rolls-In, rolls-Collate, rolls-Cast, rolls-Call, rolls-Case, rolls-InQuery, rolls-Subquery, rolls-Exists, rolls-RaiseIgnore, rolls-RaiseAbort}
 use Rattle.sql_tree.specs.declared.expr.Expr.TheVariants as x
 use Rattle.sql_tree.specs.declared.expr.TypeName.{TypeName}
+use Rattle.sql_tree.specs.declared.query.JoinConstraint.{JoinConstraint}
+use Rattle.sql_tree.specs.declared.query.QueryPart.{QueryPart}
+use Rattle.sql_tree.specs.declared.query.ResultColumn.{ResultColumn}
+use Rattle.sql_tree.specs.declared.query.Source.{Source}
+use Rattle.sql_tree.specs.declared.query.CommonTable.{CommonTable}
+use Rattle.sql_tree.specs.declared.query.CompoundPart.{CompoundPart}
+use Rattle.sql_tree.specs.declared.query.FromItem.{FromItem}
+use Rattle.sql_tree.specs.declared.query.OrderingTerm.{OrderingTerm}
+use Rattle.sql_tree.specs.declared.query.Query.{Query}
+use Rattle.sql_tree.specs.declared.query.RowLimit.{RowLimit}
+use Rattle.sql_tree.specs.declared.query.SelectCore.{SelectCore}
+use Rattle.sql_tree.specs.declared.query.SpannedExpr.{SpannedExpr}
 use Rattle.sql_tree.specs.declared.expr.UnaryOp.{UnaryOp}
 use Rattle.sql_tree.specs.declared.expr.UnaryOp.TheVariants as sign
 use Rattle.sql_tree.specs.declared.token.Token.{Token}
@@ -54,7 +66,8 @@ pub size-Between : (a b c : Expr) → size_of (x.Between a b c) ≡ 1 + size_of 
 size-Between a b c = search (rules, the_lemmas)
 
 pub size-Like : (a b : Expr) (c : Option Expr) → size_of (x.Like a b c) ≡ 1 + size_of a + size_of b + or_0 (option_map size_of c)
-size-Like a b c = search (rules, the_lemmas)
+size-Like a b None = search (rules, the_lemmas)
+size-Like a b (Some c) = search (rules, the_lemmas)
 
 pub size-In : (a : Expr) (others : List Expr) → size_of (x.In a others) ≡ 1 + size_of a + total (map size_of others)
 size-In a others = search (rules, the_lemmas)
@@ -66,11 +79,15 @@ pub size-Cast : (a : Expr) (t : TypeName) → size_of (x.Cast a t) ≡ 1 + size_
 size-Cast a t = search (rules, the_lemmas)
 
 pub size-Call : (t : Token) (how : Arguments) (args : List Expr) (filter : Option Expr) → size_of (x.Call t how args filter) ≡ 1 + total (map size_of args) + or_0 (option_map size_of filter)
-size-Call t how args filter = search (rules, the_lemmas)
+size-Call t how args None = search (rules, the_lemmas)
+size-Call t how args (Some c) = search (rules, the_lemmas)
 
 pub size-Case : (a : Option Expr) (arms : List SyntaxArm) (otherwise : Option Expr)
     → size_of (x.Case a arms otherwise) ≡ 2 + or_0 (option_map size_of a) + total (map size_of_arm arms) + or_0 (option_map size_of otherwise)
-size-Case a arms otherwise = search (rules, the_lemmas)
+size-Case None arms None = search (rules, the_lemmas)
+size-Case None arms (Some c) = search (rules, the_lemmas)
+size-Case (Some a) arms None = search (rules, the_lemmas)
+size-Case (Some a) arms (Some c) = search (rules, the_lemmas)
 
 pub size-Literal : (t : Token) → size_of (x.Literal t) ≡ 1
 size-Literal t = search (rules, the_lemmas)
@@ -367,6 +384,15 @@ cast_case a t ha s r h =
     let is : cast_bound (affinity_of_type s.text t) w.0 ≡ r = let e = w.2 in cc in
     rw (← is, size-Cast a t) (cast_sized (affinity_of_type s.text t) (size_of a) w.0 (ha s w.0 w.1))
 
+in_query_case : (a : Expr) (q : Query) → IsSized (x.InQuery a q)
+in_query_case a q s b h = let e = sym (bound_of-InQuery a q s) ∙ h in cc
+
+subquery_case : (q : Query) → IsSized (x.Subquery q)
+subquery_case q s b h = let e = sym (bound_of-Subquery q s) ∙ h in cc
+
+exists_case : (q : Query) → IsSized (x.Exists q)
+exists_case q s b h = let e = sym (bound_of-Exists q s) ∙ h in cc
+
 raise_case : IsSized x.RaiseIgnore
 raise_case s b h = let e = sym (bound_of-RaiseIgnore s) ∙ h in cc
 
@@ -453,7 +479,14 @@ module _ {Y Z : Type 0} (of : Y → Expr) (sized : (y : Y) → IsSized (of y)) (
       (case_sized (or_0 (option_map size_of (option_map of a))) (total (map size_of_arm (map arm_of arms))) (or_0 (option_map size_of (option_map of otherwise))) w.0 v.0 u.0
       (option_sized of sized s a w.0 w.1) (arms_sized arm_of arm_sized s arms v.0 v.1) (option_sized of sized s otherwise u.0 u.1))
 
-  step : (y : Expr-F Y Z) → IsSized (roll-Expr (map-Expr Y Z Expr SyntaxArm of arm_of y))
+  -- nothing is said of queries
+  abbrev With : Type 0 → Type 0
+  With T = T × Unit {0}
+
+  abbrev tree : {T : Type 0} → With T → T
+  tree p = p.0
+
+  step : (y : Expr-F Y (With JoinConstraint) (With QueryPart) (With ResultColumn) (With Source) Z (With CommonTable) (With CompoundPart) (With FromItem) (With OrderingTerm) (With Query) (With RowLimit) (With SelectCore) (With SpannedExpr)) → IsSized (roll-Expr (map-Expr Y (With JoinConstraint) (With QueryPart) (With ResultColumn) (With Source) Z (With CommonTable) (With CompoundPart) (With FromItem) (With OrderingTerm) (With Query) (With RowLimit) (With SelectCore) (With SpannedExpr) Expr JoinConstraint QueryPart ResultColumn Source SyntaxArm CommonTable CompoundPart FromItem OrderingTerm Query RowLimit SelectCore SpannedExpr of tree tree tree tree arm_of tree tree tree tree tree tree tree tree y))
   step (Expr-F.Literal t) = rw (rolls-Literal t) (literal_case t)
   step (Expr-F.Parameter t) = rw (rolls-Parameter t) (parameter_case t)
   step (Expr-F.Column t) = rw (rolls-Column t) (column_case t)
@@ -472,14 +505,20 @@ module _ {Y Z : Type 0} (of : Y → Expr) (sized : (y : Y) → IsSized (of y)) (
   step (Expr-F.Case None arms (Some last)) = rw (rolls-Case None (map arm_of arms) (Some (of last))) (case_case None arms (Some last))
   step (Expr-F.Case (Some a) arms None) = rw (rolls-Case (Some (of a)) (map arm_of arms) None) (case_case (Some a) arms None)
   step (Expr-F.Case (Some a) arms (Some last)) = rw (rolls-Case (Some (of a)) (map arm_of arms) (Some (of last))) (case_case (Some a) arms (Some last))
+  step (Expr-F.InQuery a q) = rw (rolls-InQuery (of a) (tree q)) (in_query_case (of a) (tree q))
+  step (Expr-F.Subquery q) = rw (rolls-Subquery (tree q)) (subquery_case (tree q))
+  step (Expr-F.Exists q) = rw (rolls-Exists (tree q)) (exists_case (tree q))
   step Expr-F.RaiseIgnore = rw rolls-RaiseIgnore raise_case
   step (Expr-F.RaiseAbort t) = rw (rolls-RaiseAbort t) (raise_abort_case t)
 
-  arm_step : (y : Arm-F Y Z) → IsArmSized (roll-Arm (map-Arm Y Z Expr SyntaxArm of arm_of y))
+  arm_step : (y : Arm-F Y (With JoinConstraint) (With QueryPart) (With ResultColumn) (With Source) Z (With CommonTable) (With CompoundPart) (With FromItem) (With OrderingTerm) (With Query) (With RowLimit) (With SelectCore) (With SpannedExpr)) → IsArmSized (roll-Arm (map-Arm Y (With JoinConstraint) (With QueryPart) (With ResultColumn) (With Source) Z (With CommonTable) (With CompoundPart) (With FromItem) (With OrderingTerm) (With Query) (With RowLimit) (With SelectCore) (With SpannedExpr) Expr JoinConstraint QueryPart ResultColumn Source SyntaxArm CommonTable CompoundPart FromItem OrderingTerm Query RowLimit SelectCore SpannedExpr of tree tree tree tree arm_of tree tree tree tree tree tree tree tree y))
   arm_step y = arm_case (of y.condition) (of y.value) (sized y.condition) (sized y.value)
 
 pub sizes : (e : Expr) → IsSized e
-sizes = ind-Expr IsSized IsArmSized (λ l y is. subst (λ z. IsSized (roll-Expr z)) is (step (λ e. e.0) (λ e. e.1) (λ e. e.0) (λ e. e.1) y)) (λ l y is. subst (λ z. IsArmSized (roll-Arm z)) is (arm_step (λ e. e.0) (λ e. e.1) (λ e. e.0) (λ e. e.1) y))
+sizes = ind-Expr IsSized (λ q. Unit {0}) (λ q. Unit {0}) (λ q. Unit {0}) (λ q. Unit {0}) IsArmSized (λ q. Unit {0}) (λ q. Unit {0}) (λ q. Unit {0}) (λ q. Unit {0}) (λ q. Unit {0}) (λ q. Unit {0}) (λ q. Unit {0}) (λ q. Unit {0})
+    (λ l y is. subst (λ z. IsSized (roll-Expr z)) is (step (λ e. e.0) (λ e. e.1) (λ e. e.0) (λ e. e.1) y)) (λ l y is. tt) (λ l y is. tt) (λ l y is. tt) (λ l y is. tt)
+    (λ l y is. subst (λ z. IsArmSized (roll-Arm z)) is (arm_step (λ e. e.0) (λ e. e.1) (λ e. e.0) (λ e. e.1) y))
+    (λ l y is. tt) (λ l y is. tt) (λ l y is. tt) (λ l y is. tt) (λ l y is. tt) (λ l y is. tt) (λ l y is. tt) (λ l y is. tt)
 
 pub tree_nodes : (e : Expr) (s : Scope) (b : Bound) → bound_of e s ≡ Ok b → nodes_of b.tree ≤ 2 * size_of e
 tree_nodes e s b h = (sizes e s b h).tree

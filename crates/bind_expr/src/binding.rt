@@ -1,7 +1,6 @@
 // Expressions with their names bound (SQL Language Expressions).
 ghost use Rattle.std.specs.Prelude.{◌≡◌};
 ghost use Rattle.std.specs.Option.{option_map};
-ghost use Rattle.std.specs.Str.{IsAscii};
 ghost use Rattle.sql_meaning.specs.Binding.{arm_bound, bound_of};
 ghost use Rattle.bind_expr.specs.Gathers.{arm_in, choices_of, matches_of, operands_of, option_part, call_part};
 ghost use Rattle.bind_expr.specs.Groups.{arm_whole};
@@ -26,7 +25,6 @@ use std::alloc::Global;
 /// that is unknown, a wrong number of arguments, or a misuse. Want of memory is `Mem`.
 #[cycle(binding)]
 pub(crate) fn bind(alloc: Global, scope: &Scope<'_>, e: &Expr) -> Result<BoundPart, Cause>
-    requires { IsAscii scope.now.text }
     ensures { Binds (bound_of e.now scope.now) result }
 {
     match e {
@@ -83,6 +81,9 @@ pub(crate) fn bind(alloc: Global, scope: &Scope<'_>, e: &Expr) -> Result<BoundPa
                 Ok(choose(alloc, arms, otherwise)?)
             }
         },
+        Expr::InQuery(_, _) => Err(Cause::NotYet),
+        Expr::Subquery(_) => Err(Cause::NotYet),
+        Expr::Exists(_) => Err(Cause::NotYet),
         Expr::RaiseIgnore => Err(Cause::NotYet),
         Expr::RaiseAbort(_) => Err(Cause::NotYet),
     }
@@ -95,7 +96,6 @@ fn bind_option(
     scope: &Scope<'_>,
     e: &Option<Boxed<Expr>>,
 ) -> Result<Option<BoundPart>, Cause>
-    requires { IsAscii scope.now.text }
     ensures { Gives (option_map whole) (option_part scope.now e.now) result }
 {
     match e {
@@ -107,7 +107,6 @@ fn bind_option(
 /// Binds expressions one after another.
 #[cycle(binding)]
 fn bind_all(alloc: Global, scope: &Scope<'_>, es: &[Expr]) -> Result<Group<BoundExpr>, Cause>
-    requires { IsAscii scope.now.text }
     ensures { Gives itself (operands_of scope.now es.now) result }
 {
     let mut found = Group::new(alloc);
@@ -127,7 +126,6 @@ fn bind_call(
     how: Arguments,
     args: &[Expr],
 ) -> Result<BoundPart, Cause>
-    requires { IsAscii scope.now.text }
     ensures { Gives whole (call_part scope.now token.now how args.now) result }
 {
     let f = function_called(alloc, scope.text(), token, how, args.len())?;
@@ -138,7 +136,6 @@ fn bind_call(
 /// Binds an arm of a CASE.
 #[cycle(binding)]
 fn bind_arm(alloc: Global, scope: &Scope<'_>, arm: &Arm) -> Result<ArmPart, Cause>
-    requires { IsAscii scope.now.text }
     ensures { Gives arm_whole (arm_in (arm_bound arm.now scope.now)) result }
 {
     let condition = bind(alloc, scope, &arm.condition)?;
@@ -149,7 +146,6 @@ fn bind_arm(alloc: Global, scope: &Scope<'_>, arm: &Arm) -> Result<ArmPart, Caus
 /// Binds the arms of a CASE without an operand.
 #[cycle(binding)]
 fn bind_choices(alloc: Global, scope: &Scope<'_>, arms: &[Arm]) -> Result<Group<BoundArm>, Cause>
-    requires { IsAscii scope.now.text }
     ensures { Gives itself (choices_of scope.now arms.now) result }
 {
     let mut found = Group::new(alloc);
@@ -169,7 +165,6 @@ fn bind_matches(
     operand: &BoundPart,
     arms: &[Arm],
 ) -> Result<Group<BoundMatch>, Cause>
-    requires { IsAscii scope.now.text }
     ensures { Gives itself (matches_of (whole operand.now) scope.now arms.now) result }
 {
     let mut found = Group::new(alloc);

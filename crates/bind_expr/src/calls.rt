@@ -5,7 +5,6 @@ ghost use Rattle.sql_meaning.specs.declared.bound.BoundArm.{roll-BoundArm};
 ghost use Rattle.sql_meaning.specs.declared.bound.BoundExpr.TheVariants as e;
 ghost use Rattle.std.specs.List.{find};
 ghost use Rattle.std.specs.Option.{option_map};
-ghost use Rattle.std.specs.Str.{IsAscii};
 ghost use Rattle.sql_meaning.specs.Binding.{builtin_named, call_checked, call_tree, function_called, takes};
 ghost use Rattle.sql_meaning.specs.Names.{is_same_name};
 ghost use Rattle.sql_meaning.specs.Spelled.{name_at};
@@ -79,7 +78,6 @@ pub(crate) fn function_called(
     how: Arguments,
     given: usize,
 ) -> Result<Builtin, Cause>
-    requires { IsAscii text.now }
     ensures { Gives itself (function_called (name_at text.now token.now) (builtin_named (name_at text.now token.now)) how given) result }
 {
     let name = name(alloc, text, token)?;

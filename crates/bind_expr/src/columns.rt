@@ -1,7 +1,6 @@
 // Columns by their names (SQL Language Expressions, section 3).
 ghost use Rattle.std.specs.Prelude.{◌≡◌, Some, slice_get, IfOk};
 ghost use Rattle.std.specs.Option.{option_copied};
-ghost use Rattle.std.specs.Str.{IsAscii};
 ghost use Rattle.eng_value.specs.declared.affinity.Affinity.TheVariants as affinity;
 ghost use Rattle.eng_value.specs.declared.cause.Cause.TheVariants as cause;
 ghost use Rattle.eng_value.specs.declared.cause.NameKind.TheVariants as named;
@@ -74,7 +73,6 @@ fn column_found(shown: Text, columns: &[Column], place: Option<usize>) -> Result
 
 /// The column that a token names.
 pub(crate) fn column(alloc: Global, scope: &Scope<'_>, token: &Token) -> Result<BoundPart, Cause>
-    requires { IsAscii scope.now.text }
     ensures { Gives whole (column_bound (name_at scope.now.text token.now) scope.now.table) result }
 {
     let name = name(alloc, scope.text(), token)?;
@@ -110,7 +108,6 @@ pub(crate) fn table_column(
     table: &Token,
     token: &Token,
 ) -> Result<BoundPart, Cause>
-    requires { IsAscii scope.now.text }
     ensures { Gives whole (table_column_bound (name_at scope.now.text table.now) (name_at scope.now.text token.now) scope.now.table) result }
 {
     let table = name(alloc, scope.text(), table)?;

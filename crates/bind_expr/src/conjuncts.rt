@@ -1,6 +1,5 @@
 // What a WHERE tests, split at its top (SELECT, section 2.3).
 ghost use Rattle.std.specs.Prelude.{◌≡◌, [], ◌∷◌, ◌++◌};
-ghost use Rattle.std.specs.Str.{IsAscii};
 ghost use Rattle.sql_meaning.specs.Binding.{bound_of};
 ghost use Rattle.bind_expr.specs.Parts.{compared_in, part_in, whole, Appends, Gives};
 
@@ -22,7 +21,6 @@ pub(crate) fn append(
     e: &Expr,
     into: &mut Items<BoundExpr>,
 ) -> Result<(), Cause>
-    requires { IsAscii scope.now.text }
     ensures { Appends (bound_of e.now scope.now) into.old result into.new }
 {
     match e {
@@ -48,7 +46,6 @@ fn bind_one(
     e: &Expr,
     into: &mut Items<BoundExpr>,
 ) -> Result<(), Cause>
-    requires { IsAscii scope.now.text }
     ensures { Appends (part_in (bound_of e.now scope.now)) into.old result into.new }
 {
     let part = bind(alloc, scope, e)?;
@@ -65,7 +62,6 @@ fn bind_side(
     b: &Expr,
     into: &mut Items<BoundExpr>,
 ) -> Result<(), Cause>
-    requires { IsAscii scope.now.text }
     ensures { Appends (compared_in op (bound_of a.now scope.now) (bound_of b.now scope.now)) into.old result into.new }
 {
     let test = bind_compared(alloc, scope, op, a, b)?;
@@ -81,7 +77,6 @@ fn bind_compared(
     a: &Expr,
     b: &Expr,
 ) -> Result<BoundPart, Cause>
-    requires { IsAscii scope.now.text }
     ensures { Gives whole (compared_in op (bound_of a.now scope.now) (bound_of b.now scope.now)) result }
 {
     let a = bind(alloc, scope, a)?;

@@ -1,6 +1,5 @@
 // Expressions with their names bound, and how large they are.
 ghost use Rattle.std.specs.Prelude.{◌≤◌, ◌+◌, ◌*◌, IfOk, OnOk};
-ghost use Rattle.std.specs.Str.{IsAscii};
 ghost use Rattle.sql_tree.specs.Sizes.{size_of};
 ghost use Rattle.sql_meaning.specs.Binding.{bound_of};
 ghost use Rattle.sql_meaning.specs.Sizes.{all_nodes, nodes_of};
@@ -20,7 +19,6 @@ use std::alloc::Global;
 /// large as the expression's.
 #[tactic(auto, using(crate::proofs::SizeLaws::part_nodes))]
 pub fn bind(alloc: Global, scope: &Scope<'_>, e: &Expr) -> Result<BoundPart, Cause>
-    requires { IsAscii scope.now.text }
     ensures binds { Binds (bound_of e.now scope.now) result }
     ensures size { IfOk result (λ p. nodes_of p.tree ≤ 2 * size_of e.now) }
 {
@@ -37,7 +35,6 @@ pub fn bind_conjuncts(
     e: &Expr,
     into: &mut Items<BoundExpr>,
 ) -> Result<(), Cause>
-    requires { IsAscii scope.now.text }
     ensures appends { Appends (bound_of e.now scope.now) into.old result into.new }
     ensures size { OnOk result (all_nodes into.new ≤ all_nodes into.old + 4 * size_of e.now) }
 {

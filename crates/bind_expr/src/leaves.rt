@@ -1,6 +1,5 @@
 // Expressions without operands, casts and collations.
 ghost use Rattle.std.specs.Prelude.{◌≡◌, IfOk};
-ghost use Rattle.std.specs.Str.{IsAscii};
 ghost use Rattle.sql_meaning.specs.Binding.{collate_bound, collation_named, form_of, literal_bound, parameter_bound};
 ghost use Rattle.sql_meaning.specs.Spelled.{name_at};
 ghost use Rattle.bind_expr.specs.Parts as part;
@@ -31,7 +30,6 @@ pub(crate) fn literal_part(
     text: &str,
     token: &Token,
 ) -> Result<BoundPart, AllocError>
-    requires { IsAscii text.now }
     ensures { IfOk result (λ p. whole p ≡ literal_bound text.now token.now) }
 {
     Ok(BoundPart {
@@ -67,7 +65,6 @@ fn collation_named(name: &[u8]) -> Option<Built>
 
 /// The built-in collation that a token names.
 fn collation(alloc: Global, text: &str, token: &Token) -> Result<Built, Cause>
-    requires { IsAscii text.now }
     ensures { Gives itself (collation_in (name_at text.now token.now) (collation_named (name_at text.now token.now))) result }
 {
     let name = name(alloc, text, token)?;
@@ -96,7 +93,6 @@ pub(crate) fn collate(
     token: &Token,
     a: BoundPart,
 ) -> Result<BoundPart, Cause>
-    requires { IsAscii text.now }
     ensures { Gives whole (collate_bound (name_at text.now token.now) (collation_named (name_at text.now token.now)) (whole a)) result }
 {
     let built = collation(alloc, text, token)?;

@@ -1,4 +1,4 @@
 pub mod Affinities
-pub mod Ascii
 pub mod Digits
 pub mod Kept
+pub mod Texts

@@ -1,9 +1,9 @@
-// What is built of expressions: no aggregate, no FILTER and no RAISE.
+// What is built of expressions: no aggregate, no FILTER, no RAISE and no query.
 ghost use Rattle.std.specs.Prelude.{◌≡◌, map, codes};
 ghost use Rattle.std.specs.Option.{option_map};
 ghost use Rattle.sql_meaning.specs.Built.{all_pass, is_aggregate, is_built_arm, is_built_expr, option_passes};
 ghost use Rattle.sql_meaning.specs.Names.{is_named_in, is_same_name};
-ghost use Rattle.sql_meaning.specs.Spelled.{name_at, name_of, undoubled};
+ghost use Rattle.sql_meaning.specs.Spelled.{name_bytes, name_of, undoubled};
 
 use crate::names::is_same;
 use crate::quotes::past_second;
@@ -41,6 +41,9 @@ pub fn is_built(text: &str, e: &Expr) -> bool
                 && are_arms_built(text, arms.as_slice())
                 && is_option_built(text, otherwise)
         }
+        Expr::InQuery(_, _) => false,
+        Expr::Subquery(_) => false,
+        Expr::Exists(_) => false,
         Expr::RaiseIgnore => false,
         Expr::RaiseAbort(_) => false,
     }
@@ -85,7 +88,7 @@ fn are_arms_built(text: &str, arms: &[Arm]) -> bool
 
 /// Whether a call is that of an aggregate (Built-in Aggregate Functions).
 fn is_aggregate(text: &str, token: &Token, how: Arguments, given: usize) -> bool
-    ensures { result ≡ is_aggregate (name_at text.now token.now) how given }
+    ensures { result ≡ is_aggregate (name_bytes text.now token.now) how given }
 {
     let bytes = slice_of(text, token);
     if is_named(bytes, b"count") || is_named(bytes, b"sum") || is_named(bytes, b"group_concat") {

@@ -1,32 +1,29 @@
 // Literals (SQL Language Expressions, section 3).
 ghost use Rattle.std.specs.Prelude.{◌≡◌, ◌<◌, ◌^◌, IfOk};
-ghost use Rattle.std.specs.Str.{IsAscii};
 ghost use Rattle.eng_value.specs.declared.value.Value.TheVariants as value;
-ghost use Rattle.sql_meaning.specs.Spelled.{hexadecimal_bytes, inside, kept, literal_at, literal_of, undoubled};
+ghost use Rattle.sql_meaning.specs.Spelled.{as_text, hexadecimal_bytes, inside, kept, literal_at, literal_of, undoubled};
+ghost use Rattle.sql_meaning.specs.Built.{number_of, signed_of};
+ghost use Rattle.sql_tree.specs.Layers.{of_expr};
 ghost use Rattle.bind_name.specs.Literals.{behind_minus, hexadecimal_byte};
 ghost use Rattle.sql_meaning.specs.Statement.{negative_integer, negative_literal, signed_literal};
 
 use crate::numerals::{digit_value, is_least_magnitude, number_literal};
-use crate::quotes::{undoubled_len, undoubled_text};
+use crate::quotes::undoubled_text;
 use crate::slices::{behind, inside, slice_of};
 use eng_value::{Blob, Cause, MAX_VALUE_BYTES, Value};
-use sql_meaning::Literal;
-use sql_tree::{SignedLiteral, Token, TokenKind};
+use sql_meaning::{Literal, SignedLiteral};
+use sql_tree::{Expr, Token, TokenKind, UnaryOp};
 use std::alloc::{AllocError, Global};
 
 /// What the token of a literal in the text stands for: a value, or why it has none. Only memory can fail.
-#[tactic(auto, using(crate::proofs::Ascii::ascii_slice))]
 pub fn literal(alloc: Global, text: &str, token: &Token) -> Result<Literal, AllocError>
-    requires { IsAscii text.now }
     ensures { IfOk result (λ l. l ≡ literal_at text.now token.now) }
 {
     literal_of(alloc, token.kind, slice_of(text, token))
 }
 
 /// What the bytes of a literal of this kind stand for.
-#[tactic(auto, using(crate::proofs::Ascii::ascii_inside))]
 fn literal_of(alloc: Global, kind: TokenKind, bytes: &[u8]) -> Result<Literal, AllocError>
-    requires { IsAscii bytes.now }
     ensures { IfOk result (λ l. l ≡ literal_of kind bytes.now) }
 {
     match kind {
@@ -42,13 +39,13 @@ fn literal_of(alloc: Global, kind: TokenKind, bytes: &[u8]) -> Result<Literal, A
 /// The text between quotes, where it is not too long.
 #[tactic(auto, using(crate::proofs::Kept::kept_lengths))]
 fn text_literal(alloc: Global, bytes: &[u8]) -> Result<Literal, AllocError>
-    requires { IsAscii bytes.now }
-    ensures { IfOk result (λ l. l ≡ kept (value.Text (undoubled 0x27 bytes.now))) }
+    ensures { IfOk result (λ l. l ≡ kept (value.Text (as_text (undoubled 0x27 bytes.now)))) }
 {
-    if undoubled_len(b'\'', bytes) > MAX_VALUE_BYTES {
+    let text = undoubled_text(alloc, b'\'', bytes)?;
+    if text.as_bytes().len() > MAX_VALUE_BYTES {
         return Ok(Literal::Bad(Cause::TooBig));
     }
-    Ok(Literal::Value(Value::Text(undoubled_text(alloc, b'\'', bytes)?)))
+    Ok(Literal::Value(Value::Text(text)))
 }
 
 /// The byte that two hexadecimal digits write.
@@ -85,25 +82,47 @@ fn blob_literal(alloc: Global, digits: &[u8]) -> Result<Literal, AllocError>
     Ok(Literal::Value(Value::Blob(Blob::new(bytes))))
 }
 
-/// What a literal with its sign stands for, if it has one (SQL Language Expressions, section 3). Only memory can fail.
+/// What a literal of INSERT stands for, with a minus or without (SQL Language Expressions, section 3). Only memory can fail.
 pub fn signed_literal(alloc: Global, text: &str, l: &SignedLiteral) -> Result<Literal, AllocError>
-    requires { IsAscii text.now }
     ensures { IfOk result (λ found. found ≡ signed_literal text.now l.now) }
 {
-    match l.sign {
-        Some(
-            Token {
-                kind: TokenKind::Minus,
-                ..
-            },
-        ) => negative(alloc, text, &l.literal),
-        _ => literal(alloc, text, &l.literal),
+    if l.minus {
+        negative(alloc, text, &l.literal)
+    } else {
+        literal(alloc, text, &l.literal)
+    }
+}
+
+/// The literal of INSERT that an expression is, if it is one: a number with a sign in front, or any literal without one.
+pub fn signed_of(e: &Expr) -> Option<SignedLiteral>
+    ensures { result ≡ signed_of e.now }
+{
+    match e {
+        Expr::Literal(literal) => Some(SignedLiteral {
+            minus: false,
+            literal: *literal,
+        }),
+        Expr::Unary(UnaryOp::Negative, operand) => number_of(true, operand.get()),
+        Expr::Unary(UnaryOp::Positive, operand) => number_of(false, operand.get()),
+        _ => None,
+    }
+}
+
+/// The number that an expression is, behind a minus or not.
+fn number_of(minus: bool, e: &Expr) -> Option<SignedLiteral>
+    ensures { result ≡ number_of minus (of_expr e.now) }
+{
+    match e {
+        Expr::Literal(literal) if literal.kind == TokenKind::Number => Some(SignedLiteral {
+            minus,
+            literal: *literal,
+        }),
+        _ => None,
     }
 }
 
 /// What a literal behind a minus stands for.
 fn negative(alloc: Global, text: &str, token: &Token) -> Result<Literal, AllocError>
-    requires { IsAscii text.now }
     ensures { IfOk result (λ l. l ≡ behind_minus text.now token.now) }
 {
     if is_least_magnitude(slice_of(text, token)) {

@@ -1,10 +1,9 @@
 // Names (SQLite Keywords). They do not regard the case of ASCII letters.
 ghost use Rattle.std.specs.Prelude.{◌≡◌, IfOk};
-ghost use Rattle.std.specs.Str.{IsAscii};
 ghost use Rattle.sql_meaning.specs.Names.{is_same_name};
-ghost use Rattle.sql_meaning.specs.Spelled.{name_at, name_of};
+ghost use Rattle.sql_meaning.specs.Spelled.{as_text, name_at, name_of};
 
-use crate::quotes::undoubled_text;
+use crate::quotes::{text_of, undoubled_text};
 use crate::slices::{inside, slice_of};
 use eng_value::Text;
 use sql_tree::Token;
@@ -18,26 +17,22 @@ pub fn is_same(a: &[u8], b: &[u8]) -> bool
 }
 
 /// The name that a token of the text stands for: without its quotes, if any. Only memory can fail.
-#[tactic(auto, using(crate::proofs::Ascii::ascii_slice))]
 pub fn name(alloc: Global, text: &str, token: &Token) -> Result<Text, AllocError>
-    requires { IsAscii text.now }
     ensures { IfOk result (λ n. n ≡ name_at text.now token.now) }
 {
     name_of(alloc, slice_of(text, token))
 }
 
 /// The name that these bytes stand for.
-#[tactic(auto, using(crate::proofs::Ascii::ascii_inside))]
 fn name_of(alloc: Global, bytes: &[u8]) -> Result<Text, AllocError>
-    requires { IsAscii bytes.now }
-    ensures { IfOk result (λ n. n ≡ name_of bytes.now) }
+    ensures { IfOk result (λ n. n ≡ as_text (name_of bytes.now)) }
 {
     match bytes {
-        [] => Text::from_ascii(alloc, bytes),
-        [first, ..] if *first == b'[' => Text::from_ascii(alloc, inside(bytes)),
+        [] => text_of(alloc, bytes),
+        [first, ..] if *first == b'[' => text_of(alloc, inside(bytes)),
         [first, ..] if *first == b'"' || *first == b'`' => {
             undoubled_text(alloc, *first, inside(bytes))
         }
-        _ => Text::from_ascii(alloc, bytes),
+        _ => text_of(alloc, bytes),
     }
 }

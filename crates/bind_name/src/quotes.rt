@@ -1,10 +1,10 @@
 // Quotes that stand twice for one.
 ghost use Rattle.std.specs.Prelude.{◌≡◌, ◌∷◌, ◌≤◌, length, IfOk};
-ghost use Rattle.std.specs.Str.{IsAscii};
-ghost use Rattle.sql_meaning.specs.Spelled.{undoubled};
+ghost use Rattle.sql_meaning.specs.Spelled.{as_text, undoubled};
 
 use eng_value::Text;
 use std::alloc::{AllocError, Global};
+use std::str;
 
 /// What is left behind a byte: where it is a quote and the next one is too, without that one.
 pub(crate) fn past_second(quote: u8, first: u8, rest: &[u8]) -> &[u8]
@@ -30,24 +30,22 @@ fn undoubled(alloc: Global, quote: u8, bytes: &[u8]) -> Result<Vec<u8>, AllocErr
     Ok(made)
 }
 
-/// How many bytes there are with one quote for two.
-pub(crate) fn undoubled_len(quote: u8, bytes: &[u8]) -> usize
-    ensures { result ≡ length (undoubled quote bytes.now) }
-{
-    let mut count = 0_usize;
-    let mut rest = bytes;
-    while let [first, behind @ ..] = rest {
-        count += 1;
-        rest = past_second(quote, *first, behind);
-    }
-    count
-}
-
 /// The text with one quote for two.
 pub(crate) fn undoubled_text(alloc: Global, quote: u8, bytes: &[u8]) -> Result<Text, AllocError>
-    requires { IsAscii bytes.now }
-    ensures { IfOk result (λ t. t ≡ undoubled quote bytes.now) }
+    ensures { IfOk result (λ t. t ≡ as_text (undoubled quote bytes.now)) }
 {
-    let made = undoubled(alloc, quote, bytes)?;
-    Text::from_ascii(alloc, &made)
+    match String::from_utf8(undoubled(alloc, quote, bytes)?) {
+        Ok(text) => Ok(Text::new(text)),
+        Err(_) => Text::from_str(alloc, ""),
+    }
+}
+
+/// The text of these bytes. Those of a token are UTF-8; others would be no text at all.
+pub(crate) fn text_of(alloc: Global, bytes: &[u8]) -> Result<Text, AllocError>
+    ensures { IfOk result (λ t. t ≡ as_text bytes.now) }
+{
+    match str::from_utf8(bytes) {
+        Ok(text) => Text::from_str(alloc, text),
+        Err(_) => Text::from_str(alloc, ""),
+    }
 }

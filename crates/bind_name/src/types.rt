@@ -1,7 +1,6 @@
 // The affinities of types (Datatypes In SQLite, section 3.1).
 ghost use Rattle.std.specs.Prelude.{◌≡◌, List, ℕ, map, is_some, codes, IfOk};
 ghost use Rattle.std.specs.List.{list_any};
-ghost use Rattle.std.specs.Str.{IsAscii};
 ghost use Rattle.eng_text.specs.Texts.{folded, place_of};
 ghost use Rattle.sql_meaning.specs.Binding.{affinity_of_type};
 ghost use Rattle.sql_meaning.specs.Spelled.{name_at};
@@ -21,7 +20,6 @@ pub fn affinity_of_type(
     text: &str,
     type_name: &TypeName,
 ) -> Result<Affinity, AllocError>
-    requires { IsAscii text.now }
     ensures { IfOk result (λ a. a ≡ affinity_of_type text.now type_name.now) }
 {
     let words = folded_names(alloc, text, type_name.words.as_slice())?;
@@ -30,7 +28,6 @@ pub fn affinity_of_type(
 
 /// The names of the tokens, in lower case.
 fn folded_names(alloc: Global, text: &str, tokens: &[Token]) -> Result<Items<Text>, AllocError>
-    requires { IsAscii text.now }
     ensures { IfOk result (λ names. names ≡ map (λ t. folded (name_at text.now t)) tokens.now) }
 {
     let mut names = Items::new(alloc);
@@ -42,7 +39,6 @@ fn folded_names(alloc: Global, text: &str, tokens: &[Token]) -> Result<Items<Tex
 
 /// The name of a token, in lower case.
 fn folded_name(alloc: Global, text: &str, token: &Token) -> Result<Text, AllocError>
-    requires { IsAscii text.now }
     ensures { IfOk result (λ n. n ≡ folded (name_at text.now token.now)) }
 {
     let name = name(alloc, text, token)?;

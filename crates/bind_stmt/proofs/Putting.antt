@@ -3,8 +3,7 @@ use Rattle.std.proofs.Common.{◌≡◌, ◌≢◌, ℕ, List, [], length, Optio
 use Rattle.std.proofs.lemmas.Bool.Decides.{eqb_tells}
 use Rattle.eng_value.specs.declared.cause.Cause.{Cause}
 use Rattle.eng_value.specs.declared.cause.Cause.TheVariants as cause
-use Rattle.sql_tree.specs.declared.statement.Insert.{Insert}
-use Rattle.sql_tree.specs.declared.statement.Select.{Select}
+use Rattle.sql_meaning.specs.Shapes.{Insert, Select}
 use Rattle.sql_meaning.specs.declared.bound.BoundExpr.{BoundExpr}
 use Rattle.sql_meaning.specs.declared.bound.Literal.{Literal}
 use Rattle.sql_meaning.specs.declared.column.TableEntry.{TableEntry}

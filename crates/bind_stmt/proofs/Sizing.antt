@@ -4,14 +4,15 @@ use Rattle.std.proofs.lemmas.List.{length-map}
 use Rattle.std.proofs.lemmas.Bool.Decides.{leb_tells}
 use Rattle.eng_value.specs.declared.cause.Cause.{Cause}
 use Rattle.eng_value.specs.declared.cause.Cause.TheVariants as cause
+use Rattle.eng_value.specs.declared.cause.LimitKind.TheVariants as limit
 use Rattle.eng_value.specs.declared.limits.TheConstants.{MAX_COLUMNS}
-use Rattle.sql_tree.specs.Sizes.{total, size_of_filter, size_of_result}
+use Rattle.sql_tree.specs.Sizes.{total, result_size, size_of_filter, size_of_result}
 use Rattle.sql_tree.specs.declared.expr.Expr.{Expr}
-use Rattle.sql_tree.specs.declared.statement.Insert.{Insert}
-use Rattle.sql_tree.specs.declared.statement.ResultColumn.{ResultColumn}
-use Rattle.sql_tree.specs.declared.statement.ResultColumn.TheVariants as result
-use Rattle.sql_tree.specs.declared.statement.Select.{Select}
-use Rattle.sql_tree.specs.declared.statement.SignedLiteral.{SignedLiteral}
+use Rattle.sql_tree.specs.Layers.{ResultLayer, of_result}
+use Rattle.sql_tree.specs.declared.expr.Expr.TheOpen.{ResultColumn-F}
+use Rattle.sql_tree.specs.declared.query.ResultColumn.{ResultColumn}
+use Rattle.sql_meaning.specs.Built.{signed_of}
+use Rattle.sql_meaning.specs.Shapes.{Insert, Select}
 use Rattle.sql_meaning.specs.declared.bound.BoundExpr.{BoundExpr}
 use Rattle.sql_meaning.specs.declared.bound.BoundInsert.{BoundInsert}
 use Rattle.sql_meaning.specs.declared.bound.BoundSelect.{BoundSelect}
@@ -21,7 +22,7 @@ use Rattle.sql_meaning.specs.declared.column.TableEntry.{TableEntry}
 use Rattle.sql_meaning.specs.Binding.{◌>>=◌, Scope, bound_of, in_turn}
 use Rattle.sql_meaning.specs.Sizes.{all_nodes}
 use Rattle.sql_meaning.specs.Spelled.{name_at}
-use Rattle.sql_meaning.specs.Statement.{Put, Query, all_columns, columns_from, conjuncts_of, fitting, from_table, put_of, query_in, query_of, result_of, results_behind, row_of, rows_in, signed_literal, table_named, width_of, within_columns}
+use Rattle.sql_meaning.specs.Statement.{Put, Query, all_columns, columns_from, conjuncts_of, fitting, from_table, put_of, query_in, query_of, literal_in, result_of, result_shown, results_behind, row_of, rows_in, table_named, width_of, within_columns}
 use Rattle.bind_expr.proofs.SizeLaws.{all_nodes-append, conjunct_nodes, nodes-Column, tree_nodes}
 use Rattle.bind_stmt.specs.Binds.{IsFromAt, IsPutAt, IsQueryAt}
 use Rattle.bind_stmt.specs.Small.{IsSmallQuery, columns_at, columns_of}
@@ -33,9 +34,13 @@ same_Ok x y h = cc
 -- ---- what is shown
 
 -- how many columns of so many one result column's `*` adds
+abbrev star_of : ℕ → ResultLayer → ℕ
+star_of n ResultColumn-F.All = n
+star_of n (ResultColumn-F.AllOf t) = 0
+star_of n (ResultColumn-F.Expression x name) = 0
+
 abbrev star : ℕ → ResultColumn → ℕ
-star n result.All = n
-star n (result.Expression x) = 0
+star n r = star_of n (of_result r)
 
 abbrev stars : ℕ → List ResultColumn → ℕ
 stars n [] = 0
@@ -50,11 +55,11 @@ columns_from-length place [] = refl
 columns_from-length place (c ∷ columns) = omega (arith, columns_from-length (suc place) columns)
 
 -- one result column
-record Shown (n : ℕ) (r : ResultColumn) (more : List BoundExpr) : Type 0 where
-  nodes : all_nodes more ≤ 2 * size_of_result r + star n r
-  count : star n r ≤ length more
+record Shown (n : ℕ) (r : ResultLayer) (more : List BoundExpr) : Type 0 where
+  nodes : all_nodes more ≤ 2 * result_size r + star_of n r
+  count : star_of n r ≤ length more
 
-all_shown : (table : Option TableEntry) (more : List BoundExpr) → all_columns table ≡ Ok more → Shown (columns_of table) result.All more
+all_shown : (table : Option TableEntry) (more : List BoundExpr) → all_columns table ≡ Ok more → Shown (columns_of table) ResultColumn-F.All more
 all_shown None more h = absurd (cc)
 all_shown (Some t) more h =
     let same : columns_from 0 t.columns ≡ more = same_Ok _ _ h in
@@ -63,13 +68,14 @@ all_shown (Some t) more h =
       count = rw (← same) (omega (arith, columns_from-length 0 t.columns));
     }
 
-shown : (s : Scope) (r : ResultColumn) (more : List BoundExpr) → result_of s r ≡ Ok more → Shown (columns_of s.table) r more
-shown s result.All more h = all_shown s.table more h
-shown s (result.Expression x) more h =
-    let w = found (bound_of x s) (λ b. Ok (b.tree ∷ [])) more h in
+shown : (s : Scope) (r : ResultLayer) (more : List BoundExpr) → result_shown s r ≡ Ok more → Shown (columns_of s.table) r more
+shown s ResultColumn-F.All more h = all_shown s.table more h
+shown s (ResultColumn-F.AllOf t) more h = absurd (cc)
+shown s (ResultColumn-F.Expression x name) more h =
+    let w = found (bound_of x.expr s) (λ b. Ok (b.tree ∷ [])) more h in
     let same : w.0.tree ∷ [] ≡ more = same_Ok _ _ w.2 in
     record {
-      nodes = rw (← same) (omega (arith, tree_nodes x s w.0 w.1));
+      nodes = rw (← same) (omega (arith, tree_nodes x.expr s w.0 w.1));
       count = omega arith;
     }
 
@@ -77,7 +83,7 @@ shown s (result.Expression x) more h =
 within : {X : Type 0} (xs all : List X) → within_columns xs ≡ Ok all → (xs ≡ all) × (length all ≤ MAX_COLUMNS)
 within xs all h = elim (leb_tells (length xs) MAX_COLUMNS) [
   | inl p ↦ let same : xs ≡ all = same_Ok _ _ (rw p.0 at h) in (same, rw (← same) p.1)
-  | inr p ↦ let not : Err cause.TooManyColumns ≡ Ok all = rw p.0 at h in absurd (cc)
+  | inr p ↦ let not : Err (cause.Limit limit.Columns) ≡ Ok all = rw p.0 at h in absurd (cc)
 ]
 
 record AllShown (n : ℕ) (before : List BoundExpr) (rs : List ResultColumn) (all : List BoundExpr) : Type 0 where
@@ -92,7 +98,7 @@ results s before [] all h =
 results s before (r ∷ rs) all h =
     let w = found (result_of s r) (λ more. within_columns (before ++ more) >>= λ now. results_behind s now rs) all h in
     let v = found (within_columns (before ++ w.0)) (λ now. results_behind s now rs) all w.2 in
-    let one = shown s r w.0 w.1 in
+    let one = shown s (of_result r) w.0 w.1 in
     let fits = within (before ++ w.0) v.0 v.1 in
     let rest = results s v.0 rs all v.2 in
     let nodes : all_nodes v.0 ≡ all_nodes before + all_nodes w.0 = ap all_nodes (sym fits.0) ∙ all_nodes-append before w.0 in
@@ -103,10 +109,14 @@ results s before (r ∷ rs) all h =
       most = λ l. rest.most fits.1;
     }
 
+star_none : (r : ResultLayer) → star_of 0 r ≡ 0
+star_none ResultColumn-F.All = refl
+star_none (ResultColumn-F.AllOf t) = refl
+star_none (ResultColumn-F.Expression x name) = refl
+
 stars_none : (rs : List ResultColumn) → stars 0 rs ≡ 0
 stars_none [] = refl
-stars_none (result.All ∷ rs) = omega (arith, stars_none rs)
-stars_none (result.Expression x ∷ rs) = omega (arith, stars_none rs)
+stars_none (r ∷ rs) = omega (arith, star_none (of_result r), stars_none rs)
 
 stars_of_table : (n : ℕ) (rs : List ResultColumn) → stars n rs ≤ 100 → stars n rs ≤ 100 * n
 stars_of_table zero rs l = omega (arith, stars_none rs)
@@ -155,14 +165,26 @@ chosen : {X : Type 0} (b : Bool) (x y : X) (why : Cause) → (if b then Ok x els
 chosen true x y why h = same_Ok _ _ h
 chosen false x y why h = absurd (cc)
 
-row_length : (text : List ℕ) (width : ℕ) (row : List SignedLiteral) (literals : List Literal) → row_of text width row ≡ Ok literals → length literals ≡ length row
-row_length text width row literals h =
-    let w = found (within_columns (map (signed_literal text) row)) (λ ls. if nat_eq (length ls) width then Ok ls else Err (cause.Arity (codes "VALUES"))) literals h in
-    let fits = within (map (signed_literal text) row) w.0 w.1 in
-    let same : w.0 ≡ literals = chosen (nat_eq (length w.0) width) w.0 literals (cause.Arity (codes "VALUES")) w.2 in
-    ap length (sym same) ∙ ap length (sym fits.0) ∙ length-map row (signed_literal text)
+in_turn_length : {A B : Type 0} (f : A → Result B Cause) (xs : List A) (all : List B) → in_turn f xs ≡ Ok all → length all ≡ length xs
+in_turn_length f [] all h = ap length (sym (same_Ok _ _ h))
+in_turn_length f (x ∷ xs) all h =
+    let w = found (f x) (λ b. in_turn f xs >>= λ bs. Ok (b ∷ bs)) all h in
+    let v = found (in_turn f xs) (λ bs. Ok (w.0 ∷ bs)) all w.2 in
+    let same : w.0 ∷ v.0 ≡ all = same_Ok _ _ v.2 in
+    let rest = in_turn_length f xs v.0 v.1 in
+    ap length (sym same) ∙ omega (arith, rest)
 
-rows_length : (text : List ℕ) (width : ℕ) (rows : List (List SignedLiteral)) (all : List (List Literal)) → in_turn (row_of text width) rows ≡ Ok all → map length all ≡ map length rows
+row_length : (text : List ℕ) (width : ℕ) (row : List Expr) (literals : List Literal) → row_of text width row ≡ Ok literals → length literals ≡ length row
+row_length text width row literals h =
+    let turn = λ (x : Expr). literal_in text (signed_of x) in
+    let as_wide = λ (ls : List Literal). if nat_eq (length ls) width then Ok ls else Err (cause.Arity (codes "VALUES")) in
+    let a = found (in_turn turn row) (λ ls. within_columns ls >>= as_wide) literals h in
+    let w = found (within_columns a.0) as_wide literals a.2 in
+    let fits = within a.0 w.0 w.1 in
+    let same : w.0 ≡ literals = chosen (nat_eq (length w.0) width) w.0 literals (cause.Arity (codes "VALUES")) w.2 in
+    ap length (sym same) ∙ ap length (sym fits.0) ∙ in_turn_length turn row a.0 a.1
+
+rows_length : (text : List ℕ) (width : ℕ) (rows : List (List Expr)) (all : List (List Literal)) → in_turn (row_of text width) rows ≡ Ok all → map length all ≡ map length rows
 rows_length text width [] all h = ap (map length) (sym (same_Ok _ _ h))
 rows_length text width (row ∷ rows) all h =
     let w = found (row_of text width row) (λ b. in_turn (row_of text width) rows >>= λ bs. Ok (b ∷ bs)) all h in

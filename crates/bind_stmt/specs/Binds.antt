@@ -3,14 +3,15 @@ use Rattle.std.specs.Prelude.{◌≡◌, ◌⊎◌, ⊤, true, false, ℕ, List,
 use Rattle.eng_value.specs.declared.cause.Cause.{Cause}
 use Rattle.eng_value.specs.declared.cause.Cause.TheVariants.{Mem, NotYet}
 use Rattle.sql_tree.specs.declared.statement.Statement.{Statement}
-use Rattle.sql_tree.specs.declared.statement.Statement.TheVariants as statement
 use Rattle.sql_meaning.specs.declared.bound.BoundInsert.{BoundInsert}
 use Rattle.sql_meaning.specs.declared.bound.BoundSelect.{BoundSelect}
 use Rattle.sql_meaning.specs.declared.column.Column.{Column}
 use Rattle.sql_meaning.specs.declared.column.TableEntry.{TableEntry}
-use Rattle.sql_meaning.specs.Built.{is_built}
+use Rattle.sql_meaning.specs.Built.{built_of}
+use Rattle.sql_meaning.specs.Shapes.{Built, Creates, Inserts, Selects}
 use Rattle.sql_meaning.specs.Names.{is_same_name}
 use Rattle.sql_meaning.specs.Statement.{Query, Put, created_entry, put_of, query_of}
+use Rattle.bind_stmt.specs.Small.{IsSmall}
 use Rattle.bind_stmt.specs.declared.statement.Bound.{Bound}
 use Rattle.bind_stmt.specs.declared.statement.Bound.TheVariants as bound
 
@@ -59,21 +60,24 @@ pub record IsPutAt (catalog : List TableEntry) (p : Put) (b : BoundInsert) : Typ
 
 -- ---- statements
 
--- the statement is bound so
-abbrev pub IsBound : List TableEntry → List ℕ → ℕ → Statement → Bound → Type 0
-IsBound catalog text tokens (statement.CreateTable c) (bound.CreateTable t) = created_entry catalog text tokens c ≡ Ok t
-IsBound catalog text tokens (statement.Insert i) (bound.Insert b) = (p : Put) × (put_of catalog text i ≡ Ok p) × IsPutAt catalog p b
-IsBound catalog text tokens (statement.Select s) (bound.Select b) = (q : Query) × (query_of catalog text s ≡ Ok q) × IsQueryAt catalog q b
+-- what is built is bound so
+abbrev pub IsBound : List TableEntry → List ℕ → ℕ → Built → Bound → Type 0
+IsBound catalog text tokens (Creates c) (bound.CreateTable t) = created_entry catalog text tokens c ≡ Ok t
+IsBound catalog text tokens (Inserts i) (bound.Insert b) = (p : Put) × (put_of catalog text i ≡ Ok p) × IsPutAt catalog p b
+IsBound catalog text tokens (Selects s) (bound.Select b) = (q : Query) × (query_of catalog text s ≡ Ok q) × IsQueryAt catalog q b
 IsBound catalog text tokens _ _ = ⊥
 
 -- it is refused for this cause, or memory is wanting
-abbrev pub IsRefused : List TableEntry → List ℕ → ℕ → Statement → Cause → Type 0
-IsRefused catalog text tokens (statement.CreateTable c) why = IsRefusal (created_entry catalog text tokens c) why
-IsRefused catalog text tokens (statement.Insert i) why = IsRefusal (put_of catalog text i) why
-IsRefused catalog text tokens (statement.Select s) why = IsRefusal (query_of catalog text s) why
+abbrev pub IsRefused : List TableEntry → List ℕ → ℕ → Built → Cause → Type 0
+IsRefused catalog text tokens (Creates c) why = IsRefusal (created_entry catalog text tokens c) why
+IsRefused catalog text tokens (Inserts i) why = IsRefusal (put_of catalog text i) why
+IsRefused catalog text tokens (Selects s) why = IsRefusal (query_of catalog text s) why
 
--- a statement that is built is bound or refused; one that is not is refused as not built; and memory may be wanting
+-- what is built is bound, and then is small, or refused; what is not is refused as not built; and memory may be wanting
+unfoldable pub BindsTo : List TableEntry → List ℕ → ℕ → Option Built → Result Bound Cause → Type 0
+BindsTo catalog text tokens o (Ok b) = (x : Built) × (o ≡ Some x) × IsBound catalog text tokens x b × IsSmall catalog x b
+BindsTo catalog text tokens o (Err why) =
+    (why ≡ Mem) ⊎ (((why ≡ NotYet) × (o ≡ None)) ⊎ ((x : Built) × (o ≡ Some x) × IsRefused catalog text tokens x why))
+
 abbrev pub Binds : List TableEntry → List ℕ → ℕ → Statement → Result Bound Cause → Type 0
-Binds catalog text tokens s (Ok b) = (is_built text s ≡ true) × IsBound catalog text tokens s b
-Binds catalog text tokens s (Err why) =
-    (why ≡ Mem) ⊎ (((why ≡ NotYet) × (is_built text s ≡ false)) ⊎ ((is_built text s ≡ true) × IsRefused catalog text tokens s why))
+Binds catalog text tokens s r = BindsTo catalog text tokens (built_of text s) r

@@ -1,3 +1,3 @@
-pub mod Binds
 pub mod Small
+pub mod Binds
 pub mod Steps

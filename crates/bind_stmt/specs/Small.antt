@@ -1,9 +1,7 @@
 -- How large what is bound is.
 use Rattle.std.specs.Prelude.{◌≡◌, ◌≤◌, ℕ, ◌+◌, ◌*◌, List, length, map, ⊤, Option, Some, None, slice_get}
 use Rattle.sql_tree.specs.Sizes.{total, size_of_filter, size_of_result}
-use Rattle.sql_tree.specs.declared.statement.Select.{Select}
-use Rattle.sql_tree.specs.declared.statement.Statement.{Statement}
-use Rattle.sql_tree.specs.declared.statement.Statement.TheVariants as statement
+use Rattle.sql_meaning.specs.Shapes.{Built, Inserts, Selects, Select}
 use Rattle.sql_meaning.specs.declared.bound.BoundSelect.{BoundSelect}
 use Rattle.sql_meaning.specs.declared.column.TableEntry.{TableEntry}
 use Rattle.sql_meaning.specs.Sizes.{all_nodes}
@@ -27,7 +25,7 @@ pub record IsSmallQuery (catalog : List TableEntry) (s : Select) (b : BoundSelec
   pub of_table : stars ≤ 100 * columns_at catalog b.table
   pub results : all_nodes b.results ≤ 2 * total (map size_of_result s.results) + stars
 
-abbrev pub IsSmall : List TableEntry → Statement → Bound → Type 0
-IsSmall catalog (statement.Select s) (bound.Select b) = IsSmallQuery catalog s b
-IsSmall catalog (statement.Insert i) (bound.Insert b) = map length b.rows ≡ map length i.rows
-IsSmall catalog s b = ⊤
+abbrev pub IsSmall : List TableEntry → Built → Bound → Type 0
+IsSmall catalog (Selects s) (bound.Select b) = IsSmallQuery catalog s b
+IsSmall catalog (Inserts i) (bound.Insert b) = map length b.rows ≡ map length i.rows
+IsSmall catalog x b = ⊤

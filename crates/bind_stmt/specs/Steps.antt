@@ -1,10 +1,11 @@
 -- What one step of the work adds to what is there.
-use Rattle.std.specs.Prelude.{◌≡◌, ℕ, List, ◌++◌, Option, Some, None, Result, Ok, Err, slice_get}
+use Rattle.std.specs.Prelude.{◌≡◌, ℕ, List, [], ◌∷◌, ◌++◌, Option, Some, None, Result, Ok, Err, slice_get}
 use Rattle.eng_value.specs.declared.cause.Cause.{Cause}
-use Rattle.sql_tree.specs.declared.statement.ResultColumn.{ResultColumn}
+use Rattle.sql_tree.specs.declared.expr.Expr.{Expr}
+use Rattle.sql_tree.specs.declared.query.ResultColumn.{ResultColumn}
 use Rattle.sql_meaning.specs.declared.bound.BoundExpr.{BoundExpr}
 use Rattle.sql_meaning.specs.declared.column.TableEntry.{TableEntry}
-use Rattle.sql_meaning.specs.Binding.{◌>>=◌, Scope}
+use Rattle.sql_meaning.specs.Binding.{◌>>=◌, Scope, bound_of}
 use Rattle.sql_meaning.specs.Statement.{result_of, within_columns}
 use Rattle.bind_stmt.specs.Binds.{IsRefusal}
 
@@ -16,6 +17,10 @@ Becomes meant (Err why) new = IsRefusal meant why
 -- all of it behind what is there
 abbrev pub behind : {X : Type 0} → List X → Result (List X) Cause → Result (List X) Cause
 behind found meant = meant >>= λ more. Ok (found ++ more)
+
+-- what an expression shows
+abbrev pub expression_shown : Scope → Expr → Result (List BoundExpr) Cause
+expression_shown s x = bound_of x s >>= λ b. Ok (b.tree ∷ [])
 
 -- what one result column shows behind what others show
 abbrev pub shown_behind : Scope → List BoundExpr → ResultColumn → Result (List BoundExpr) Cause

@@ -1,29 +1,39 @@
-// Which statements are built.
+// Which queries are built.
 ghost use Rattle.std.specs.Prelude.{◌≡◌};
 ghost use Rattle.std.specs.List.{list_all};
-ghost use Rattle.std.specs.Str.{IsAscii};
-ghost use Rattle.sql_meaning.specs.Built.{is_built, is_built_filter, is_built_result};
+ghost use Rattle.sql_meaning.specs.Built.{is_built_filter, is_built_result};
+ghost use Rattle.sql_meaning.specs.Shapes.{stands_alone, table_of_item};
+ghost use Rattle.sql_tree.specs.Layers.{of_item, of_query};
 
 use bind_expr::is_built as is_built_expr;
-use sql_tree::{Expr, ResultColumn, Statement};
+use sql_tree::{Expr, FromItem, Query, ResultColumn, Source, Token};
 
-/// Whether all of a statement is built.
-pub(crate) fn is_built(text: &str, statement: &Statement) -> bool
-    requires { IsAscii text.now }
-    ensures { result ≡ is_built text.now statement.now }
+/// Whether a query has no WITH, one part, no ORDER BY and no LIMIT.
+pub(crate) fn stands_alone(query: &Query) -> bool
+    ensures { result ≡ stands_alone (of_query query.now) }
 {
-    match statement {
-        Statement::CreateTable(_) | Statement::Insert(_) => true,
-        Statement::Select(select) => {
-            are_built_results(text, select.results.as_slice())
-                && is_built_filter(text, &select.filter)
-        }
+    query.with.is_empty()
+        && query.others.is_empty()
+        && query.order_by.is_empty()
+        && query.limit.is_none()
+}
+
+/// The table that an item of FROM is, where it is one by its name alone.
+pub(crate) fn table_of_item(item: &FromItem) -> Option<Token>
+    ensures { result ≡ table_of_item (of_item item.now) }
+{
+    if item.alias.is_some() {
+        return None;
+    }
+    match &item.source {
+        Source::Table(table, None) => Some(*table),
+        Source::Table(_, Some(_)) => None,
+        Source::Derived(_) => None,
     }
 }
 
-/// Whether all of each result column is.
-fn are_built_results(text: &str, columns: &[ResultColumn]) -> bool
-    requires { IsAscii text.now }
+/// Whether all of each result column is built.
+pub(crate) fn are_built_results(text: &str, columns: &[ResultColumn]) -> bool
     ensures { result ≡ list_all (is_built_result text.now) columns.now }
 {
     columns.iter().all(|column| is_built_result(text, column))
@@ -31,18 +41,18 @@ fn are_built_results(text: &str, columns: &[ResultColumn]) -> bool
 
 /// Whether all of a result column is.
 fn is_built_result(text: &str, column: &ResultColumn) -> bool
-    requires { IsAscii text.now }
     ensures { result ≡ is_built_result text.now column.now }
 {
     match column {
         ResultColumn::All => true,
-        ResultColumn::Expression(e) => is_built_expr(text, e),
+        ResultColumn::AllOf(_) => false,
+        ResultColumn::Expression(spanned, None) => is_built_expr(text, &spanned.expr),
+        ResultColumn::Expression(_, Some(_)) => false,
     }
 }
 
 /// Whether all of a WHERE is.
-fn is_built_filter(text: &str, filter: &Option<Expr>) -> bool
-    requires { IsAscii text.now }
+pub(crate) fn is_built_filter(text: &str, filter: &Option<Expr>) -> bool
     ensures { result ≡ is_built_filter text.now filter.now }
 {
     match filter {

@@ -1,31 +1,114 @@
 // INSERT.
-ghost use Rattle.std.specs.Prelude.{◌≡◌, map, IfOk};
-ghost use Rattle.std.specs.Str.{IsAscii};
-ghost use Rattle.bind_stmt.specs.Binds.{Answers, AnswersBy, IsPutAt};
-ghost use Rattle.sql_meaning.specs.Statement.{put_of, row_of, rows_in, signed_literal, width_of};
+ghost use Rattle.std.specs.Prelude.{◌≡◌, map, IfOk, Some};
+ghost use Rattle.std.specs.List.{list_all};
+ghost use Rattle.bind_stmt.specs.Binds.{Answers, AnswersBy, BindsTo, IsPutAt};
+ghost use Rattle.sql_meaning.specs.Binding.{in_turn};
+ghost use Rattle.sql_meaning.specs.Built.{is_signed, signed_of, where_built};
+ghost use Rattle.sql_meaning.specs.Shapes.{Inserts, query_for, shape_of_insert};
+ghost use Rattle.sql_tree.specs.Layers.{of_query};
+ghost use Rattle.sql_meaning.specs.Statement.{literal_in, put_of, row_of, rows_in, width_of};
 ghost use Rattle.sql_meaning.specs.declared.column.Column.{Column as MeantColumn};
 
+use crate::built::stands_alone;
+use crate::statement::Bound;
 use crate::tables::table_named;
-use bind_expr::signed_literal;
-use eng_value::{Affinity, Cause, MAX_COLUMNS, Text};
-use sql_meaning::{BoundInsert, Column, Literal, TableEntry};
-use sql_tree::{Insert, SignedLiteral};
+use bind_expr::{signed_literal, signed_of};
+use eng_value::{Affinity, Cause, LimitKind, MAX_COLUMNS, Text};
+use sql_meaning::{BoundInsert, Column, Literal, SignedLiteral, TableEntry};
+use sql_tree::{ConflictChoice, Expr, Insert, InsertSource, Query, QueryPart, Token};
 use sqlite_items::Items;
 use std::alloc::{AllocError, Global};
 
-/// Rows for a table: the table comes first, then each row in turn, and then whether they fit.
-pub(crate) fn bind_insert(
+/// INSERT of rows of literals; any other is not built.
+#[tactic(auto, using(crate::proofs::Shapes::not_yet))]
+pub(crate) fn bind_inserted(
     alloc: Global,
     catalog: &[TableEntry],
     text: &str,
+    tokens: usize,
     insert: &Insert,
-) -> Result<BoundInsert, Cause>
-    requires { IsAscii text.now }
-    ensures { AnswersBy (IsPutAt catalog.now) (put_of catalog.now text.now insert.now) result }
+) -> Result<Bound, Cause>
+    ensures { BindsTo catalog.now text.now tokens (where_built text.now (shape_of_insert insert.now)) result }
 {
-    let table = table_named(alloc, catalog, text, &insert.table)?;
+    if !insert.columns.is_empty() || insert.choice != ConflictChoice::Abort {
+        return Err(Cause::NotYet);
+    }
+    match &insert.source {
+        InsertSource::Query(query) => {
+            bind_source(alloc, catalog, text, tokens, &insert.table, query)
+        }
+        InsertSource::Defaults => Err(Cause::NotYet),
+    }
+}
+
+/// The rows of VALUES alone.
+#[tactic(auto, using(crate::proofs::Shapes::not_yet))]
+fn bind_source(
+    alloc: Global,
+    catalog: &[TableEntry],
+    text: &str,
+    tokens: usize,
+    table: &Token,
+    query: &Query,
+) -> Result<Bound, Cause>
+    ensures { BindsTo catalog.now text.now tokens (where_built text.now (query_for table.now (of_query query.now))) result }
+{
+    if !stands_alone(query) {
+        return Err(Cause::NotYet);
+    }
+    match &query.first {
+        QueryPart::Values(rows) => {
+            bind_values(alloc, catalog, text, tokens, table, rows.as_slice())
+        }
+        QueryPart::Select(_) => Err(Cause::NotYet),
+    }
+}
+
+/// Rows of literals.
+#[tactic(auto, using(crate::proofs::Shapes::not_yet))]
+fn bind_values(
+    alloc: Global,
+    catalog: &[TableEntry],
+    text: &str,
+    tokens: usize,
+    table: &Token,
+    rows: &[Items<Expr>],
+) -> Result<Bound, Cause>
+    ensures { BindsTo catalog.now text.now tokens (where_built text.now (Some (Inserts (record { table = table.now; rows = rows.now })))) result }
+{
+    if !are_signed(rows) {
+        return Err(Cause::NotYet);
+    }
+    Ok(Bound::Insert(bind_insert(alloc, catalog, text, table, rows)?))
+}
+
+/// Whether all values of all rows are literals, with a sign or without.
+fn are_signed(rows: &[Items<Expr>]) -> bool
+    ensures { result ≡ list_all (list_all is_signed) rows.now }
+{
+    rows.iter().all(|row| is_signed_row(row.as_slice()))
+}
+
+/// Whether all values of a row are.
+fn is_signed_row(row: &[Expr]) -> bool
+    ensures { result ≡ list_all is_signed row.now }
+{
+    row.iter().all(|value| signed_of(value).is_some())
+}
+
+/// Rows for a table: the table comes first, then each row in turn, and then whether they fit.
+fn bind_insert(
+    alloc: Global,
+    catalog: &[TableEntry],
+    text: &str,
+    token: &Token,
+    rows: &[Items<Expr>],
+) -> Result<BoundInsert, Cause>
+    ensures { AnswersBy (IsPutAt catalog.now) (put_of catalog.now text.now (record { table = token.now; rows = rows.now })) result }
+{
+    let table = table_named(alloc, catalog, text, token)?;
     let entry = &catalog[table as usize];
-    let rows = bind_rows(alloc, text, insert.rows.as_slice())?;
+    let rows = bind_rows(alloc, text, rows)?;
     if width(rows.as_slice()) != entry.columns.len() {
         return Err(Cause::Arity(entry.name.clone()?));
     }
@@ -41,12 +124,11 @@ pub(crate) fn bind_insert(
 fn bind_rows(
     alloc: Global,
     text: &str,
-    rows: &[Items<SignedLiteral>],
+    rows: &[Items<Expr>],
 ) -> Result<Items<Items<Literal>>, Cause>
-    requires { IsAscii text.now }
     ensures { Answers (rows_in text.now rows.now) result }
 {
-    let width = signed_width(rows);
+    let width = source_width(rows);
     let mut found = Items::new(alloc);
     for row in rows {
         found.push(bind_row(alloc, text, width, row.as_slice())?)?;
@@ -55,18 +137,12 @@ fn bind_rows(
 }
 
 /// A row of so many literals.
-fn bind_row(
-    alloc: Global,
-    text: &str,
-    width: usize,
-    row: &[SignedLiteral],
-) -> Result<Items<Literal>, Cause>
-    requires { IsAscii text.now }
+fn bind_row(alloc: Global, text: &str, width: usize, row: &[Expr]) -> Result<Items<Literal>, Cause>
     ensures { Answers (row_of text.now width row.now) result }
 {
     let literals = literals(alloc, text, row)?;
     if literals.len() > MAX_COLUMNS {
-        return Err(Cause::TooManyColumns);
+        return Err(Cause::Limit(LimitKind::Columns));
     }
     if literals.len() != width {
         return Err(Cause::Arity(Text::from_str(alloc, "VALUES")?));
@@ -75,19 +151,28 @@ fn bind_row(
 }
 
 /// What the literals of a row stand for.
-fn literals(alloc: Global, text: &str, row: &[SignedLiteral]) -> Result<Items<Literal>, AllocError>
-    requires { IsAscii text.now }
-    ensures { IfOk result (λ found. found ≡ map (signed_literal text.now) row.now) }
+fn literals(alloc: Global, text: &str, row: &[Expr]) -> Result<Items<Literal>, Cause>
+    ensures { Answers (in_turn (λ x. literal_in text.now (signed_of x)) row.now) result }
 {
     let mut found = Items::new(alloc);
-    for literal in row {
-        found.push(signed_literal(alloc, text, literal)?)?;
+    for value in row {
+        found.push(bind_literal(alloc, text, signed_of(value))?)?;
     }
     Ok(found)
 }
 
-/// How many literals the first row has.
-fn signed_width(rows: &[Items<SignedLiteral>]) -> usize
+/// What a literal stands for.
+fn bind_literal(alloc: Global, text: &str, literal: Option<SignedLiteral>) -> Result<Literal, Cause>
+    ensures { Answers (literal_in text.now literal) result }
+{
+    match literal {
+        Some(literal) => Ok(signed_literal(alloc, text, &literal)?),
+        None => Err(Cause::NotYet),
+    }
+}
+
+/// How many values the first row has.
+fn source_width(rows: &[Items<Expr>]) -> usize
     ensures { result ≡ width_of rows.now }
 {
     match rows {

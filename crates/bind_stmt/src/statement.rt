@@ -1,16 +1,14 @@
 // Any statement.
-ghost use Rattle.std.specs.Prelude.{IfOk};
-ghost use Rattle.bind_stmt.specs.Binds.{Binds};
-ghost use Rattle.bind_stmt.specs.Small.{IsSmall};
-ghost use Rattle.std.specs.Str.{IsAscii};
+ghost use Rattle.bind_stmt.specs.Binds.{Binds, BindsTo};
+ghost use Rattle.sql_meaning.specs.Built.{where_built};
+ghost use Rattle.sql_meaning.specs.Shapes.{shape_of_command, shape_of_rows};
 
-use crate::built::is_built;
-use crate::creating::bind_create;
-use crate::inserting::bind_insert;
-use crate::selecting::bind_select;
+use crate::creating::bind_created;
+use crate::inserting::bind_inserted;
+use crate::selecting::bind_query;
 use eng_value::Cause;
 use sql_meaning::{BoundInsert, BoundSelect, TableEntry};
-use sql_tree::Statement;
+use sql_tree::{Command, RowCommand, Statement};
 use std::alloc::Global;
 
 /// A statement whose names are bound.
@@ -30,7 +28,8 @@ pub enum Bound {
 /// that a `*` shows.
 ///
 /// Errors: `NotYet` where a part of the statement is not built; `Unknown`, `Exists` and `Reserved` for names, `Real` for the type of
-/// a column, `Arity`, `Misuse` and `TooManyColumns`; and `Mem` where memory is wanting, whatever else there is.
+/// a column, `Arity`, `Misuse` and `Limit` of columns; and `Mem` where memory is wanting, whatever else there is.
+#[tactic(auto, using(crate::proofs::Shapes::not_yet))]
 pub fn bind(
     alloc: Global,
     catalog: &[TableEntry],
@@ -38,18 +37,46 @@ pub fn bind(
     tokens: usize,
     statement: &Statement,
 ) -> Result<Bound, Cause>
-    requires { IsAscii text.now }
-    ensures binds { Binds catalog.now text.now tokens statement.now result }
-    ensures small { IfOk result (λ b. IsSmall catalog.now statement.now b) }
+    ensures { Binds catalog.now text.now tokens statement.now result }
 {
-    if !is_built(text, statement) {
+    if statement.explain.is_some() {
         return Err(Cause::NotYet);
     }
-    match statement {
-        Statement::CreateTable(create) => Ok(Bound::CreateTable(bind_create(
-            alloc, catalog, text, tokens, create,
-        )?)),
-        Statement::Insert(insert) => Ok(Bound::Insert(bind_insert(alloc, catalog, text, insert)?)),
-        Statement::Select(select) => Ok(Bound::Select(bind_select(alloc, catalog, text, select)?)),
+    bind_command(alloc, catalog, text, tokens, &statement.command)
+}
+
+/// What a statement does, without EXPLAIN.
+#[tactic(auto, using(crate::proofs::Shapes::not_yet))]
+fn bind_command(
+    alloc: Global,
+    catalog: &[TableEntry],
+    text: &str,
+    tokens: usize,
+    command: &Command,
+) -> Result<Bound, Cause>
+    ensures { BindsTo catalog.now text.now tokens (where_built text.now (shape_of_command command.now)) result }
+{
+    match command {
+        Command::Rows(rows) => bind_rows(alloc, catalog, text, tokens, rows),
+        Command::Create(create) => bind_created(alloc, catalog, text, tokens, create),
+        _ => Err(Cause::NotYet),
+    }
+}
+
+/// A query or an INSERT.
+#[tactic(auto, using(crate::proofs::Shapes::not_yet))]
+fn bind_rows(
+    alloc: Global,
+    catalog: &[TableEntry],
+    text: &str,
+    tokens: usize,
+    command: &RowCommand,
+) -> Result<Bound, Cause>
+    ensures { BindsTo catalog.now text.now tokens (where_built text.now (shape_of_rows command.now)) result }
+{
+    match command {
+        RowCommand::Query(query) => bind_query(alloc, catalog, text, tokens, query),
+        RowCommand::Insert(insert) => bind_inserted(alloc, catalog, text, tokens, insert),
+        _ => Err(Cause::NotYet),
     }
 }

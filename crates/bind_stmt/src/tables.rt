@@ -1,6 +1,5 @@
 // Tables by their names.
 ghost use Rattle.std.specs.Prelude.{◌≡◌, ◌<◌, length, IfOk, IfSome};
-ghost use Rattle.std.specs.Str.{IsAscii};
 ghost use Rattle.bind_stmt.specs.Binds.{AnswersBy, IsTableAt, place_named};
 ghost use Rattle.sql_meaning.specs.Spelled.{name_at};
 ghost use Rattle.sql_meaning.specs.Statement.{table_named};
@@ -18,7 +17,6 @@ pub(crate) fn table_named(
     text: &str,
     token: &Token,
 ) -> Result<u32, Cause>
-    requires { IsAscii text.now }
     ensures found { AnswersBy (λ t place. IsTableAt catalog.now place t) (table_named catalog.now (name_at text.now token.now)) result }
     ensures within { IfOk result (λ place. place < length catalog.now) }
 {

@@ -8,7 +8,7 @@ use super::*;
 use eng_value::{Affinity, Text};
 use lines::line_of;
 use sql_meaning::{Column, TableEntry};
-use sql_tree::{Span, Statement, Token, TokenKind};
+use sql_tree::{Command, RowCommand, Span, Statement, Token, TokenKind};
 use sqlite_items::Items;
 use std::alloc::{AllocError, Global};
 
@@ -68,11 +68,21 @@ fn catalog(alloc: Global) -> Result<Vec<TableEntry>, AllocError> {
     Ok(entries)
 }
 
+/// A statement without EXPLAIN.
+pub(crate) fn plain(command: Command) -> Statement {
+    Statement {
+        explain: None,
+        command,
+    }
+}
+
+/// A query or a write of its own.
+pub(crate) fn of_rows(command: RowCommand) -> Statement {
+    plain(Command::Rows(command))
+}
+
 /// What a statement is bound to, as a line, or the text of its refusal.
 pub(crate) fn line(alloc: Global, statement: &Statement) -> Result<String, AllocError> {
-    if !WORDS.is_ascii() {
-        return String::from_str(alloc, "not ASCII");
-    }
     let catalog = catalog(alloc)?;
     line_of(alloc, bind(alloc, catalog.as_slice(), WORDS, 7, statement))
 }

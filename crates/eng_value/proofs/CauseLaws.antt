@@ -9,10 +9,12 @@ use Rattle.std.specs.Cmp.{Equal-is}
 use Rattle.std.proofs.lemmas.List.{append_assoc}
 use Rattle.std.specs.declared.cmp.Ordering.TheVariants.{Equal}
 use Rattle.eng_value.specs.declared.cause.Cause.{Cause}
-use Rattle.eng_value.specs.declared.cause.Cause.TheVariants.{NotYet, Mem, Interrupted, SinkFault, Real, Overflow, NotText, Escape, TooBig, Full, Unknown, Exists, Reserved, Arity, Misuse, TooManyColumns}
+use Rattle.eng_value.specs.declared.cause.Cause.TheVariants.{NotYet, Mem, Interrupted, SinkFault, Real, Overflow, NotText, Escape, TooBig, Full, Unknown, Exists, Reserved, Arity, Misuse, Limit, Syntax}
+use Rattle.eng_value.specs.declared.cause.LimitKind.{LimitKind}
+use Rattle.eng_value.specs.declared.cause.LimitKind.TheVariants as limit
 use Rattle.eng_value.specs.declared.cause.NameKind.{NameKind}
 use Rattle.eng_value.specs.declared.cause.NameKind.TheVariants as kind
-use Rattle.eng_value.specs.Causes.{CauseSet, cause_key, kind_key, only, has_cause}
+use Rattle.eng_value.specs.Causes.{CauseSet, cause_key, kind_key, limit_key, only, has_cause}
 
 -- the set of a list of causes
 abbrev pub set_of : List Cause → CauseSet
@@ -61,6 +63,9 @@ rest_of (n ∷ rest) = rest
 abbrev kind_of : ℕ → NameKind
 kind_of n = if nat_eq n 0 then kind.Table else if nat_eq n 1 then kind.Column else if nat_eq n 2 then kind.Function else kind.Collation
 
+abbrev limit_of : ℕ → LimitKind
+limit_of n = if nat_eq n 0 then limit.Columns else if nat_eq n 1 then limit.Nestings else if nat_eq n 2 then limit.Operators else limit.Parts
+
 -- the cause of a key
 abbrev cause_of : List ℕ → Cause
 cause_of [] = NotYet
@@ -74,18 +79,25 @@ cause_of (n ∷ rest) =
     if nat_eq n 7 then NotText else
     if nat_eq n 8 then Escape else
     if nat_eq n 9 then TooBig else
-    if nat_eq n 10 then TooManyColumns else
+    if nat_eq n 10 then Limit (limit_of (first_or_0 rest)) else
     if nat_eq n 11 then Reserved rest else
     if nat_eq n 12 then Arity rest else
     if nat_eq n 13 then Misuse rest else
     if nat_eq n 14 then Unknown (kind_of (first_or_0 rest)) (rest_of rest) else
-    if nat_eq n 15 then Exists (kind_of (first_or_0 rest)) (rest_of rest) else NotYet
+    if nat_eq n 15 then Exists (kind_of (first_or_0 rest)) (rest_of rest) else
+    if nat_eq n 16 then Syntax (first_or_0 rest) else NotYet
 
 kind_of-kind_key : (k : NameKind) → kind_of (kind_key k) ≡ k
 kind_of-kind_key kind.Table = refl
 kind_of-kind_key kind.Column = refl
 kind_of-kind_key kind.Function = refl
 kind_of-kind_key kind.Collation = refl
+
+limit_of-limit_key : (k : LimitKind) → limit_of (limit_key k) ≡ k
+limit_of-limit_key limit.Columns = refl
+limit_of-limit_key limit.Nestings = refl
+limit_of-limit_key limit.Operators = refl
+limit_of-limit_key limit.Parts = refl
 
 cause_of-cause_key : (c : Cause) → cause_of (cause_key c) ≡ c
 cause_of-cause_key NotYet = refl
@@ -98,7 +110,8 @@ cause_of-cause_key Overflow = refl
 cause_of-cause_key NotText = refl
 cause_of-cause_key Escape = refl
 cause_of-cause_key TooBig = refl
-cause_of-cause_key TooManyColumns = refl
+cause_of-cause_key (Limit k) = ap Limit (limit_of-limit_key k)
+cause_of-cause_key (Syntax at) = refl
 cause_of-cause_key (Reserved name) = refl
 cause_of-cause_key (Arity name) = refl
 cause_of-cause_key (Misuse name) = refl

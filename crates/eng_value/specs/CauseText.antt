@@ -2,7 +2,9 @@
 use Rattle.std.specs.Prelude.{ℕ, List, [], ◌++◌, codes}
 use Rattle.std.specs.Fmt.{decimal}
 use Rattle.eng_value.specs.declared.cause.Cause.{Cause}
-use Rattle.eng_value.specs.declared.cause.Cause.TheVariants.{NotYet, Mem, Interrupted, SinkFault, Real, Overflow, NotText, Escape, TooBig, Full, Unknown, Exists, Reserved, Arity, Misuse, TooManyColumns}
+use Rattle.eng_value.specs.declared.cause.Cause.TheVariants.{NotYet, Mem, Interrupted, SinkFault, Real, Overflow, NotText, Escape, TooBig, Full, Unknown, Exists, Reserved, Arity, Misuse, Limit, Syntax}
+use Rattle.eng_value.specs.declared.cause.LimitKind.{LimitKind}
+use Rattle.eng_value.specs.declared.cause.LimitKind.TheVariants as limit
 use Rattle.eng_value.specs.declared.cause.NameKind.{NameKind}
 use Rattle.eng_value.specs.declared.cause.NameKind.TheVariants as kind
 
@@ -22,13 +24,20 @@ code_of (Exists k name) = 1
 code_of (Reserved name) = 1
 code_of (Arity name) = 1
 code_of (Misuse name) = 1
-code_of TooManyColumns = 1
+code_of (Limit k) = 1
+code_of (Syntax at) = 1
 
 abbrev pub kind_word : NameKind → List ℕ
 kind_word kind.Table = codes "table"
 kind_word kind.Column = codes "column"
 kind_word kind.Function = codes "function"
 kind_word kind.Collation = codes "collation"
+
+abbrev pub limit_words : LimitKind → List ℕ
+limit_words limit.Columns = codes "100 columns"
+limit_words limit.Nestings = codes "100 nestings"
+limit_words limit.Operators = codes "1000 operators"
+limit_words limit.Parts = codes "500 parts"
 
 abbrev pub text_of : Cause → List ℕ
 text_of NotYet = codes "not built yet"
@@ -46,4 +55,5 @@ text_of (Exists k name) = kind_word k ++ codes " already exists: " ++ name
 text_of (Reserved name) = codes "reserved name: " ++ name
 text_of (Arity name) = codes "wrong number of values: " ++ name
 text_of (Misuse name) = codes "misuse of: " ++ name
-text_of TooManyColumns = codes "limit of 100 columns"
+text_of (Limit k) = codes "limit of " ++ limit_words k
+text_of (Syntax at) = codes "syntax error at byte " ++ decimal at

@@ -4,7 +4,9 @@ use Rattle.std.specs.Ordering.{nat_cmp}
 use Rattle.std.specs.Cmp.Lexicographic.{slice_cmp}
 use Rattle.std.specs.FinSet as set
 use Rattle.eng_value.specs.declared.cause.Cause.{Cause}
-use Rattle.eng_value.specs.declared.cause.Cause.TheVariants.{NotYet, Mem, Interrupted, SinkFault, Real, Overflow, NotText, Escape, TooBig, Full, Unknown, Exists, Reserved, Arity, Misuse, TooManyColumns}
+use Rattle.eng_value.specs.declared.cause.Cause.TheVariants.{NotYet, Mem, Interrupted, SinkFault, Real, Overflow, NotText, Escape, TooBig, Full, Unknown, Exists, Reserved, Arity, Misuse, Limit, Syntax}
+use Rattle.eng_value.specs.declared.cause.LimitKind.{LimitKind}
+use Rattle.eng_value.specs.declared.cause.LimitKind.TheVariants as limit
 use Rattle.eng_value.specs.declared.cause.NameKind.{NameKind}
 use Rattle.eng_value.specs.declared.cause.NameKind.TheVariants as kind
 
@@ -13,6 +15,12 @@ kind_key kind.Table = 0
 kind_key kind.Column = 1
 kind_key kind.Function = 2
 kind_key kind.Collation = 3
+
+abbrev pub limit_key : LimitKind → ℕ
+limit_key limit.Columns = 0
+limit_key limit.Nestings = 1
+limit_key limit.Operators = 2
+limit_key limit.Parts = 3
 
 -- no two causes have the same key
 abbrev pub cause_key : Cause → List ℕ
@@ -26,12 +34,13 @@ cause_key Overflow = 6 ∷ []
 cause_key NotText = 7 ∷ []
 cause_key Escape = 8 ∷ []
 cause_key TooBig = 9 ∷ []
-cause_key TooManyColumns = 10 ∷ []
+cause_key (Limit k) = 10 ∷ limit_key k ∷ []
 cause_key (Reserved name) = 11 ∷ name
 cause_key (Arity name) = 12 ∷ name
 cause_key (Misuse name) = 13 ∷ name
 cause_key (Unknown k name) = 14 ∷ kind_key k ∷ name
 cause_key (Exists k name) = 15 ∷ kind_key k ∷ name
+cause_key (Syntax at) = 16 ∷ at ∷ []
 
 -- a finite set of causes, by their keys
 abbrev pub CauseSet : Type 0

@@ -1,7 +1,7 @@
 // Why a statement is refused.
 ghost use Rattle.std.specs.Prelude.{◌≡◌, ◌++◌, codes, OnOk};
 ghost use Rattle.std.specs.Fmt.{decimal};
-ghost use Rattle.eng_value.specs.CauseText.{code_of, kind_word, text_of};
+ghost use Rattle.eng_value.specs.CauseText.{code_of, kind_word, limit_words, text_of};
 ghost use Rattle.eng_value.specs.declared.cause.Cause.TheVariants.{Mem};
 
 use crate::Text;
@@ -27,6 +27,33 @@ impl NameKind {
             NameKind::Column => "column",
             NameKind::Function => "function",
             NameKind::Collation => "collation",
+        }
+    }
+}
+
+/// What there may not be too much of (Implementation Limits For SQLite; the numbers are this engine's).
+#[derive(Clone, Copy, Debug, PartialEq, Eq)]
+pub enum LimitKind {
+    /// Columns of a table, a result or a list of values: `MAX_COLUMNS`.
+    Columns,
+    /// Brackets and CASEs that are open at one place.
+    Nestings,
+    /// Operators of an outermost expression with its queries.
+    Operators,
+    /// Parts of a compound query.
+    Parts,
+}
+
+impl LimitKind {
+    /// The number and the word for it.
+    pub fn words(self) -> &'static str
+        ensures { result.now ≡ limit_words self }
+    {
+        match self {
+            LimitKind::Columns => "100 columns",
+            LimitKind::Nestings => "100 nestings",
+            LimitKind::Operators => "1000 operators",
+            LimitKind::Parts => "500 parts",
         }
     }
 }
@@ -64,8 +91,10 @@ pub enum Cause {
     Arity(Text),
     /// What the name stands for may not stand there.
     Misuse(Text),
-    /// A table, a result or a list of values has more than `MAX_COLUMNS` columns.
-    TooManyColumns,
+    /// There is too much of this.
+    Limit(LimitKind),
+    /// The token at this byte of the statement's text cannot stand there; at the text's length, more is missing.
+    Syntax(usize),
 }
 
 impl Cause {
@@ -103,7 +132,12 @@ impl Cause {
             Cause::Reserved(name) => append_both(out, b"reserved name: ", name.as_bytes()),
             Cause::Arity(name) => append_both(out, b"wrong number of values: ", name.as_bytes()),
             Cause::Misuse(name) => append_both(out, b"misuse of: ", name.as_bytes()),
-            Cause::TooManyColumns => out.extend_from_slice(b"limit of 100 columns"),
+            Cause::Limit(kind) => append_both(out, b"limit of ", kind.words().as_bytes()),
+            Cause::Syntax(at) => append_both(
+                out,
+                b"syntax error at byte ",
+                Buffer::new().format(*at).as_bytes(),
+            ),
         }
     }
 }
@@ -167,7 +201,8 @@ impl Clone for Cause {
             Cause::Reserved(name) => Ok(Cause::Reserved(name.clone()?)),
             Cause::Arity(name) => Ok(Cause::Arity(name.clone()?)),
             Cause::Misuse(name) => Ok(Cause::Misuse(name.clone()?)),
-            Cause::TooManyColumns => Ok(Cause::TooManyColumns),
+            Cause::Limit(kind) => Ok(Cause::Limit(*kind)),
+            Cause::Syntax(at) => Ok(Cause::Syntax(*at)),
         }
     }
 }

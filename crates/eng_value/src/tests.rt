@@ -80,6 +80,11 @@ fn causes_have_codes_and_texts(rt: HostRuntime) -> Result<(), Fail> {
         (1, "wrong number of values: n"),
         (1, "misuse of: n"),
         (1, "limit of 100 columns"),
+        (1, "limit of 100 nestings"),
+        (1, "limit of 1000 operators"),
+        (1, "limit of 500 parts"),
+        (1, "syntax error at byte 0"),
+        (1, "syntax error at byte 1234"),
     ];
     for (cause, (code, text)) in causes.iter().zip(wanted) {
         let mut written = vec![in alloc; b'>']?;
@@ -106,7 +111,16 @@ fn push_named(alloc: Global, causes: &mut Vec<Cause>) -> Result<(), AllocError> 
     causes.push(Cause::Reserved(name.clone()?))?;
     causes.push(Cause::Arity(name.clone()?))?;
     causes.push(Cause::Misuse(name))?;
-    causes.push(Cause::TooManyColumns)?;
+    for kind in [
+        LimitKind::Columns,
+        LimitKind::Nestings,
+        LimitKind::Operators,
+        LimitKind::Parts,
+    ] {
+        causes.push(Cause::Limit(kind))?;
+    }
+    causes.push(Cause::Syntax(0))?;
+    causes.push(Cause::Syntax(1234))?;
     Ok(())
 }
 

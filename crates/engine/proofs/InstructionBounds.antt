@@ -18,14 +18,12 @@ use Rattle.sql_meaning.specs.declared.bound.Literal.{Literal}
 use Rattle.sql_meaning.specs.declared.column.TableEntry.{TableEntry}
 use Rattle.sql_meaning.specs.Sizes.{all_nodes}
 use Rattle.sql_meaning.specs.Spelled.{name_at}
-use Rattle.sql_meaning.specs.Statement.{Query, conjuncts_of, found_table, from_table, query_in, query_of, results_behind, statement_of}
+use Rattle.sql_meaning.specs.Statement.{Query, conjuncts_of, found_table, from_table, query_in, query_of, results_behind}
 use Rattle.sql_meaning.specs.Work.{instruction_bound, opened, row_count, scan_work, table_size, work_of}
 use Rattle.sql_meaning.specs.World.{State, entry_named, rows_of as rows_under}
-use Rattle.sql_tree.specs.Sizes.{total, size_of_filter, size_of_from, size_of_result, size_of_row}
-use Rattle.sql_tree.specs.declared.statement.Select.{Select}
-use Rattle.sql_tree.specs.declared.statement.SignedLiteral.{SignedLiteral}
-use Rattle.sql_tree.specs.declared.statement.Statement.{Statement}
-use Rattle.sql_tree.specs.declared.statement.Statement.TheVariants as statement
+use Rattle.sql_meaning.specs.Shapes.{Built, Creates, Inserts, Selects, Select, size_of_from}
+use Rattle.sql_tree.specs.Sizes.{total, size_of_filter, size_of_result, size_of_row}
+use Rattle.sql_tree.specs.declared.expr.Expr.{Expr}
 use Rattle.sql_tree.specs.declared.token.Token.{Token}
 use Rattle.vm_code.specs.Machine.{World as Lists, rows_of}
 use Rattle.engine.specs.Held.{state_of}
@@ -79,20 +77,20 @@ module _ (catalog : List TableEntry) (lists : Lists) (changes : ℕ) (last : ℤ
   abbrev tokens : ℕ
   tokens = length (tokens_of text)
 
-  bound_is : (s : Statement) → IsStatement text s → instruction_bound state text ≡ 256 * (tokens + table_size (opened state text s)) * (work_of state text s + 1)
+  bound_is : (s : Built) → IsStatement text s → instruction_bound state text ≡ 256 * (tokens + table_size (opened state text s)) * (work_of state text s + 1)
   bound_is s is = rw is.derived refl
 
   -- ---- CREATE TABLE
 
-  pub create_within : (s : Statement) (t : TableEntry) → IsStatement text s → IsBound catalog text tokens s (bound.CreateTable t) → create_steps lists ≤ instruction_bound state text
-  create_within (statement.CreateTable c) t is b =
-      rw (bound_is (statement.CreateTable c) is) (within_size 2 tokens 0 0 (omega (arith, is.small)))
-  create_within (statement.Insert i) t is b = absurd b
-  create_within (statement.Select x) t is b = absurd b
+  pub create_within : (s : Built) (t : TableEntry) → IsStatement text s → IsBound catalog text tokens s (bound.CreateTable t) → create_steps lists ≤ instruction_bound state text
+  create_within (Creates c) t is b =
+      rw (bound_is (Creates c) is) (within_size 2 tokens 0 0 (omega (arith, is.small)))
+  create_within (Inserts i) t is b = absurd b
+  create_within (Selects x) t is b = absurd b
 
   -- ---- INSERT
 
-  rows_few : (rows : List (List Literal)) (written : List (List SignedLiteral)) → map length rows ≡ map length written → sum_by row_steps rows ≤ 6 * total (map size_of_row written)
+  rows_few : (rows : List (List Literal)) (written : List (List Expr)) → map length rows ≡ map length written → sum_by row_steps rows ≤ 6 * total (map size_of_row written)
   rows_few [] written same = omega arith
   rows_few (row ∷ rows) [] same = absurd (cc)
   rows_few (row ∷ rows) (w ∷ written) same =
@@ -100,12 +98,12 @@ module _ (catalog : List TableEntry) (lists : Lists) (changes : ℕ) (last : ℤ
       let rest : map length rows ≡ map length written = cc in
       omega (arith, one, rows_few rows written rest, sum_by-cons row_steps row rows)
 
-  pub insert_within : (s : Statement) (b : BoundInsert) → IsStatement text s → IsBound catalog text tokens s (bound.Insert b) → IsSmall catalog s (bound.Insert b) → put_steps b lists ≤ instruction_bound state text
-  insert_within (statement.Insert i) b is bound small =
-      rw (bound_is (statement.Insert i) is)
-      (within_size (put_steps b lists) tokens (table_size (opened state text (statement.Insert i))) (work_of state text (statement.Insert i)) (omega (arith, is.small, rows_few b.rows i.rows small)))
-  insert_within (statement.CreateTable c) b is bound small = absurd bound
-  insert_within (statement.Select x) b is bound small = absurd bound
+  pub insert_within : (s : Built) (b : BoundInsert) → IsStatement text s → IsBound catalog text tokens s (bound.Insert b) → IsSmall catalog s (bound.Insert b) → put_steps b lists ≤ instruction_bound state text
+  insert_within (Inserts i) b is bound small =
+      rw (bound_is (Inserts i) is)
+      (within_size (put_steps b lists) tokens (table_size (opened state text (Inserts i))) (work_of state text (Inserts i)) (omega (arith, is.small, rows_few b.rows i.rows small)))
+  insert_within (Creates c) b is bound small = absurd bound
+  insert_within (Selects x) b is bound small = absurd bound
 
   -- ---- SELECT
 
@@ -121,25 +119,25 @@ module _ (catalog : List TableEntry) (lists : Lists) (changes : ℕ) (last : ℤ
   rows_same e None at = absurd at
   rows_same e (Some place) at = ap length (sym (place_named-rows catalog e.name place e at.first at.entry lists long))
 
-  select_from : (x : Select) (q : Query) (b : BoundSelect) (from : Option Token) → x.from ≡ from → IsStatement text (statement.Select x) → query_of catalog text x ≡ Ok q → IsFromAt catalog q.table b.table → IsSmallQuery catalog x b → query_steps b lists ≤ 256 * (tokens + table_size (opened state text (statement.Select x))) * (scan_work state text from + 1)
+  select_from : (x : Select) (q : Query) (b : BoundSelect) (from : Option Token) → x.from ≡ from → IsStatement text (Selects x) → query_of catalog text x ≡ Ok q → IsFromAt catalog q.table b.table → IsSmallQuery catalog x b → query_steps b lists ≤ 256 * (tokens + table_size (opened state text (Selects x))) * (scan_work state text from + 1)
   select_from x q b None none is meant at small =
       let table = query_in_table (record { text = text; table = None }) x q (subst (λ f. from_table catalog text f >>= (λ t. query_in (record { text = text; table = t }) x) ≡ Ok q) none meant) in
       let unread = no_table q b table at in
       let stars : small.stars ≤ 0 = subst (λ t. small.stars ≤ 100 * columns_at catalog t) unread small.of_table in
       let rows : rows_seen b.table lists ≡ 0 = ap (λ t. rows_seen t lists) unread in
       let few : query_steps b lists ≤ 16 + (1 + 0) * (4 * (all_nodes b.conjuncts + all_nodes b.results) + 6) = subst (λ r. query_steps b lists ≤ 16 + (1 + r) * (4 * (all_nodes b.conjuncts + all_nodes b.results) + 6)) rows (steps-few b lists) in
-      within_size (query_steps b lists) tokens (table_size (opened state text (statement.Select x))) 1
+      within_size (query_steps b lists) tokens (table_size (opened state text (Selects x))) 1
       (omega (arith, few, stars, small.conjuncts, small.results, is.small))
   select_from x q b (Some t) some is meant at small =
       let reads = reads_found catalog text t x q (entry_named catalog (name_at text t)) refl (subst (λ f. from_table catalog text f >>= (λ t. query_in (record { text = text; table = t }) x) ≡ Ok q) some meant) in
       let rows = rows_same reads.entry b.table (subst (λ e. IsFromAt catalog e b.table) reads.table at) in
       let each = 4 * (all_nodes b.conjuncts + all_nodes b.results) + 6 in
       let from : size_of_from x.from ≡ 2 = ap size_of_from some in
-      let few = within_rows each tokens (table_size (opened state text (statement.Select x))) (rows_seen b.table lists) (omega (arith, from, small.hundred, small.conjuncts, small.results, is.small)) in
+      let few = within_rows each tokens (table_size (opened state text (Selects x))) (rows_seen b.table lists) (omega (arith, from, small.hundred, small.conjuncts, small.results, is.small)) in
       rw (reads.named, ← rows) (omega (arith, few, steps-few b lists))
 
-  pub select_within : (s : Statement) (b : BoundSelect) → IsStatement text s → IsBound catalog text tokens s (bound.Select b) → IsSmall catalog s (bound.Select b) → query_steps b lists ≤ instruction_bound state text
-  select_within (statement.Select x) b is (q, meant, at) small =
-      rw (bound_is (statement.Select x) is) (select_from x q b x.from refl is meant at.table small)
-  select_within (statement.CreateTable c) b is bound small = absurd bound
-  select_within (statement.Insert i) b is bound small = absurd bound
+  pub select_within : (s : Built) (b : BoundSelect) → IsStatement text s → IsBound catalog text tokens s (bound.Select b) → IsSmall catalog s (bound.Select b) → query_steps b lists ≤ instruction_bound state text
+  select_within (Selects x) b is (q, meant, at) small =
+      rw (bound_is (Selects x) is) (select_from x q b x.from refl is meant at.table small)
+  select_within (Creates c) b is bound small = absurd bound
+  select_within (Inserts i) b is bound small = absurd bound

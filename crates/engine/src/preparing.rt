@@ -1,21 +1,20 @@
 // From the text of a statement to a bound one.
 ghost use Rattle.std.specs.Prelude.{◌≡◌};
+ghost use Rattle.sql_meaning.specs.Statement.{limit_kind};
 ghost use Rattle.engine.specs.Prepared.{Prepares, cause_of};
 
 use crate::catalog::Catalog;
 use bind_stmt::{Bound, bind};
-use eng_value::Cause;
+use eng_value::{Cause, LimitKind};
 use parse_stmt::{Failure, parse};
+use sql_grammar::Limit;
 use sql_lex::tokens;
 use std::alloc::Global;
 
-/// The bound statement of a text, or why it is refused: first what the grammar does not derive, or is not built, then names.
+/// The bound statement of a text, or why it is refused: first by the grammar, then since a part of it is not built, then for names.
 pub(crate) fn prepare(alloc: Global, catalog: &Catalog, text: &str) -> Result<Bound, Cause>
     ensures { Prepares catalog.now text.now result }
 {
-    if !text.is_ascii() {
-        return Err(Cause::NotYet);
-    }
     let tokens = tokens(alloc, text)?;
     let statement = match parse(alloc, &tokens, text.len()) {
         Ok(statement) => statement,
@@ -24,12 +23,24 @@ pub(crate) fn prepare(alloc: Global, catalog: &Catalog, text: &str) -> Result<Bo
     bind(alloc, catalog.entries(), text, tokens.len(), &statement)
 }
 
-/// Why a text has no statement: memory is wanting, or the grammar does not derive it.
+/// Why a text has no statement: memory is wanting, the grammar does not derive it, or there is too much of something.
 fn cause_of(failure: Failure) -> Cause
     ensures { result ≡ cause_of failure }
 {
     match failure {
         Failure::Memory => Cause::Mem,
-        Failure::Syntax(_) | Failure::TooMuch(_, _) => Cause::NotYet,
+        Failure::Syntax(at) => Cause::Syntax(at),
+        Failure::TooMuch(limit, _) => Cause::Limit(limit_kind(limit)),
+    }
+}
+
+/// What there is too much of.
+fn limit_kind(limit: Limit) -> LimitKind
+    ensures { result ≡ limit_kind limit }
+{
+    match limit {
+        Limit::Nestings => LimitKind::Nestings,
+        Limit::Operators => LimitKind::Operators,
+        Limit::Parts => LimitKind::Parts,
     }
 }

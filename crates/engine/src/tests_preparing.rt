@@ -73,8 +73,11 @@ fn texts_are_bound(rt: HostRuntime) -> Result<(), Fail> {
         ("SELECT a FROM v", "no such table: v"),
         ("SELECT a FROM t GROUP BY a", "not built yet"),
         ("SELECT count(*) FROM t", "not built yet"),
-        ("SELECT '\u{e9}'", "not built yet"),
-        ("", "not built yet"),
+        ("SELECT '\u{e9}'", "1 where 0 of None"),
+        ("SELECT \u{e9} FROM t", "no such column: \u{e9}"),
+        ("EXPLAIN SELECT 1", "not built yet"),
+        ("", "syntax error at byte 0"),
+        ("SELECT '\u{e9}' x y", "syntax error at byte 14"),
     ];
     for (text, wanted) in texts {
         let line = bound(alloc, &catalog, text)?;

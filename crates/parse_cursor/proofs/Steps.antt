@@ -2,6 +2,7 @@
 use Rattle.std.proofs.Common.{◌≡◌, ℕ, ◌<◌, subst, arith, length, true, false, List, [], ◌∷◌, ◌++◌, append_assoc, append-nil, Some, None, Result, Ok, Err, refl, ap, sym, ◌∙◌, inl, inr}
 use Rattle.sql_tree.specs.declared.token.Token.{Token}
 use Rattle.sql_tree.specs.declared.token.TokenKind.{TokenKind}
+use Rattle.sql_tree.specs.declared.token.TokenKind.TheVariants as kind
 use Rattle.sql_tree.specs.declared.expr.BinaryOp.{BinaryOp}
 use Rattle.sql_tree.specs.declared.expr.Expr.{Expr}
 use Rattle.sql_tree.specs.declared.expr.Expr.TheVariants as tree
@@ -10,10 +11,12 @@ use Rattle.sql_grammar.specs.declared.counts.Limit.{Limit}
 use Rattle.sql_grammar.specs.declared.counts.Role.{Role}
 use Rattle.sql_grammar.specs.declared.counts.Role.TheVariants as role
 use Rattle.sql_grammar.specs.Marks.{count}
-use Rattle.sql_grammar.specs.Rules.{Kinds, has, starts, first, is_clear, can_be_empty, many, to, both, taken, Parser, reads, one, Done, Stop, ◌>>=◌, Outcome}
-use Rattle.sql_grammar.specs.Grammar.{Name, Of, rules, maybe, after, infix_by, suffixed, applied}
+use Rattle.sql_grammar.specs.Rules.{Kinds, has, starts, first, is_clear, can_be_empty, many, to, over, before, both, taken, Parser, reads, one, Done, Stop, ◌>>=◌, Outcome}
+use Rattle.sql_grammar.specs.Grammar.{Name, Of, maybe, after, list_of, or_none, infix_by, suffixed, applied}
+use Rattle.sql_grammar.specs.Bodies.{rules}
+use Rattle.sql_grammar.specs.Queries.{given}
 use Rattle.sql_grammar.proofs.ReadingLaws.{other, chosen, bool_cases}
-use Rattle.sql_grammar.proofs.Whole.{many_is, takes_some}
+use Rattle.sql_grammar.proofs.Whole.{many_is, no_longer, takes_some}
 use Rattle.sql_grammar.proofs.Clear.{clear, rich}
 use Rattle.parse_cursor.specs.Gives.{collected, apply_to, apply_one}
 
@@ -145,3 +148,77 @@ infix_step ks f r d left c ts h here =
           ≡ (o >>= λ t e rest. reads Name rules d r e rest >>= λ x g end. apply_to (tree.Binary (f t.kind) left x) (reads Name rules d (many (infix_by ks f r)) g end))
       word (Done t e rest) = right t (reads Name rules d r e rest)
       word (Stop w rest) = refl
+
+-- ---- several parts
+
+-- one after another
+pub three_to : {A B C D : Type 0} (p : Parser A) (q : Parser B) (s : Parser C) (f : A × (B × C) → D) (c : Counts) (ts : List Token)
+    → (◌>>=◌ {A = A × (B × C)} (both p (both q s) c ts) (λ x e rest. Done (f x) e rest)) ≡ (p c ts >>= λ a e rest. q e rest >>= λ b g mid. s g mid >>= λ z h end. Done (f (a, (b, z))) h end)
+three_to {A} {B} {C} p q s f c ts = both_to p (both q s) f c ts ∙ word (p c ts) where
+  word : (o : Outcome A) → (o >>= λ a e rest. both q s e rest >>= λ y g end. Done (f (a, y)) g end) ≡ (o >>= λ a e rest. q e rest >>= λ b g mid. s g mid >>= λ z h end. Done (f (a, (b, z))) h end)
+  word (Done a e rest) = both_to q s (λ y. f (a, y)) e rest
+  word (Stop w rest) = refl
+
+pub four_to : {A B C D E : Type 0} (p : Parser A) (q : Parser B) (s : Parser C) (u : Parser D) (f : A × (B × (C × D)) → E) (c : Counts) (ts : List Token)
+    → (◌>>=◌ {A = A × (B × (C × D))} (both p (both q (both s u)) c ts) (λ x e rest. Done (f x) e rest)) ≡ (p c ts >>= λ a e rest. q e rest >>= λ b g mid. s g mid >>= λ z h near. u h near >>= λ y i end. Done (f (a, (b, (z, y)))) i end)
+four_to {A} {B} {C} {D} {E} p q s u f c ts = both_to p (both q (both s u)) f c ts ∙ word (p c ts) where
+  word : (o : Outcome A) → (o >>= λ a e rest. both q (both s u) e rest >>= λ y g end. Done (f (a, y)) g end) ≡ (o >>= λ a e rest. q e rest >>= λ b g mid. s g mid >>= λ z h near. u h near >>= λ y i end. Done (f (a, (b, (z, y)))) i end)
+  word (Done a e rest) = three_to q s u (λ y. f (a, y)) e rest
+  word (Stop w rest) = refl
+
+-- two tokens, and what comes after them
+pub after_two : {A : Type 0} (m n : Role) (k j : TokenKind) (r : Of A) (d : ℕ) (c : Counts) (ts : List Token)
+    → reads Name rules d (after m k (after n j r)) c ts ≡ (one m (k ∷ []) c ts >>= λ t e rest. one n (j ∷ []) e rest >>= λ u f mid. reads Name rules d r f mid)
+after_two m n k j r d c ts = after_is m k (after n j r) d c ts ∙ word (one m (k ∷ []) c ts) where
+  word : (o : Outcome Token) → (o >>= λ t e rest. reads Name rules d (after n j r) e rest) ≡ (o >>= λ t e rest. one n (j ∷ []) e rest >>= λ u f mid. reads Name rules d r f mid)
+  word (Done t e rest) = after_is n j r d e rest
+  word (Stop w rest) = refl
+
+-- ---- x {"," x}
+
+pub list_is : {A : Type 0} (r : Of A) (d : ℕ) (c : Counts) (ts : List Token)
+    → reads Name rules d (list_of r) c ts ≡ (reads Name rules d r c ts >>= λ a e rest. collected (a ∷ []) (reads Name rules d (many (after role.Outside kind.Comma r)) e rest))
+list_is r d c ts = both_to (reads Name rules d r) (reads Name rules d (many (after role.Outside kind.Comma r))) (λ p. p.0 ∷ p.1) c ts
+
+pub next_is : {A : Type 0} (r : Of A) (found : List A) (d : ℕ) (c : Counts) (ts : List Token) → is_clear Name rules (many (after role.Outside kind.Comma r)) ≡ true → starts (kind.Comma ∷ []) ts ≡ true
+    → collected found (reads Name rules d (many (after role.Outside kind.Comma r)) c ts)
+    ≡ (one role.Outside (kind.Comma ∷ []) c ts >>= λ t e rest. reads Name rules d r e rest >>= λ a f end. collected (found ++ a ∷ []) (reads Name rules d (many (after role.Outside kind.Comma r)) f end))
+next_is {A} r found d c ts h here = many_step (after role.Outside kind.Comma r) d found c ts h here ∙ ap again (after_is role.Outside kind.Comma r d c ts) ∙ word (one role.Outside (kind.Comma ∷ []) c ts) where
+  again : Outcome A → Outcome (List A)
+  again o = o >>= λ a f end. collected (found ++ a ∷ []) (reads Name rules d (many (after role.Outside kind.Comma r)) f end)
+
+  word : (o : Outcome Token) → again (o >>= λ t e rest. reads Name rules d r e rest) ≡ (o >>= λ t e rest. again (reads Name rules d r e rest))
+  word (Done t e rest) = refl
+  word (Stop w rest) = refl
+
+pub last_is : {A : Type 0} (r : Of A) (found : List A) (d : ℕ) (c : Counts) (ts : List Token) → is_clear Name rules (many (after role.Outside kind.Comma r)) ≡ true → starts (kind.Comma ∷ []) ts ≡ false
+    → collected found (reads Name rules d (many (after role.Outside kind.Comma r)) c ts) ≡ Done found c ts
+last_is r found d c ts h none = many_end (after role.Outside kind.Comma r) d found c ts h none
+
+-- a "," and what follows it take tokens
+pub next_shorter : {A : Type 0} (r : Of A) → is_clear Name rules r ≡ true → (d : ℕ) (c e f : Counts) (ts mid rest : List Token) (t : Token) (a : A)
+    → one role.Outside (kind.Comma ∷ []) c ts ≡ Done t e mid → reads Name rules d r e mid ≡ Done a f rest → length rest < length ts
+next_shorter r h d c e f ts mid rest t a g is = omega (arith, one_shorter role.Outside (kind.Comma ∷ []) c e ts mid t g, no_longer Name rules clear rich r h d e f mid rest a is)
+
+-- ---- what may be there
+
+-- [x], as a list that is empty without it
+pub or_none_some : {A : Type 0} (r : Of (List A)) (d : ℕ) (c : Counts) (ts : List Token) → starts (first r) ts ≡ true → reads Name rules d (to or_none (maybe r)) c ts ≡ reads Name rules d r c ts
+or_none_some {A} r d c ts here = ap (λ o. o >>= λ x e rest. Done (or_none x) e rest) (chosen _ _ _ here) ∙ word (reads Name rules d r c ts) where
+  word : (o : Outcome (List A)) → ((o >>= λ a e rest. Done (Some a) e rest) >>= λ x e rest. Done (or_none x) e rest) ≡ o
+  word (Done a e rest) = refl
+  word (Stop w rest) = refl
+
+pub or_none_none : {A : Type 0} (r : Of (List A)) (d : ℕ) (c : Counts) (ts : List Token) → starts (first r) ts ≡ false → reads Name rules d (to or_none (maybe r)) c ts ≡ Done [] c ts
+or_none_none r d c ts none = ap (λ o. o >>= λ x e rest. Done (or_none x) e rest) (other _ _ _ none)
+
+-- [x], as whether it is there
+pub given_yes : {A : Type 0} (r : Of A) (d : ℕ) (c : Counts) (ts : List Token) → starts (first r) ts ≡ true → reads Name rules d (given r) c ts ≡ (reads Name rules d r c ts >>= λ a e rest. Done true e rest)
+given_yes r d c ts here = chosen _ _ _ here
+
+pub given_no : {A : Type 0} (r : Of A) (d : ℕ) (c : Counts) (ts : List Token) → starts (first r) ts ≡ false → reads Name rules d (given r) c ts ≡ Done false c ts
+given_no r d c ts none = other _ _ _ none
+
+-- a tree with its tokens
+pub over_is : {A B : Type 0} (f : A → List Token → B) (r : Of A) (d : ℕ) (c : Counts) (ts : List Token) → reads Name rules d (over f r) c ts ≡ (reads Name rules d r c ts >>= λ a e rest. Done (f a (before ts rest)) e rest)
+over_is f r d c ts = refl

@@ -5,7 +5,8 @@ use Rattle.sql_tree.specs.declared.token.TokenKind.TheVariants as kind
 use Rattle.sql_grammar.specs.declared.counts.Counts.{Counts}
 use Rattle.sql_grammar.specs.declared.counts.Role.TheVariants as role
 use Rattle.sql_grammar.specs.Rules.{starts, is_clear, reads, nest, opening, one, Outcome, Done, Stop, ◌>>=◌, tok}
-use Rattle.sql_grammar.specs.Grammar.{Name, sizes, rules, or_none, two_sizes, type_sizes, maybe, after, name, names, one_or_two, signed, type_words, type_name}
+use Rattle.sql_grammar.specs.Grammar.{Name, sizes, or_none, two_sizes, type_sizes, maybe, after, name, names, one_or_two, signed, type_words, type_name}
+use Rattle.sql_grammar.specs.Bodies.{rules}
 use Rattle.sql_grammar.proofs.ReadingLaws.{other, chosen}
 use Rattle.sql_grammar.proofs.Whole.{nest_is}
 use Rattle.parse_cursor.specs.Gives.{collected}

@@ -1,11 +1,13 @@
 -- Parts of rules that functions of their own parse.
-use Rattle.std.specs.Prelude.{List, [], ◌∷◌, Option}
+use Rattle.std.specs.Prelude.{Bool, List, [], ◌∷◌, Option}
 use Rattle.sql_tree.specs.declared.token.Token.{Token}
+use Rattle.sql_tree.specs.declared.token.TokenKind.{TokenKind}
 use Rattle.sql_tree.specs.declared.token.TokenKind.TheVariants as kind
 use Rattle.sql_tree.specs.declared.expr.SignedNumber.{SignedNumber}
 use Rattle.sql_grammar.specs.declared.counts.Role.TheVariants as role
 use Rattle.sql_grammar.specs.Rules.{tok, many}
-use Rattle.sql_grammar.specs.Grammar.{Of, maybe, after, name, signed}
+use Rattle.sql_grammar.specs.Grammar.{Of, maybe, after, in_brackets, name, name_list, signed}
+use Rattle.sql_grammar.specs.Queries.{given}
 
 -- [+ | -]
 unfoldable pub sign : Of (Option Token)
@@ -18,3 +20,15 @@ second_size = maybe (after role.Outside kind.Comma signed)
 -- the names of a type behind the first
 unfoldable pub more_names : Of (List Token)
 more_names = many name
+
+-- {"," name}
+unfoldable pub next_names : Of (List Token)
+next_names = many (after role.Outside kind.Comma name)
+
+-- "(" name {"," name} ")"
+unfoldable pub in_names : Of (List Token)
+in_names = in_brackets name_list
+
+-- [word], as whether it stands there
+unfoldable pub given_word : TokenKind → Of Bool
+given_word k = given (tok role.Outside (k ∷ []))

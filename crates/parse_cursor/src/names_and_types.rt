@@ -3,8 +3,11 @@
 ghost use Rattle.std.specs.Prelude.{ℕ, ◌≡◌, IfOk};
 ghost use Rattle.sql_grammar.specs.Rules.{reads, one, starts};
 ghost use Rattle.sql_grammar.specs.Grammar as spec;
-ghost use Rattle.sql_grammar.specs.Grammar.{Name, rules};
+ghost use Rattle.sql_grammar.specs.Grammar.{Name};
+ghost use Rattle.sql_grammar.specs.Bodies.{rules};
 ghost use Rattle.sql_grammar.specs.declared.counts.Role.TheVariants as role;
+ghost use Rattle.sql_grammar.specs.Definitions.{all_names};
+ghost use Rattle.sql_grammar.specs.Queries.{column_names};
 ghost use Rattle.parse_cursor.specs.Gives.{Gives};
 ghost use Rattle.parse_cursor.specs.Parts as part;
 
@@ -169,4 +172,49 @@ pub fn type_name(
     let words = type_words(alloc, tokens)?;
     let sizes = type_sizes(alloc, tokens, depth)?;
     Ok(TypeName { words, sizes })
+}
+
+/// `name {, name}`
+#[tactic(auto, using(crate::proofs::Names::all_names_steps))]
+pub fn all_names(alloc: Global, tokens: &mut Cursor<'_>) -> Result<Items<Token>, ParseError>
+    ensures { (d : ℕ) → Gives (reads Name rules d all_names tokens.old.counts tokens.old.rest.now) result tokens.new.counts tokens.new.rest.now }
+{
+    let mut found = Items::new(alloc);
+    found.push(name(tokens)?)?;
+    while tokens.sees(TokenKind::Comma) {
+        tokens.expect(TokenKind::Comma, Role::Outside)?;
+        found.push(name(tokens)?)?;
+    }
+    Ok(found)
+}
+
+/// `( name {, name} )`, where so many nestings may still be opened
+#[tactic(auto, using(crate::proofs::Names::in_names_is))]
+pub fn in_names(
+    alloc: Global,
+    tokens: &mut Cursor<'_>,
+    depth: usize,
+) -> Result<Items<Token>, ParseError>
+    ensures { Gives (reads Name rules depth part.in_names tokens.old.counts tokens.old.rest.now) result tokens.new.counts tokens.new.rest.now }
+{
+    tokens.open(depth, TokenKind::LeftParen, Role::Opening)?;
+    let names = all_names(alloc, tokens)?;
+    tokens.expect(TokenKind::RightParen, Role::Closing)?;
+    Ok(names)
+}
+
+/// `[( name {, name} )]`, where so many nestings may still be opened
+#[tactic(auto, using(crate::proofs::Names::column_names_steps))]
+pub fn column_names(
+    alloc: Global,
+    tokens: &mut Cursor<'_>,
+    depth: usize,
+) -> Result<Items<Token>, ParseError>
+    ensures { Gives (reads Name rules depth column_names tokens.old.counts tokens.old.rest.now) result tokens.new.counts tokens.new.rest.now }
+{
+    if tokens.sees(TokenKind::LeftParen) {
+        in_names(alloc, tokens, depth)
+    } else {
+        Ok(Items::new(alloc))
+    }
 }

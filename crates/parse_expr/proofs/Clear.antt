@@ -1,126 +1,156 @@
 -- One token of look-ahead tells what to do in each rule, and with which kinds each begins.
-use Rattle.std.proofs.Common.{◌≡◌, true, false, [], ◌∷◌, refl}
+use Rattle.std.proofs.Common.{◌≡◌, true, false, not, ◌&&◌, [], ◌∷◌, refl}
 use Rattle.sql_tree.specs.declared.token.TokenKind.TheVariants as kind
 use Rattle.sql_grammar.specs.declared.counts.Role.{Role}
-use Rattle.sql_grammar.specs.Rules.{is_clear, can_be_empty, first}
-use Rattle.sql_grammar.specs.Grammar.{Name, rules, signed, two_sizes, type_sizes, type_words, type_name, literal, parameter, filter, call, of_table, behind_name, named, enclosed, casting, choosing, raising, primary, signs, signed_primary, collation, collations, collated, more_concatenation, concatenation, more_product, product, more_sum, sum, more_bits, bits, more_relation, relation, equal_to, distinct_from, is_test, between, like, glob, member_of, positive_test, null_test, negated, test, tests, equality, nots, negation, more_conjunction, conjunction, more_expr, expr, exprs, arm, arms, otherwise, case, some_arguments, raise_what}
+use Rattle.sql_grammar.specs.Rules.{is_clear, can_be_empty, first, more, apart, seq, many}
+use Rattle.sql_grammar.specs.Grammar.{Name, Of, primary, signs, signed_primary, collation, collations, collated, more_concatenation, concatenation, more_product, product, more_sum, sum, more_bits, bits, more_relation, relation, equal_to, is_test, between, like, glob, positive_test, null_test, test, tests, equality, nots, negation, more_conjunction, conjunction, more_expr, expr, all_rules}
+use Rattle.sql_grammar.specs.Bodies.{rules}
+use Rattle.sql_grammar.proofs.Clear.{expr_clear}
+use Rattle.sql_grammar.proofs.KindSets.{and_true, not_true}
 
--- all rules, for proofs that compute with them
-unfoldable all_rules : Unit {0}
-unfolding signed two_sizes type_sizes type_words type_name literal parameter filter call of_table behind_name named enclosed casting choosing raising primary signs signed_primary collation collations collated more_concatenation concatenation more_product product more_sum sum more_bits bits more_relation relation equal_to distinct_from is_test between like glob member_of positive_test null_test negated test tests equality nots negation more_conjunction conjunction more_expr expr exprs arm arms otherwise case some_arguments raise_what
-all_rules = tt
+-- ---- clear, as parts of what is
 
--- ---- clear
+two_clear : {A B : Type 0} (r : Of A) (s : Of B) → is_clear Name rules (seq r s) ≡ true → (is_clear Name rules r ≡ true) × (is_clear Name rules s ≡ true)
+two_clear r s h =
+    let p = and_true (is_clear Name rules r) (is_clear Name rules s && apart (more r) (first s)) h in
+    let q = and_true (is_clear Name rules s) (apart (more r) (first s)) p.1 in
+    (p.0, q.0)
 
-pub primary_clear : is_clear Name rules primary ≡ true
-unfolding all_rules
-primary_clear = refl
+each_clear : {A : Type 0} (r : Of A) → is_clear Name rules (many r) ≡ true → (is_clear Name rules r ≡ true) × (can_be_empty r ≡ false)
+each_clear r h =
+    let p = and_true (is_clear Name rules r) (not (can_be_empty r) && apart (more r) (first r)) h in
+    let q = and_true (not (can_be_empty r)) (apart (more r) (first r)) p.1 in
+    (p.0, not_true (can_be_empty r) q.0)
 
-pub signed_primary_clear : is_clear Name rules signed_primary ≡ true
-unfolding all_rules
-signed_primary_clear = refl
-
-pub concatenation_clear : is_clear Name rules concatenation ≡ true
-unfolding all_rules
-concatenation_clear = refl
-
-pub collated_clear : is_clear Name rules collated ≡ true
-unfolding all_rules
-collated_clear = refl
-
-pub product_clear : is_clear Name rules product ≡ true
-unfolding all_rules
-product_clear = refl
-
-pub sum_clear : is_clear Name rules sum ≡ true
-unfolding all_rules
-sum_clear = refl
-
-pub bits_clear : is_clear Name rules bits ≡ true
-unfolding all_rules
-bits_clear = refl
-
-pub relation_clear : is_clear Name rules relation ≡ true
-unfolding all_rules
-relation_clear = refl
-
-pub test_clear : is_clear Name rules test ≡ true
-unfolding all_rules
-test_clear = refl
-
-pub equality_clear : is_clear Name rules equality ≡ true
-unfolding all_rules
-equality_clear = refl
-
-pub negation_clear : is_clear Name rules negation ≡ true
-unfolding all_rules
-negation_clear = refl
+expr_parts : (is_clear Name rules conjunction ≡ true) × (is_clear Name rules more_expr ≡ true)
+unfolding expr
+expr_parts = two_clear conjunction more_expr expr_clear
 
 pub conjunction_clear : is_clear Name rules conjunction ≡ true
-unfolding all_rules
-conjunction_clear = refl
-
-pub expr_clear : is_clear Name rules expr ≡ true
-unfolding all_rules
-expr_clear = refl
-
-pub collation_clear : is_clear Name rules collation ≡ true
-unfolding all_rules
-collation_clear = refl
-
-pub collations_clear : is_clear Name rules collations ≡ true
-unfolding all_rules
-collations_clear = refl
-
-pub more_concatenation_clear : is_clear Name rules more_concatenation ≡ true
-unfolding all_rules
-more_concatenation_clear = refl
-
-pub more_product_clear : is_clear Name rules more_product ≡ true
-unfolding all_rules
-more_product_clear = refl
-
-pub more_sum_clear : is_clear Name rules more_sum ≡ true
-unfolding all_rules
-more_sum_clear = refl
-
-pub more_bits_clear : is_clear Name rules more_bits ≡ true
-unfolding all_rules
-more_bits_clear = refl
-
-pub more_relation_clear : is_clear Name rules more_relation ≡ true
-unfolding all_rules
-more_relation_clear = refl
-
-pub tests_clear : is_clear Name rules tests ≡ true
-unfolding all_rules
-tests_clear = refl
-
-pub more_conjunction_clear : is_clear Name rules more_conjunction ≡ true
-unfolding all_rules
-more_conjunction_clear = refl
+conjunction_clear = expr_parts.0
 
 pub more_expr_clear : is_clear Name rules more_expr ≡ true
-unfolding all_rules
-more_expr_clear = refl
+more_expr_clear = expr_parts.1
 
-pub signs_clear : is_clear Name rules signs ≡ true
-unfolding all_rules
-signs_clear = refl
+conjunction_parts : (is_clear Name rules negation ≡ true) × (is_clear Name rules more_conjunction ≡ true)
+unfolding conjunction
+conjunction_parts = two_clear negation more_conjunction conjunction_clear
+
+pub negation_clear : is_clear Name rules negation ≡ true
+negation_clear = conjunction_parts.0
+
+pub more_conjunction_clear : is_clear Name rules more_conjunction ≡ true
+more_conjunction_clear = conjunction_parts.1
+
+negation_parts : (is_clear Name rules nots ≡ true) × (is_clear Name rules equality ≡ true)
+unfolding negation
+negation_parts = two_clear nots equality negation_clear
 
 pub nots_clear : is_clear Name rules nots ≡ true
-unfolding all_rules
-nots_clear = refl
+nots_clear = negation_parts.0
 
--- ---- never empty
+pub equality_clear : is_clear Name rules equality ≡ true
+equality_clear = negation_parts.1
 
-pub collation_solid : can_be_empty collation ≡ false
-unfolding all_rules
-collation_solid = refl
+equality_parts : (is_clear Name rules relation ≡ true) × (is_clear Name rules tests ≡ true)
+unfolding equality
+equality_parts = two_clear relation tests equality_clear
+
+pub relation_clear : is_clear Name rules relation ≡ true
+relation_clear = equality_parts.0
+
+pub tests_clear : is_clear Name rules tests ≡ true
+tests_clear = equality_parts.1
+
+relation_parts : (is_clear Name rules bits ≡ true) × (is_clear Name rules more_relation ≡ true)
+unfolding relation
+relation_parts = two_clear bits more_relation relation_clear
+
+pub bits_clear : is_clear Name rules bits ≡ true
+bits_clear = relation_parts.0
+
+pub more_relation_clear : is_clear Name rules more_relation ≡ true
+more_relation_clear = relation_parts.1
+
+bits_parts : (is_clear Name rules sum ≡ true) × (is_clear Name rules more_bits ≡ true)
+unfolding bits
+bits_parts = two_clear sum more_bits bits_clear
+
+pub sum_clear : is_clear Name rules sum ≡ true
+sum_clear = bits_parts.0
+
+pub more_bits_clear : is_clear Name rules more_bits ≡ true
+more_bits_clear = bits_parts.1
+
+sum_parts : (is_clear Name rules product ≡ true) × (is_clear Name rules more_sum ≡ true)
+unfolding sum
+sum_parts = two_clear product more_sum sum_clear
+
+pub product_clear : is_clear Name rules product ≡ true
+product_clear = sum_parts.0
+
+pub more_sum_clear : is_clear Name rules more_sum ≡ true
+more_sum_clear = sum_parts.1
+
+product_parts : (is_clear Name rules concatenation ≡ true) × (is_clear Name rules more_product ≡ true)
+unfolding product
+product_parts = two_clear concatenation more_product product_clear
+
+pub concatenation_clear : is_clear Name rules concatenation ≡ true
+concatenation_clear = product_parts.0
+
+pub more_product_clear : is_clear Name rules more_product ≡ true
+more_product_clear = product_parts.1
+
+concatenation_parts : (is_clear Name rules collated ≡ true) × (is_clear Name rules more_concatenation ≡ true)
+unfolding concatenation
+concatenation_parts = two_clear collated more_concatenation concatenation_clear
+
+pub collated_clear : is_clear Name rules collated ≡ true
+collated_clear = concatenation_parts.0
+
+pub more_concatenation_clear : is_clear Name rules more_concatenation ≡ true
+more_concatenation_clear = concatenation_parts.1
+
+collated_parts : (is_clear Name rules signed_primary ≡ true) × (is_clear Name rules collations ≡ true)
+unfolding collated
+collated_parts = two_clear signed_primary collations collated_clear
+
+pub signed_primary_clear : is_clear Name rules signed_primary ≡ true
+signed_primary_clear = collated_parts.0
+
+pub collations_clear : is_clear Name rules collations ≡ true
+collations_clear = collated_parts.1
+
+signed_primary_parts : (is_clear Name rules signs ≡ true) × (is_clear Name rules primary ≡ true)
+unfolding signed_primary
+signed_primary_parts = two_clear signs primary signed_primary_clear
+
+pub signs_clear : is_clear Name rules signs ≡ true
+signs_clear = signed_primary_parts.0
+
+pub primary_clear : is_clear Name rules primary ≡ true
+primary_clear = signed_primary_parts.1
+
+tests_parts : (is_clear Name rules test ≡ true) × (can_be_empty test ≡ false)
+unfolding tests
+tests_parts = each_clear test tests_clear
+
+pub test_clear : is_clear Name rules test ≡ true
+test_clear = tests_parts.0
 
 pub test_solid : can_be_empty test ≡ false
-unfolding all_rules
-test_solid = refl
+test_solid = tests_parts.1
+
+collations_parts : (is_clear Name rules collation ≡ true) × (can_be_empty collation ≡ false)
+unfolding collations
+collations_parts = each_clear collation collations_clear
+
+pub collation_clear : is_clear Name rules collation ≡ true
+collation_clear = collations_parts.0
+
+pub collation_solid : can_be_empty collation ≡ false
+collation_solid = collations_parts.1
 
 -- ---- the kinds that they begin with
 

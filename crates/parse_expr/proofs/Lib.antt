@@ -1,6 +1,7 @@
 pub mod Clear
 pub mod Straight
 pub mod Lists
-pub mod Levels
+pub mod Suffixed
 pub mod Smaller
-pub mod Exact
+pub mod Tails
+pub mod Others

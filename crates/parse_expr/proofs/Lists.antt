@@ -8,7 +8,8 @@ use Rattle.sql_tree.specs.declared.expr.UnaryOp.TheVariants as unary
 use Rattle.sql_grammar.specs.declared.counts.Counts.{Counts}
 use Rattle.sql_grammar.specs.declared.counts.Role.TheVariants as role
 use Rattle.sql_grammar.specs.Rules.{starts, tok, reads, one, Outcome, Done, Stop, ◌>>=◌}
-use Rattle.sql_grammar.specs.Grammar.{Name, rules, sign_op, with_signs, with_nots, signs, nots}
+use Rattle.sql_grammar.specs.Grammar.{Name, sign_op, with_signs, with_nots, signs, nots}
+use Rattle.sql_grammar.specs.Bodies.{rules}
 use Rattle.parse_cursor.specs.Gives.{collected}
 use Rattle.parse_expr.proofs.Clear.{signs_clear, nots_clear}
 use Rattle.parse_cursor.proofs.Steps.{both_to, after_is, many_step, many_end, one_shorter}

@@ -6,8 +6,9 @@ use Rattle.sql_tree.specs.declared.expr.Expr.{Expr}
 use Rattle.sql_grammar.specs.declared.counts.Counts.{Counts}
 use Rattle.sql_grammar.specs.declared.counts.Role.TheVariants as role
 use Rattle.sql_grammar.specs.Rules.{reads, one, Done}
-use Rattle.sql_grammar.specs.Grammar.{Name, rules, collated, conjunction, negation}
-use Rattle.parse_expr.proofs.Levels.{collated_shorter, conjunction_shorter, negation_shorter}
+use Rattle.sql_grammar.specs.Grammar.{Name, collated, conjunction, negation}
+use Rattle.sql_grammar.specs.Bodies.{rules}
+use Rattle.parse_expr.proofs.Suffixed.{collated_shorter, conjunction_shorter, negation_shorter}
 use Rattle.parse_cursor.proofs.Steps.{one_shorter}
 
 pub not_shorter : (c e : Counts) (ts rest : List Token) (t : Token) → one role.Operator (kind.Not ∷ []) c ts ≡ Done t e rest → length rest < length ts

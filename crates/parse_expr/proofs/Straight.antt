@@ -1,6 +1,7 @@
 -- What rules with no loop read, in the steps of the code.
 use Rattle.std.proofs.Common.{◌≡◌, ℕ, true, false, List, [], ◌∷◌, Option, Some, None, refl, ap, ◌∙◌}
 use Rattle.sql_tree.specs.declared.token.Token.{Token}
+use Rattle.sql_tree.specs.declared.token.TokenKind.{TokenKind}
 use Rattle.sql_tree.specs.declared.token.TokenKind.TheVariants as kind
 use Rattle.sql_tree.specs.declared.expr.Expr.{Expr}
 use Rattle.sql_tree.specs.declared.expr.Expr.TheVariants as tree
@@ -8,8 +9,9 @@ use Rattle.sql_tree.specs.declared.expr.UnaryOp.TheVariants as unary
 use Rattle.sql_grammar.specs.declared.counts.Counts.{Counts}
 use Rattle.sql_grammar.specs.declared.counts.Role.{Role}
 use Rattle.sql_grammar.specs.declared.counts.Role.TheVariants as role
-use Rattle.sql_grammar.specs.Rules.{starts, tok, seq, both, reads, one, Outcome, Done, Stop, ◌>>=◌, Why}
-use Rattle.sql_grammar.specs.Grammar.{Name, rules, name, names, null_op, is_op, with_signs, with_nots, primary, signs, signed_primary, collation, relation, distinct_from, is_test, like, member_of, positive_test, null_test, negated, equality, nots, negation}
+use Rattle.sql_grammar.specs.Rules.{starts, tok, seq, alt, both, reads, one, Outcome, Done, Stop, ◌>>=◌, Why}
+use Rattle.sql_grammar.specs.Grammar.{Name, Of, after, name, names, null_op, is_op, with_signs, with_nots, primary, signs, signed_primary, collation, relation, distinct_from, is_test, like, member_of, positive_test, null_test, negated, equality, nots, negation, equal_to, test}
+use Rattle.sql_grammar.specs.Bodies.{rules}
 use Rattle.sql_grammar.proofs.ReadingLaws.{chosen, other}
 use Rattle.parse_cursor.specs.Gives.{apply_one}
 use Rattle.parse_operand.specs.Parts.{in_members}
@@ -28,6 +30,13 @@ unfolding negation
 negation_is d c ts = both_to (reads Name rules d nots) (reads Name rules d equality) (λ p. with_nots p.0 p.1) c ts
 
 -- ---- behind an operand
+
+-- a token, and a test behind it
+apply_behind : (m : Role) (k : TokenKind) (r : Of (Expr → Expr)) (left : Expr) (d : ℕ) (c : Counts) (ts : List Token) → apply_one left (reads Name rules d (after m k r) c ts) ≡ (one m (k ∷ []) c ts >>= λ t e rest. apply_one left (reads Name rules d r e rest))
+apply_behind m k r left d c ts = ap (apply_one left) (after_is m k r d c ts) ∙ word (one m (k ∷ []) c ts) where
+  word : (o : Outcome Token) → apply_one left (o >>= λ t e rest. reads Name rules d r e rest) ≡ (o >>= λ t e rest. apply_one left (reads Name rules d r e rest))
+  word (Done t e rest) = refl
+  word (Stop w rest) = refl
 
 pub collation_is : (x : Expr) (d : ℕ) (c : Counts) (ts : List Token) → apply_one x (reads Name rules d collation c ts) ≡ (one role.Operator (kind.Collate ∷ []) c ts >>= λ t e rest. one role.Quiet names e rest >>= λ n f end. Done (tree.Collate x n) f end)
 unfolding collation
@@ -77,9 +86,9 @@ like_is m left d c ts = apply_after (λ p l. tree.Like l p.0 p.1) m kind.Like (s
 pub like_stops : (m : Role) (left : Expr) (d : ℕ) (c e f : Counts) (ts mid rest new : List Token) (t : Token) (r : Expr) (w : Why) → one m (kind.Like ∷ []) c ts ≡ Done t e mid → reads Name rules d relation e mid ≡ Done r f rest → reads Name rules d escape f rest ≡ Stop w new → apply_one left (reads Name rules d (like m) c ts) ≡ Stop w new
 like_stops m left d c e f ts mid rest new t r w a b s = rw (like_is m left d c ts, a, b, s) refl
 
-pub member_of_is : (m : Role) (left : Expr) (d : ℕ) (c : Counts) (ts : List Token) → apply_one left (reads Name rules d (member_of m) c ts) ≡ (one m (kind.In ∷ []) c ts >>= λ t e rest. reads Name rules d in_members e rest >>= λ es f end. Done (tree.In left es) f end)
+pub member_of_is : (m : Role) (left : Expr) (d : ℕ) (c : Counts) (ts : List Token) → apply_one left (reads Name rules d (member_of m) c ts) ≡ (one m (kind.In ∷ []) c ts >>= λ t e rest. apply_one left (reads Name rules d in_members e rest))
 unfolding member_of in_members
-member_of_is m left d c ts = apply_after (λ es l. tree.In l es) m kind.In in_members left d c ts
+member_of_is m left d c ts = apply_behind m kind.In in_members left d c ts
 
 pub null_test_is : (left : Expr) (d : ℕ) (c : Counts) (ts : List Token) → apply_one left (reads Name rules d null_test c ts) ≡ (one role.Operator (kind.IsNull ∷ kind.NotNull ∷ []) c ts >>= λ t e rest. Done (tree.Unary (null_op t.kind) left) e rest)
 unfolding null_test
@@ -98,9 +107,10 @@ negated_null left d c ts none = ap (apply_one left) (other _ _ _ (ap (λ ks. sta
 
 pub ruleset negateds = (negated_test, negated_null)
 
+pub tests_are : (d : ℕ) (c : Counts) (ts : List Token) → reads Name rules d test c ts ≡ reads Name rules d (alt equal_to (alt is_test (alt (positive_test role.Operator) (alt null_test opposed)))) c ts
+unfolding test opposed
+tests_are d c ts = refl
+
 pub opposed_is : (left : Expr) (d : ℕ) (c : Counts) (ts : List Token) → apply_one left (reads Name rules d opposed c ts) ≡ (one role.Operator (kind.Not ∷ []) c ts >>= λ t e rest. apply_one left (reads Name rules d negated e rest))
 unfolding opposed
-opposed_is left d c ts = ap (apply_one left) (after_is role.Operator kind.Not negated d c ts) ∙ word (one role.Operator (kind.Not ∷ []) c ts) where
-  word : (o : Outcome Token) → apply_one left (o >>= λ t e rest. reads Name rules d negated e rest) ≡ (o >>= λ t e rest. apply_one left (reads Name rules d negated e rest))
-  word (Done t e rest) = refl
-  word (Stop w rest) = refl
+opposed_is left d c ts = apply_behind role.Operator kind.Not negated left d c ts

@@ -3,15 +3,17 @@
 ghost use Rattle.std.specs.Prelude.{ℕ, ◌≡◌, IfOk};
 ghost use Rattle.sql_grammar.specs.Rules.{reads};
 ghost use Rattle.sql_grammar.specs.Grammar as spec;
-ghost use Rattle.sql_grammar.specs.Grammar.{Name, rules};
-ghost use Rattle.parse_cursor.specs.Gives.{Gives};
+ghost use Rattle.sql_grammar.specs.Grammar.{Name};
+ghost use Rattle.sql_grammar.specs.Bodies.{rules};
+ghost use Rattle.sql_grammar.specs.Queries.{query};
+ghost use Rattle.parse_cursor.specs.Gives.{Gives, apply_to};
 ghost use Rattle.parse_operand.specs.Nests.{Nests};
 
 use crate::operators::{binary, unary};
 use crate::precedence::Levels;
 use parse_cursor::{Cursor, ParseError};
 use sql_grammar::Role;
-use sql_tree::{BinaryOp, Expr, Token, TokenKind, UnaryOp};
+use sql_tree::{BinaryOp, Expr, Query, Token, TokenKind, UnaryOp};
 use sqlite_items::{Boxed, Items};
 use std::alloc::{AllocError, Global};
 
@@ -42,11 +44,15 @@ fn with_nots(
     Ok(operand)
 }
 
-impl<F: Fn(Global, &mut Cursor<'_>, usize) -> Result<Boxed<Expr>, ParseError>> Levels<F> {
+impl<
+    F: Fn(Global, &mut Cursor<'_>, usize) -> Result<Boxed<Expr>, ParseError>,
+    G: Fn(Global, &mut Cursor<'_>, usize) -> Result<Boxed<Query>, ParseError>,
+> Levels<F, G> {
     /// `{NOT} equality`
     #[tactic(auto, using(crate::proofs::Straight::negation_is))]
     pub(crate) fn negation(&self, tokens: &mut Cursor<'_>) -> Result<Boxed<Expr>, ParseError>
-        requires { Nests self.now.operands.depth (F.pre self.now.operands.inner) (F.post self.now.operands.inner) }
+        requires exprs { Nests spec.expr self.now.operands.depth (F.pre self.now.operands.inner) (F.post self.now.operands.inner) }
+        requires queries { Nests query self.now.operands.depth (G.pre self.now.operands.query) (G.post self.now.operands.query) }
         ensures { Gives (reads Name rules self.now.operands.depth spec.negation tokens.old.counts tokens.old.rest.now) result tokens.new.counts tokens.new.rest.now }
     {
         let nots = nots(self.operands.alloc, tokens)?;
@@ -55,12 +61,27 @@ impl<F: Fn(Global, &mut Cursor<'_>, usize) -> Result<Boxed<Expr>, ParseError>> L
     }
 
     /// `negation {AND negation}`
-    #[tactic(auto, using(crate::proofs::Levels::conjunction_steps))]
+    #[tactic(auto, using(crate::proofs::Suffixed::conjunction_is))]
     pub(crate) fn conjunction(&self, tokens: &mut Cursor<'_>) -> Result<Boxed<Expr>, ParseError>
-        requires { Nests self.now.operands.depth (F.pre self.now.operands.inner) (F.post self.now.operands.inner) }
+        requires exprs { Nests spec.expr self.now.operands.depth (F.pre self.now.operands.inner) (F.post self.now.operands.inner) }
+        requires queries { Nests query self.now.operands.depth (G.pre self.now.operands.query) (G.post self.now.operands.query) }
         ensures { Gives (reads Name rules self.now.operands.depth spec.conjunction tokens.old.counts tokens.old.rest.now) result tokens.new.counts tokens.new.rest.now }
     {
-        let mut left = self.negation(tokens)?;
+        let left = self.negation(tokens)?;
+        self.more_conjunction(tokens, left)
+    }
+
+    /// `{AND negation}` behind its left operand
+    #[tactic(auto, using(crate::proofs::Suffixed::conjunction_steps))]
+    pub(crate) fn more_conjunction(
+        &self,
+        tokens: &mut Cursor<'_>,
+        mut left: Boxed<Expr>,
+    ) -> Result<Boxed<Expr>, ParseError>
+        requires exprs { Nests spec.expr self.now.operands.depth (F.pre self.now.operands.inner) (F.post self.now.operands.inner) }
+        requires queries { Nests query self.now.operands.depth (G.pre self.now.operands.query) (G.post self.now.operands.query) }
+        ensures { Gives (apply_to left (reads Name rules self.now.operands.depth spec.more_conjunction tokens.old.counts tokens.old.rest.now)) result tokens.new.counts tokens.new.rest.now }
+    {
         while tokens.sees(TokenKind::And) {
             tokens.expect(TokenKind::And, Role::Operator)?;
             let right = self.negation(tokens)?;
@@ -70,12 +91,27 @@ impl<F: Fn(Global, &mut Cursor<'_>, usize) -> Result<Boxed<Expr>, ParseError>> L
     }
 
     /// `conjunction {OR conjunction}`
-    #[tactic(auto, using(crate::proofs::Levels::expr_steps))]
-    pub(crate) fn expr(&self, tokens: &mut Cursor<'_>) -> Result<Boxed<Expr>, ParseError>
-        requires { Nests self.now.operands.depth (F.pre self.now.operands.inner) (F.post self.now.operands.inner) }
+    #[tactic(auto, using(crate::proofs::Suffixed::expr_is))]
+    pub fn expr(&self, tokens: &mut Cursor<'_>) -> Result<Boxed<Expr>, ParseError>
+        requires exprs { Nests spec.expr self.now.operands.depth (F.pre self.now.operands.inner) (F.post self.now.operands.inner) }
+        requires queries { Nests query self.now.operands.depth (G.pre self.now.operands.query) (G.post self.now.operands.query) }
         ensures { Gives (reads Name rules self.now.operands.depth spec.expr tokens.old.counts tokens.old.rest.now) result tokens.new.counts tokens.new.rest.now }
     {
-        let mut left = self.conjunction(tokens)?;
+        let left = self.conjunction(tokens)?;
+        self.more_expr(tokens, left)
+    }
+
+    /// `{OR conjunction}` behind its left operand
+    #[tactic(auto, using(crate::proofs::Suffixed::expr_steps))]
+    pub(crate) fn more_expr(
+        &self,
+        tokens: &mut Cursor<'_>,
+        mut left: Boxed<Expr>,
+    ) -> Result<Boxed<Expr>, ParseError>
+        requires exprs { Nests spec.expr self.now.operands.depth (F.pre self.now.operands.inner) (F.post self.now.operands.inner) }
+        requires queries { Nests query self.now.operands.depth (G.pre self.now.operands.query) (G.post self.now.operands.query) }
+        ensures { Gives (apply_to left (reads Name rules self.now.operands.depth spec.more_expr tokens.old.counts tokens.old.rest.now)) result tokens.new.counts tokens.new.rest.now }
+    {
         while tokens.sees(TokenKind::Or) {
             tokens.expect(TokenKind::Or, Role::Operator)?;
             let right = self.conjunction(tokens)?;

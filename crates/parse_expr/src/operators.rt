@@ -3,14 +3,16 @@
 ghost use Rattle.std.specs.Prelude.{ℕ, ◌≡◌, IfOk};
 ghost use Rattle.sql_grammar.specs.Rules.{reads};
 ghost use Rattle.sql_grammar.specs.Grammar as spec;
-ghost use Rattle.sql_grammar.specs.Grammar.{Name, rules};
-ghost use Rattle.parse_cursor.specs.Gives.{Gives, apply_one};
+ghost use Rattle.sql_grammar.specs.Grammar.{Name};
+ghost use Rattle.sql_grammar.specs.Bodies.{rules};
+ghost use Rattle.sql_grammar.specs.Queries.{query};
+ghost use Rattle.parse_cursor.specs.Gives.{Gives, apply_one, apply_to};
 ghost use Rattle.parse_operand.specs.Nests.{Nests};
 
 use crate::precedence::Levels;
 use parse_cursor::{Cursor, ParseError, name};
 use sql_grammar::Role;
-use sql_tree::{BinaryOp, Expr, Token, TokenKind, UnaryOp};
+use sql_tree::{BinaryOp, Expr, Query, Token, TokenKind, UnaryOp};
 use sqlite_items::{Boxed, Items};
 use std::alloc::{AllocError, Global};
 
@@ -96,11 +98,30 @@ fn collation(
     Ok(Boxed::new(alloc, Expr::Collate(operand, by))?)
 }
 
-impl<F: Fn(Global, &mut Cursor<'_>, usize) -> Result<Boxed<Expr>, ParseError>> Levels<F> {
+/// `{COLLATE name}` behind an operand
+#[tactic(auto, using(crate::proofs::Suffixed::collated_steps))]
+pub(crate) fn collations(
+    alloc: Global,
+    tokens: &mut Cursor<'_>,
+    mut left: Boxed<Expr>,
+) -> Result<Boxed<Expr>, ParseError>
+    ensures { (d : ℕ) → Gives (apply_to left (reads Name rules d spec.collations tokens.old.counts tokens.old.rest.now)) result tokens.new.counts tokens.new.rest.now }
+{
+    while tokens.sees(TokenKind::Collate) {
+        left = collation(alloc, tokens, left)?;
+    }
+    Ok(left)
+}
+
+impl<
+    F: Fn(Global, &mut Cursor<'_>, usize) -> Result<Boxed<Expr>, ParseError>,
+    G: Fn(Global, &mut Cursor<'_>, usize) -> Result<Boxed<Query>, ParseError>,
+> Levels<F, G> {
     /// `{- | + | ~} primary`
     #[tactic(auto, using(crate::proofs::Straight::signed_primary_is))]
     pub(crate) fn signed_primary(&self, tokens: &mut Cursor<'_>) -> Result<Boxed<Expr>, ParseError>
-        requires { Nests self.now.operands.depth (F.pre self.now.operands.inner) (F.post self.now.operands.inner) }
+        requires exprs { Nests spec.expr self.now.operands.depth (F.pre self.now.operands.inner) (F.post self.now.operands.inner) }
+        requires queries { Nests query self.now.operands.depth (G.pre self.now.operands.query) (G.post self.now.operands.query) }
         ensures { Gives (reads Name rules self.now.operands.depth spec.signed_primary tokens.old.counts tokens.old.rest.now) result tokens.new.counts tokens.new.rest.now }
     {
         let signs = signs(self.operands.alloc, tokens)?;
@@ -109,25 +130,38 @@ impl<F: Fn(Global, &mut Cursor<'_>, usize) -> Result<Boxed<Expr>, ParseError>> L
     }
 
     /// `signed {COLLATE name}`
-    #[tactic(auto, using(crate::proofs::Levels::collated_steps))]
+    #[tactic(auto, using(crate::proofs::Suffixed::collated_is))]
     pub(crate) fn collated(&self, tokens: &mut Cursor<'_>) -> Result<Boxed<Expr>, ParseError>
-        requires { Nests self.now.operands.depth (F.pre self.now.operands.inner) (F.post self.now.operands.inner) }
+        requires exprs { Nests spec.expr self.now.operands.depth (F.pre self.now.operands.inner) (F.post self.now.operands.inner) }
+        requires queries { Nests query self.now.operands.depth (G.pre self.now.operands.query) (G.post self.now.operands.query) }
         ensures { Gives (reads Name rules self.now.operands.depth spec.collated tokens.old.counts tokens.old.rest.now) result tokens.new.counts tokens.new.rest.now }
     {
-        let mut left = self.signed_primary(tokens)?;
-        while tokens.sees(TokenKind::Collate) {
-            left = collation(self.operands.alloc, tokens, left)?;
-        }
-        Ok(left)
+        let left = self.signed_primary(tokens)?;
+        collations(self.operands.alloc, tokens, left)
     }
 
     /// `collated {|| collated}`
-    #[tactic(auto, using(crate::proofs::Levels::concatenation_steps))]
+    #[tactic(auto, using(crate::proofs::Suffixed::concatenation_is))]
     pub(crate) fn concatenation(&self, tokens: &mut Cursor<'_>) -> Result<Boxed<Expr>, ParseError>
-        requires { Nests self.now.operands.depth (F.pre self.now.operands.inner) (F.post self.now.operands.inner) }
+        requires exprs { Nests spec.expr self.now.operands.depth (F.pre self.now.operands.inner) (F.post self.now.operands.inner) }
+        requires queries { Nests query self.now.operands.depth (G.pre self.now.operands.query) (G.post self.now.operands.query) }
         ensures { Gives (reads Name rules self.now.operands.depth spec.concatenation tokens.old.counts tokens.old.rest.now) result tokens.new.counts tokens.new.rest.now }
     {
-        let mut left = self.collated(tokens)?;
+        let left = self.collated(tokens)?;
+        self.more_concatenation(tokens, left)
+    }
+
+    /// `{|| collated}` behind its left operand
+    #[tactic(auto, using(crate::proofs::Suffixed::concatenation_steps))]
+    pub(crate) fn more_concatenation(
+        &self,
+        tokens: &mut Cursor<'_>,
+        mut left: Boxed<Expr>,
+    ) -> Result<Boxed<Expr>, ParseError>
+        requires exprs { Nests spec.expr self.now.operands.depth (F.pre self.now.operands.inner) (F.post self.now.operands.inner) }
+        requires queries { Nests query self.now.operands.depth (G.pre self.now.operands.query) (G.post self.now.operands.query) }
+        ensures { Gives (apply_to left (reads Name rules self.now.operands.depth spec.more_concatenation tokens.old.counts tokens.old.rest.now)) result tokens.new.counts tokens.new.rest.now }
+    {
         while tokens.sees(TokenKind::DoubleBar) {
             tokens.expect(TokenKind::DoubleBar, Role::Operator)?;
             let right = self.collated(tokens)?;
@@ -137,12 +171,27 @@ impl<F: Fn(Global, &mut Cursor<'_>, usize) -> Result<Boxed<Expr>, ParseError>> L
     }
 
     /// `concatenation {(* | / | %) concatenation}`
-    #[tactic(auto, using(crate::proofs::Levels::product_steps))]
+    #[tactic(auto, using(crate::proofs::Suffixed::product_is))]
     pub(crate) fn product(&self, tokens: &mut Cursor<'_>) -> Result<Boxed<Expr>, ParseError>
-        requires { Nests self.now.operands.depth (F.pre self.now.operands.inner) (F.post self.now.operands.inner) }
+        requires exprs { Nests spec.expr self.now.operands.depth (F.pre self.now.operands.inner) (F.post self.now.operands.inner) }
+        requires queries { Nests query self.now.operands.depth (G.pre self.now.operands.query) (G.post self.now.operands.query) }
         ensures { Gives (reads Name rules self.now.operands.depth spec.product tokens.old.counts tokens.old.rest.now) result tokens.new.counts tokens.new.rest.now }
     {
-        let mut left = self.concatenation(tokens)?;
+        let left = self.concatenation(tokens)?;
+        self.more_product(tokens, left)
+    }
+
+    /// `{(* | / | %) concatenation}` behind its left operand
+    #[tactic(auto, using(crate::proofs::Suffixed::product_steps))]
+    pub(crate) fn more_product(
+        &self,
+        tokens: &mut Cursor<'_>,
+        mut left: Boxed<Expr>,
+    ) -> Result<Boxed<Expr>, ParseError>
+        requires exprs { Nests spec.expr self.now.operands.depth (F.pre self.now.operands.inner) (F.post self.now.operands.inner) }
+        requires queries { Nests query self.now.operands.depth (G.pre self.now.operands.query) (G.post self.now.operands.query) }
+        ensures { Gives (apply_to left (reads Name rules self.now.operands.depth spec.more_product tokens.old.counts tokens.old.rest.now)) result tokens.new.counts tokens.new.rest.now }
+    {
         while tokens.sees_any(&PRODUCTS) {
             let sign = tokens.expect_any(&PRODUCTS, Role::Operator)?;
             let op = product_op(sign.kind);
@@ -153,12 +202,27 @@ impl<F: Fn(Global, &mut Cursor<'_>, usize) -> Result<Boxed<Expr>, ParseError>> L
     }
 
     /// `product {(+ | -) product}`
-    #[tactic(auto, using(crate::proofs::Levels::sum_steps))]
+    #[tactic(auto, using(crate::proofs::Suffixed::sum_is))]
     pub(crate) fn sum(&self, tokens: &mut Cursor<'_>) -> Result<Boxed<Expr>, ParseError>
-        requires { Nests self.now.operands.depth (F.pre self.now.operands.inner) (F.post self.now.operands.inner) }
+        requires exprs { Nests spec.expr self.now.operands.depth (F.pre self.now.operands.inner) (F.post self.now.operands.inner) }
+        requires queries { Nests query self.now.operands.depth (G.pre self.now.operands.query) (G.post self.now.operands.query) }
         ensures { Gives (reads Name rules self.now.operands.depth spec.sum tokens.old.counts tokens.old.rest.now) result tokens.new.counts tokens.new.rest.now }
     {
-        let mut left = self.product(tokens)?;
+        let left = self.product(tokens)?;
+        self.more_sum(tokens, left)
+    }
+
+    /// `{(+ | -) product}` behind its left operand
+    #[tactic(auto, using(crate::proofs::Suffixed::sum_steps))]
+    pub(crate) fn more_sum(
+        &self,
+        tokens: &mut Cursor<'_>,
+        mut left: Boxed<Expr>,
+    ) -> Result<Boxed<Expr>, ParseError>
+        requires exprs { Nests spec.expr self.now.operands.depth (F.pre self.now.operands.inner) (F.post self.now.operands.inner) }
+        requires queries { Nests query self.now.operands.depth (G.pre self.now.operands.query) (G.post self.now.operands.query) }
+        ensures { Gives (apply_to left (reads Name rules self.now.operands.depth spec.more_sum tokens.old.counts tokens.old.rest.now)) result tokens.new.counts tokens.new.rest.now }
+    {
         while tokens.sees_any(&SUMS) {
             let sign = tokens.expect_any(&SUMS, Role::Operator)?;
             let op = sum_op(sign.kind);
@@ -169,12 +233,27 @@ impl<F: Fn(Global, &mut Cursor<'_>, usize) -> Result<Boxed<Expr>, ParseError>> L
     }
 
     /// `sum {(& | | | << | >>) sum}`
-    #[tactic(auto, using(crate::proofs::Levels::bits_steps))]
+    #[tactic(auto, using(crate::proofs::Suffixed::bits_is))]
     pub(crate) fn bits(&self, tokens: &mut Cursor<'_>) -> Result<Boxed<Expr>, ParseError>
-        requires { Nests self.now.operands.depth (F.pre self.now.operands.inner) (F.post self.now.operands.inner) }
+        requires exprs { Nests spec.expr self.now.operands.depth (F.pre self.now.operands.inner) (F.post self.now.operands.inner) }
+        requires queries { Nests query self.now.operands.depth (G.pre self.now.operands.query) (G.post self.now.operands.query) }
         ensures { Gives (reads Name rules self.now.operands.depth spec.bits tokens.old.counts tokens.old.rest.now) result tokens.new.counts tokens.new.rest.now }
     {
-        let mut left = self.sum(tokens)?;
+        let left = self.sum(tokens)?;
+        self.more_bits(tokens, left)
+    }
+
+    /// `{(& | | | << | >>) sum}` behind its left operand
+    #[tactic(auto, using(crate::proofs::Suffixed::bits_steps))]
+    pub(crate) fn more_bits(
+        &self,
+        tokens: &mut Cursor<'_>,
+        mut left: Boxed<Expr>,
+    ) -> Result<Boxed<Expr>, ParseError>
+        requires exprs { Nests spec.expr self.now.operands.depth (F.pre self.now.operands.inner) (F.post self.now.operands.inner) }
+        requires queries { Nests query self.now.operands.depth (G.pre self.now.operands.query) (G.post self.now.operands.query) }
+        ensures { Gives (apply_to left (reads Name rules self.now.operands.depth spec.more_bits tokens.old.counts tokens.old.rest.now)) result tokens.new.counts tokens.new.rest.now }
+    {
         while tokens.sees_any(&BITS) {
             let sign = tokens.expect_any(&BITS, Role::Operator)?;
             let op = bits_op(sign.kind);
@@ -185,12 +264,27 @@ impl<F: Fn(Global, &mut Cursor<'_>, usize) -> Result<Boxed<Expr>, ParseError>> L
     }
 
     /// `bits {(< | <= | > | >=) bits}`
-    #[tactic(auto, using(crate::proofs::Levels::relation_steps))]
+    #[tactic(auto, using(crate::proofs::Suffixed::relation_is))]
     pub(crate) fn relation(&self, tokens: &mut Cursor<'_>) -> Result<Boxed<Expr>, ParseError>
-        requires { Nests self.now.operands.depth (F.pre self.now.operands.inner) (F.post self.now.operands.inner) }
+        requires exprs { Nests spec.expr self.now.operands.depth (F.pre self.now.operands.inner) (F.post self.now.operands.inner) }
+        requires queries { Nests query self.now.operands.depth (G.pre self.now.operands.query) (G.post self.now.operands.query) }
         ensures { Gives (reads Name rules self.now.operands.depth spec.relation tokens.old.counts tokens.old.rest.now) result tokens.new.counts tokens.new.rest.now }
     {
-        let mut left = self.bits(tokens)?;
+        let left = self.bits(tokens)?;
+        self.more_relation(tokens, left)
+    }
+
+    /// `{(< | <= | > | >=) bits}` behind its left operand
+    #[tactic(auto, using(crate::proofs::Suffixed::relation_steps))]
+    pub(crate) fn more_relation(
+        &self,
+        tokens: &mut Cursor<'_>,
+        mut left: Boxed<Expr>,
+    ) -> Result<Boxed<Expr>, ParseError>
+        requires exprs { Nests spec.expr self.now.operands.depth (F.pre self.now.operands.inner) (F.post self.now.operands.inner) }
+        requires queries { Nests query self.now.operands.depth (G.pre self.now.operands.query) (G.post self.now.operands.query) }
+        ensures { Gives (apply_to left (reads Name rules self.now.operands.depth spec.more_relation tokens.old.counts tokens.old.rest.now)) result tokens.new.counts tokens.new.rest.now }
+    {
         while tokens.sees_any(&RELATIONS) {
             let sign = tokens.expect_any(&RELATIONS, Role::Operator)?;
             let op = relation_op(sign.kind);

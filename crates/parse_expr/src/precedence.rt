@@ -4,6 +4,6 @@ use parse_operand::Operands;
 
 /// Each level is a method, which parses what its rule of the grammar derives.
 #[derive(Clone, Copy)]
-pub struct Levels<F> {
-    pub operands: Operands<F>,
+pub struct Levels<F, G> {
+    pub operands: Operands<F, G>,
 }

@@ -3,8 +3,10 @@
 ghost use Rattle.std.specs.Prelude.{ℕ, ◌≡◌, ◌<◌, ◌-◌, IfOk};
 ghost use Rattle.sql_grammar.specs.Rules.{reads};
 ghost use Rattle.sql_grammar.specs.Grammar as spec;
-ghost use Rattle.sql_grammar.specs.Grammar.{Name, rules};
-ghost use Rattle.parse_cursor.specs.Gives.{Gives, apply_one};
+ghost use Rattle.sql_grammar.specs.Grammar.{Name};
+ghost use Rattle.sql_grammar.specs.Bodies.{rules};
+ghost use Rattle.sql_grammar.specs.Queries.{query};
+ghost use Rattle.parse_cursor.specs.Gives.{Gives, apply_one, apply_to};
 ghost use Rattle.parse_operand.specs.Nests.{Nests};
 ghost use Rattle.parse_expr.specs.Parts as part;
 
@@ -12,7 +14,7 @@ use crate::operators::{binary, unary};
 use crate::precedence::Levels;
 use parse_cursor::{Cursor, ParseError};
 use sql_grammar::Role;
-use sql_tree::{BinaryOp, Expr, Token, TokenKind, UnaryOp};
+use sql_tree::{BinaryOp, Expr, Query, Token, TokenKind, UnaryOp};
 use sqlite_items::{Boxed, Items};
 use std::alloc::{AllocError, Global};
 
@@ -87,7 +89,10 @@ fn null_test(
     Ok(unary(alloc, null_op(word.kind), left)?)
 }
 
-impl<F: Fn(Global, &mut Cursor<'_>, usize) -> Result<Boxed<Expr>, ParseError>> Levels<F> {
+impl<
+    F: Fn(Global, &mut Cursor<'_>, usize) -> Result<Boxed<Expr>, ParseError>,
+    G: Fn(Global, &mut Cursor<'_>, usize) -> Result<Boxed<Query>, ParseError>,
+> Levels<F, G> {
     /// `(= | == | <> | !=) relation`
     #[tactic(auto, unfolding(sql_grammar::specs::Grammar::equal_to))]
     pub(crate) fn equal_to(
@@ -95,7 +100,8 @@ impl<F: Fn(Global, &mut Cursor<'_>, usize) -> Result<Boxed<Expr>, ParseError>> L
         tokens: &mut Cursor<'_>,
         left: Boxed<Expr>,
     ) -> Result<Boxed<Expr>, ParseError>
-        requires { Nests self.now.operands.depth (F.pre self.now.operands.inner) (F.post self.now.operands.inner) }
+        requires exprs { Nests spec.expr self.now.operands.depth (F.pre self.now.operands.inner) (F.post self.now.operands.inner) }
+        requires queries { Nests query self.now.operands.depth (G.pre self.now.operands.query) (G.post self.now.operands.query) }
         ensures { Gives (apply_one left (reads Name rules self.now.operands.depth spec.equal_to tokens.old.counts tokens.old.rest.now)) result tokens.new.counts tokens.new.rest.now }
     {
         let sign = tokens.expect_any(&EQUALITIES, Role::Operator)?;
@@ -111,7 +117,8 @@ impl<F: Fn(Global, &mut Cursor<'_>, usize) -> Result<Boxed<Expr>, ParseError>> L
         tokens: &mut Cursor<'_>,
         left: Boxed<Expr>,
     ) -> Result<Boxed<Expr>, ParseError>
-        requires { Nests self.now.operands.depth (F.pre self.now.operands.inner) (F.post self.now.operands.inner) }
+        requires exprs { Nests spec.expr self.now.operands.depth (F.pre self.now.operands.inner) (F.post self.now.operands.inner) }
+        requires queries { Nests query self.now.operands.depth (G.pre self.now.operands.query) (G.post self.now.operands.query) }
         ensures { Gives (apply_one left (reads Name rules self.now.operands.depth spec.is_test tokens.old.counts tokens.old.rest.now)) result tokens.new.counts tokens.new.rest.now }
     {
         tokens.expect(TokenKind::Is, Role::Operator)?;
@@ -130,7 +137,8 @@ impl<F: Fn(Global, &mut Cursor<'_>, usize) -> Result<Boxed<Expr>, ParseError>> L
         left: Boxed<Expr>,
         role: Role,
     ) -> Result<Boxed<Expr>, ParseError>
-        requires { Nests self.now.operands.depth (F.pre self.now.operands.inner) (F.post self.now.operands.inner) }
+        requires exprs { Nests spec.expr self.now.operands.depth (F.pre self.now.operands.inner) (F.post self.now.operands.inner) }
+        requires queries { Nests query self.now.operands.depth (G.pre self.now.operands.query) (G.post self.now.operands.query) }
         ensures { Gives (apply_one left (reads Name rules self.now.operands.depth (spec.between role) tokens.old.counts tokens.old.rest.now)) result tokens.new.counts tokens.new.rest.now }
     {
         tokens.expect(TokenKind::Between, role)?;
@@ -143,7 +151,8 @@ impl<F: Fn(Global, &mut Cursor<'_>, usize) -> Result<Boxed<Expr>, ParseError>> L
     /// `[ESCAPE relation]`
     #[tactic(auto, unfolding(crate::specs::Parts::escape))]
     pub(crate) fn escape(&self, tokens: &mut Cursor<'_>) -> Result<Option<Boxed<Expr>>, ParseError>
-        requires { Nests self.now.operands.depth (F.pre self.now.operands.inner) (F.post self.now.operands.inner) }
+        requires exprs { Nests spec.expr self.now.operands.depth (F.pre self.now.operands.inner) (F.post self.now.operands.inner) }
+        requires queries { Nests query self.now.operands.depth (G.pre self.now.operands.query) (G.post self.now.operands.query) }
         ensures { Gives (reads Name rules self.now.operands.depth part.escape tokens.old.counts tokens.old.rest.now) result tokens.new.counts tokens.new.rest.now }
     {
         if tokens.sees(TokenKind::Escape) {
@@ -162,7 +171,8 @@ impl<F: Fn(Global, &mut Cursor<'_>, usize) -> Result<Boxed<Expr>, ParseError>> L
         left: Boxed<Expr>,
         role: Role,
     ) -> Result<Boxed<Expr>, ParseError>
-        requires { Nests self.now.operands.depth (F.pre self.now.operands.inner) (F.post self.now.operands.inner) }
+        requires exprs { Nests spec.expr self.now.operands.depth (F.pre self.now.operands.inner) (F.post self.now.operands.inner) }
+        requires queries { Nests query self.now.operands.depth (G.pre self.now.operands.query) (G.post self.now.operands.query) }
         ensures { Gives (apply_one left (reads Name rules self.now.operands.depth (spec.like role) tokens.old.counts tokens.old.rest.now)) result tokens.new.counts tokens.new.rest.now }
     {
         tokens.expect(TokenKind::Like, role)?;
@@ -181,7 +191,8 @@ impl<F: Fn(Global, &mut Cursor<'_>, usize) -> Result<Boxed<Expr>, ParseError>> L
         left: Boxed<Expr>,
         role: Role,
     ) -> Result<Boxed<Expr>, ParseError>
-        requires { Nests self.now.operands.depth (F.pre self.now.operands.inner) (F.post self.now.operands.inner) }
+        requires exprs { Nests spec.expr self.now.operands.depth (F.pre self.now.operands.inner) (F.post self.now.operands.inner) }
+        requires queries { Nests query self.now.operands.depth (G.pre self.now.operands.query) (G.post self.now.operands.query) }
         ensures { Gives (apply_one left (reads Name rules self.now.operands.depth (spec.glob role) tokens.old.counts tokens.old.rest.now)) result tokens.new.counts tokens.new.rest.now }
     {
         tokens.expect(TokenKind::Glob, role)?;
@@ -189,7 +200,7 @@ impl<F: Fn(Global, &mut Cursor<'_>, usize) -> Result<Boxed<Expr>, ParseError>> L
         Ok(binary(self.operands.alloc, BinaryOp::Glob, left, pattern)?)
     }
 
-    /// `IN ( [expr {, expr}] )`
+    /// `IN ( query | [expr {, expr}] )`
     #[tactic(auto, using(crate::proofs::Straight::member_of_is))]
     pub(crate) fn member_of(
         &self,
@@ -197,12 +208,12 @@ impl<F: Fn(Global, &mut Cursor<'_>, usize) -> Result<Boxed<Expr>, ParseError>> L
         left: Boxed<Expr>,
         role: Role,
     ) -> Result<Boxed<Expr>, ParseError>
-        requires { Nests self.now.operands.depth (F.pre self.now.operands.inner) (F.post self.now.operands.inner) }
+        requires exprs { Nests spec.expr self.now.operands.depth (F.pre self.now.operands.inner) (F.post self.now.operands.inner) }
+        requires queries { Nests query self.now.operands.depth (G.pre self.now.operands.query) (G.post self.now.operands.query) }
         ensures { Gives (apply_one left (reads Name rules self.now.operands.depth (spec.member_of role) tokens.old.counts tokens.old.rest.now)) result tokens.new.counts tokens.new.rest.now }
     {
         tokens.expect(TokenKind::In, role)?;
-        let members = self.operands.in_members(tokens)?;
-        Ok(Boxed::new(self.operands.alloc, Expr::In(left, members))?)
+        self.operands.in_members(tokens, left)
     }
 
     /// BETWEEN, LIKE, GLOB or IN.
@@ -213,7 +224,8 @@ impl<F: Fn(Global, &mut Cursor<'_>, usize) -> Result<Boxed<Expr>, ParseError>> L
         left: Boxed<Expr>,
         role: Role,
     ) -> Result<Boxed<Expr>, ParseError>
-        requires { Nests self.now.operands.depth (F.pre self.now.operands.inner) (F.post self.now.operands.inner) }
+        requires exprs { Nests spec.expr self.now.operands.depth (F.pre self.now.operands.inner) (F.post self.now.operands.inner) }
+        requires queries { Nests query self.now.operands.depth (G.pre self.now.operands.query) (G.post self.now.operands.query) }
         ensures { Gives (apply_one left (reads Name rules self.now.operands.depth (spec.positive_test role) tokens.old.counts tokens.old.rest.now)) result tokens.new.counts tokens.new.rest.now }
     {
         if tokens.sees(TokenKind::Between) {
@@ -234,7 +246,8 @@ impl<F: Fn(Global, &mut Cursor<'_>, usize) -> Result<Boxed<Expr>, ParseError>> L
         tokens: &mut Cursor<'_>,
         left: Boxed<Expr>,
     ) -> Result<Boxed<Expr>, ParseError>
-        requires { Nests self.now.operands.depth (F.pre self.now.operands.inner) (F.post self.now.operands.inner) }
+        requires exprs { Nests spec.expr self.now.operands.depth (F.pre self.now.operands.inner) (F.post self.now.operands.inner) }
+        requires queries { Nests query self.now.operands.depth (G.pre self.now.operands.query) (G.post self.now.operands.query) }
         ensures { Gives (apply_one left (reads Name rules self.now.operands.depth spec.negated tokens.old.counts tokens.old.rest.now)) result tokens.new.counts tokens.new.rest.now }
     {
         if tokens.sees_any(&POSITIVES) {
@@ -252,7 +265,8 @@ impl<F: Fn(Global, &mut Cursor<'_>, usize) -> Result<Boxed<Expr>, ParseError>> L
         tokens: &mut Cursor<'_>,
         left: Boxed<Expr>,
     ) -> Result<Boxed<Expr>, ParseError>
-        requires { Nests self.now.operands.depth (F.pre self.now.operands.inner) (F.post self.now.operands.inner) }
+        requires exprs { Nests spec.expr self.now.operands.depth (F.pre self.now.operands.inner) (F.post self.now.operands.inner) }
+        requires queries { Nests query self.now.operands.depth (G.pre self.now.operands.query) (G.post self.now.operands.query) }
         ensures { Gives (apply_one left (reads Name rules self.now.operands.depth part.opposed tokens.old.counts tokens.old.rest.now)) result tokens.new.counts tokens.new.rest.now }
     {
         tokens.expect(TokenKind::Not, Role::Operator)?;
@@ -260,13 +274,14 @@ impl<F: Fn(Global, &mut Cursor<'_>, usize) -> Result<Boxed<Expr>, ParseError>> L
     }
 
     /// A test behind its operand.
-    #[tactic(auto, using(crate::proofs::Clear::test_firsts), unfolding(sql_grammar::specs::Grammar::test, crate::specs::Parts::opposed))]
+    #[tactic(auto, using(crate::proofs::Straight::tests_are, crate::proofs::Clear::test_firsts))]
     pub(crate) fn test(
         &self,
         tokens: &mut Cursor<'_>,
         left: Boxed<Expr>,
     ) -> Result<Boxed<Expr>, ParseError>
-        requires { Nests self.now.operands.depth (F.pre self.now.operands.inner) (F.post self.now.operands.inner) }
+        requires exprs { Nests spec.expr self.now.operands.depth (F.pre self.now.operands.inner) (F.post self.now.operands.inner) }
+        requires queries { Nests query self.now.operands.depth (G.pre self.now.operands.query) (G.post self.now.operands.query) }
         ensures { Gives (apply_one left (reads Name rules self.now.operands.depth spec.test tokens.old.counts tokens.old.rest.now)) result tokens.new.counts tokens.new.rest.now }
     {
         if tokens.sees_any(&EQUALITIES) {
@@ -283,12 +298,27 @@ impl<F: Fn(Global, &mut Cursor<'_>, usize) -> Result<Boxed<Expr>, ParseError>> L
     }
 
     /// `relation {test}`
-    #[tactic(auto, using(crate::proofs::Levels::equality_steps))]
+    #[tactic(auto, using(crate::proofs::Suffixed::equality_is))]
     pub(crate) fn equality(&self, tokens: &mut Cursor<'_>) -> Result<Boxed<Expr>, ParseError>
-        requires { Nests self.now.operands.depth (F.pre self.now.operands.inner) (F.post self.now.operands.inner) }
+        requires exprs { Nests spec.expr self.now.operands.depth (F.pre self.now.operands.inner) (F.post self.now.operands.inner) }
+        requires queries { Nests query self.now.operands.depth (G.pre self.now.operands.query) (G.post self.now.operands.query) }
         ensures { Gives (reads Name rules self.now.operands.depth spec.equality tokens.old.counts tokens.old.rest.now) result tokens.new.counts tokens.new.rest.now }
     {
-        let mut left = self.relation(tokens)?;
+        let left = self.relation(tokens)?;
+        self.tests(tokens, left)
+    }
+
+    /// `{test}` behind its left operand
+    #[tactic(auto, using(crate::proofs::Suffixed::equality_steps))]
+    pub(crate) fn tests(
+        &self,
+        tokens: &mut Cursor<'_>,
+        mut left: Boxed<Expr>,
+    ) -> Result<Boxed<Expr>, ParseError>
+        requires exprs { Nests spec.expr self.now.operands.depth (F.pre self.now.operands.inner) (F.post self.now.operands.inner) }
+        requires queries { Nests query self.now.operands.depth (G.pre self.now.operands.query) (G.post self.now.operands.query) }
+        ensures { Gives (apply_to left (reads Name rules self.now.operands.depth spec.tests tokens.old.counts tokens.old.rest.now)) result tokens.new.counts tokens.new.rest.now }
+    {
         while tokens.sees_any(&TESTS) {
             left = self.test(tokens, left)?;
         }

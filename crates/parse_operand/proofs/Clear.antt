@@ -2,24 +2,21 @@
 use Rattle.std.proofs.Common.{◌≡◌, true, false, [], ◌∷◌, refl}
 use Rattle.sql_tree.specs.declared.token.TokenKind.TheVariants as kind
 use Rattle.sql_grammar.specs.Rules.{is_clear, can_be_empty, first}
-use Rattle.sql_grammar.specs.Grammar.{Name, names, literal_kinds, rules, signed, two_sizes, type_sizes, type_words, type_name, literal, parameter, filter, call, of_table, behind_name, named, enclosed, casting, choosing, raising, primary, signs, signed_primary, collation, collations, collated, more_concatenation, concatenation, more_product, product, more_sum, sum, more_bits, bits, more_relation, relation, equal_to, distinct_from, is_test, between, like, glob, member_of, positive_test, null_test, negated, test, tests, equality, nots, negation, more_conjunction, conjunction, more_expr, expr, exprs, arm, arms, otherwise, case, some_arguments, raise_what}
+use Rattle.sql_grammar.specs.Grammar.{Name, names, literal_kinds, literal, parameter, call, of_table, named, enclosed, existing, casting, choosing, exprs, arm, arms, some_arguments, all_rules}
+use Rattle.sql_grammar.specs.Bodies.{rules}
+use Rattle.sql_grammar.specs.Queries.{query, all_query_rules}
 use Rattle.parse_operand.specs.Parts.{more_arms, more_exprs}
 
--- all rules, for proofs that compute with them
-unfoldable all_rules : Unit {0}
-unfolding signed two_sizes type_sizes type_words type_name literal parameter filter call of_table behind_name named enclosed casting choosing raising primary signs signed_primary collation collations collated more_concatenation concatenation more_product product more_sum sum more_bits bits more_relation relation equal_to distinct_from is_test between like glob member_of positive_test null_test negated test tests equality nots negation more_conjunction conjunction more_expr expr exprs arm arms otherwise case some_arguments raise_what more_arms more_exprs
-all_rules = tt
-
 pub arm_clear : is_clear Name rules arm ≡ true
-unfolding all_rules
+unfolding all_query_rules
 arm_clear = refl
 
 pub more_arms_clear : is_clear Name rules more_arms ≡ true
-unfolding all_rules
+unfolding all_query_rules more_arms
 more_arms_clear = refl
 
 pub more_exprs_clear : is_clear Name rules more_exprs ≡ true
-unfolding all_rules
+unfolding all_query_rules more_exprs
 more_exprs_clear = refl
 
 pub arm_solid : can_be_empty arm ≡ false
@@ -46,6 +43,10 @@ pub first_enclosed : first enclosed ≡ kind.LeftParen ∷ []
 unfolding all_rules
 first_enclosed = refl
 
+pub first_existing : first existing ≡ kind.Exists ∷ []
+unfolding all_rules
+first_existing = refl
+
 pub first_casting : first casting ≡ kind.Cast ∷ []
 unfolding all_rules
 first_casting = refl
@@ -70,15 +71,19 @@ pub first_arms : first arms ≡ kind.When ∷ []
 unfolding all_rules
 first_arms = refl
 
-pub first_exprs : first exprs ≡ kind.Not ∷ kind.Minus ∷ kind.Plus ∷ kind.Tilde ∷ kind.Number ∷ kind.Text ∷ kind.Blob ∷ kind.Null ∷ kind.True ∷ kind.False ∷ kind.Parameter ∷ kind.Word ∷ kind.QuotedName ∷ kind.Abort ∷ kind.After ∷ kind.Asc ∷ kind.Before ∷ kind.Begin ∷ kind.By ∷ kind.Deferred ∷ kind.Desc ∷ kind.Each ∷ kind.Exclusive ∷ kind.Explain ∷ kind.First ∷ kind.For ∷ kind.Ignore ∷ kind.Immediate ∷ kind.Instead ∷ kind.Key ∷ kind.Last ∷ kind.Nulls ∷ kind.Of ∷ kind.Offset ∷ kind.Plan ∷ kind.Pragma ∷ kind.Query ∷ kind.Release ∷ kind.Replace ∷ kind.Rollback ∷ kind.Row ∷ kind.Trigger ∷ kind.View ∷ kind.Virtual ∷ kind.LeftParen ∷ kind.Cast ∷ kind.Case ∷ kind.Raise ∷ []
+pub first_exprs : first exprs ≡ kind.Not ∷ kind.Minus ∷ kind.Plus ∷ kind.Tilde ∷ kind.Number ∷ kind.Text ∷ kind.Blob ∷ kind.Null ∷ kind.True ∷ kind.False ∷ kind.Parameter ∷ kind.Word ∷ kind.QuotedName ∷ kind.Abort ∷ kind.After ∷ kind.Asc ∷ kind.Before ∷ kind.Begin ∷ kind.By ∷ kind.Deferred ∷ kind.Desc ∷ kind.Each ∷ kind.Exclusive ∷ kind.Explain ∷ kind.First ∷ kind.For ∷ kind.Ignore ∷ kind.Immediate ∷ kind.Instead ∷ kind.Key ∷ kind.Last ∷ kind.Nulls ∷ kind.Of ∷ kind.Offset ∷ kind.Plan ∷ kind.Pragma ∷ kind.Query ∷ kind.Release ∷ kind.Replace ∷ kind.Rollback ∷ kind.Row ∷ kind.Trigger ∷ kind.View ∷ kind.Virtual ∷ kind.LeftParen ∷ kind.Exists ∷ kind.Cast ∷ kind.Case ∷ kind.Raise ∷ []
 unfolding all_rules
 first_exprs = refl
 
-pub first_some_arguments : first some_arguments ≡ kind.Star ∷ kind.Distinct ∷ kind.Not ∷ kind.Minus ∷ kind.Plus ∷ kind.Tilde ∷ kind.Number ∷ kind.Text ∷ kind.Blob ∷ kind.Null ∷ kind.True ∷ kind.False ∷ kind.Parameter ∷ kind.Word ∷ kind.QuotedName ∷ kind.Abort ∷ kind.After ∷ kind.Asc ∷ kind.Before ∷ kind.Begin ∷ kind.By ∷ kind.Deferred ∷ kind.Desc ∷ kind.Each ∷ kind.Exclusive ∷ kind.Explain ∷ kind.First ∷ kind.For ∷ kind.Ignore ∷ kind.Immediate ∷ kind.Instead ∷ kind.Key ∷ kind.Last ∷ kind.Nulls ∷ kind.Of ∷ kind.Offset ∷ kind.Plan ∷ kind.Pragma ∷ kind.Query ∷ kind.Release ∷ kind.Replace ∷ kind.Rollback ∷ kind.Row ∷ kind.Trigger ∷ kind.View ∷ kind.Virtual ∷ kind.LeftParen ∷ kind.Cast ∷ kind.Case ∷ kind.Raise ∷ []
+pub first_some_arguments : first some_arguments ≡ kind.Star ∷ kind.Distinct ∷ kind.Not ∷ kind.Minus ∷ kind.Plus ∷ kind.Tilde ∷ kind.Number ∷ kind.Text ∷ kind.Blob ∷ kind.Null ∷ kind.True ∷ kind.False ∷ kind.Parameter ∷ kind.Word ∷ kind.QuotedName ∷ kind.Abort ∷ kind.After ∷ kind.Asc ∷ kind.Before ∷ kind.Begin ∷ kind.By ∷ kind.Deferred ∷ kind.Desc ∷ kind.Each ∷ kind.Exclusive ∷ kind.Explain ∷ kind.First ∷ kind.For ∷ kind.Ignore ∷ kind.Immediate ∷ kind.Instead ∷ kind.Key ∷ kind.Last ∷ kind.Nulls ∷ kind.Of ∷ kind.Offset ∷ kind.Plan ∷ kind.Pragma ∷ kind.Query ∷ kind.Release ∷ kind.Replace ∷ kind.Rollback ∷ kind.Row ∷ kind.Trigger ∷ kind.View ∷ kind.Virtual ∷ kind.LeftParen ∷ kind.Exists ∷ kind.Cast ∷ kind.Case ∷ kind.Raise ∷ []
 unfolding all_rules
 first_some_arguments = refl
 
-pub ruleset primary_firsts = (first_literal, first_parameter, first_named, first_enclosed, first_casting, first_choosing)
+pub first_query : first query ≡ kind.With ∷ kind.Select ∷ kind.Values ∷ []
+unfolding all_query_rules
+first_query = refl
+
+pub ruleset primary_firsts = (first_literal, first_parameter, first_named, first_enclosed, first_existing, first_casting, first_choosing)
 
 pub ruleset behind_name_firsts = (first_of_table, first_call)
 

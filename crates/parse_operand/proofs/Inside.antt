@@ -1,30 +1,56 @@
 -- What may stand between brackets or be missing, in the steps of the code.
-use Rattle.std.proofs.Common.{◌≡◌, ℕ, true, false, List, [], Some, refl, ap, ◌∙◌}
+use Rattle.std.proofs.Common.{◌≡◌, ℕ, true, false, List, [], Option, Some, refl, ap, ◌∙◌}
 use Rattle.sql_tree.specs.declared.token.Token.{Token}
 use Rattle.sql_tree.specs.declared.expr.Arguments.{Arguments}
 use Rattle.sql_tree.specs.declared.expr.Arguments.TheVariants as arguments_are
 use Rattle.sql_tree.specs.declared.expr.Expr.{Expr}
+use Rattle.sql_tree.specs.declared.expr.Expr.TheVariants as tree
 use Rattle.sql_grammar.specs.declared.counts.Counts.{Counts}
 use Rattle.sql_grammar.specs.Rules.{starts, first, reads, Outcome, Done, Stop, ◌>>=◌}
-use Rattle.sql_grammar.specs.Grammar.{Name, rules, or_none, or_no_arguments, exprs, some_arguments}
+use Rattle.sql_grammar.specs.Grammar.{Name, maybe, or_none, or_no_arguments, expr, exprs, some_arguments}
+use Rattle.sql_grammar.specs.Bodies.{rules}
+use Rattle.sql_grammar.specs.Queries.{query}
 use Rattle.sql_grammar.proofs.ReadingLaws.{chosen, other}
-use Rattle.parse_operand.specs.Parts.{inside_arguments, inside_members}
+use Rattle.parse_cursor.specs.Gives.{apply_one}
+use Rattle.parse_cursor.proofs.Steps.{or_none_some, or_none_none, apply_done}
+use Rattle.parse_operand.specs.Parts.{inside_arguments, inside_parentheses, inside_members, listed_members}
+
+-- ---- a query, or else
+
+pub parentheses_query : (d : ℕ) (c : Counts) (ts : List Token) → starts (first query) ts ≡ true → reads Name rules d inside_parentheses c ts ≡ (reads Name rules d query c ts >>= λ q e rest. Done (tree.Subquery q) e rest)
+unfolding inside_parentheses
+parentheses_query d c ts here = chosen _ _ _ here
+
+pub parentheses_expr : (d : ℕ) (c : Counts) (ts : List Token) → starts (first query) ts ≡ false → reads Name rules d inside_parentheses c ts ≡ reads Name rules d expr c ts
+unfolding inside_parentheses
+parentheses_expr d c ts none = other _ _ _ none
+
+pub ruleset parentheses_steps = (parentheses_query, parentheses_expr)
 
 -- ---- members of IN
 
-given : (o : Outcome (List Expr)) → ((o >>= λ a e rest. Done (Some a) e rest) >>= λ x e rest. Done (or_none x) e rest) ≡ o
-given (Done a e rest) = refl
-given (Stop w rest) = refl
+pub listed_some : (d : ℕ) (c : Counts) (ts : List Token) → starts (first exprs) ts ≡ true → reads Name rules d listed_members c ts ≡ reads Name rules d exprs c ts
+unfolding listed_members
+listed_some d c ts here = or_none_some exprs d c ts here
 
-pub members_some : (d : ℕ) (c : Counts) (ts : List Token) → starts (first exprs) ts ≡ true → reads Name rules d inside_members c ts ≡ reads Name rules d exprs c ts
+pub listed_none : (d : ℕ) (c : Counts) (ts : List Token) → starts (first exprs) ts ≡ false → reads Name rules d listed_members c ts ≡ Done [] c ts
+unfolding listed_members
+listed_none d c ts none = or_none_none exprs d c ts none
+
+pub ruleset listed_steps = (listed_some, listed_none)
+
+pub members_query : (left : Expr) (d : ℕ) (c : Counts) (ts : List Token) → starts (first query) ts ≡ true → apply_one left (reads Name rules d inside_members c ts) ≡ (reads Name rules d query c ts >>= λ q e rest. Done (tree.InQuery left q) e rest)
 unfolding inside_members
-members_some d c ts here = ap (λ o. o >>= λ x e rest. Done (or_none x) e rest) (chosen _ _ _ here) ∙ given (reads Name rules d exprs c ts)
+members_query left d c ts here = ap (apply_one left) (chosen _ _ _ here) ∙ apply_done (λ q x. tree.InQuery x q) left (reads Name rules d query c ts)
 
-pub members_none : (d : ℕ) (c : Counts) (ts : List Token) → starts (first exprs) ts ≡ false → reads Name rules d inside_members c ts ≡ Done [] c ts
-unfolding inside_members
-members_none d c ts none = ap (λ o. o >>= λ x e rest. Done (or_none x) e rest) (other _ _ _ none)
+pub members_listed : (left : Expr) (d : ℕ) (c : Counts) (ts : List Token) → starts (first query) ts ≡ false → apply_one left (reads Name rules d inside_members c ts) ≡ (reads Name rules d listed_members c ts >>= λ es e rest. Done (tree.In left es) e rest)
+unfolding inside_members listed_members
+members_listed left d c ts none = ap (apply_one left) (other _ _ _ none) ∙ given (reads Name rules d (maybe exprs) c ts) where
+  given : (o : Outcome (Option (List Expr))) → apply_one left (o >>= λ es e rest. Done (λ x. tree.In x (or_none es)) e rest) ≡ ((o >>= λ es e rest. Done (or_none es) e rest) >>= λ es e rest. Done (tree.In left es) e rest)
+  given (Done es e rest) = refl
+  given (Stop w rest) = refl
 
-pub ruleset members_steps = (members_some, members_none)
+pub ruleset members_steps = (members_query, members_listed)
 
 -- ---- arguments of a call
 

@@ -3,4 +3,3 @@ pub mod Straight
 pub mod Bracketed
 pub mod Inside
 pub mod Lists
-pub mod Smaller

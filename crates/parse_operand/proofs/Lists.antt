@@ -1,34 +1,32 @@
 -- What lists read, in the steps of the code.
-use Rattle.std.proofs.Common.{◌≡◌, ℕ, ◌<◌, ◌≤◌, length, true, false, List, [], ◌∷◌, ◌++◌, refl, ap, ◌∙◌}
+use Rattle.std.proofs.Common.{◌≡◌, ℕ, ◌<◌, ◌≤◌, length, true, false, List, [], ◌∷◌, ◌++◌, ap, ◌∙◌}
 use Rattle.sql_tree.specs.declared.token.Token.{Token}
 use Rattle.sql_tree.specs.declared.token.TokenKind.TheVariants as kind
 use Rattle.sql_tree.specs.declared.expr.Arm.{Arm}
 use Rattle.sql_tree.specs.declared.expr.Expr.{Expr}
 use Rattle.sql_grammar.specs.declared.counts.Counts.{Counts}
 use Rattle.sql_grammar.specs.declared.counts.Role.TheVariants as role
-use Rattle.sql_grammar.specs.Rules.{starts, reads, one, Outcome, Done, Stop, ◌>>=◌}
-use Rattle.sql_grammar.specs.Grammar.{Name, rules, after, expr, exprs, arm, arms}
+use Rattle.sql_grammar.specs.Rules.{starts, reads, one, Done, ◌>>=◌}
+use Rattle.sql_grammar.specs.Grammar.{Name, expr, exprs, arm, arms}
+use Rattle.sql_grammar.specs.Bodies.{rules}
 use Rattle.sql_grammar.proofs.Clear.{clear, rich, expr_clear}
 use Rattle.sql_grammar.proofs.Whole.{no_longer, takes_some}
 use Rattle.parse_cursor.specs.Gives.{collected}
 use Rattle.parse_operand.specs.Parts.{more_arms, more_exprs}
 use Rattle.parse_operand.proofs.Clear.{more_arms_clear, more_exprs_clear, arm_clear, arm_solid, first_arm}
-use Rattle.parse_cursor.proofs.Steps.{both_to, after_is, many_step, many_end, one_shorter}
+use Rattle.parse_cursor.proofs.Steps.{both_to, list_is, next_is, last_is, many_step, many_end, one_shorter}
 
 pub exprs_is : (d : ℕ) (c : Counts) (ts : List Token) → reads Name rules d exprs c ts ≡ (reads Name rules d expr c ts >>= λ a e rest. collected (a ∷ []) (reads Name rules d more_exprs e rest))
 unfolding exprs more_exprs
-exprs_is d c ts = both_to (reads Name rules d expr) (reads Name rules d more_exprs) (λ p. p.0 ∷ p.1) c ts
+exprs_is d c ts = list_is expr d c ts
 
 pub more_exprs_step : (found : List Expr) (d : ℕ) (c : Counts) (ts : List Token) → starts (kind.Comma ∷ []) ts ≡ true → collected found (reads Name rules d more_exprs c ts) ≡ (one role.Outside (kind.Comma ∷ []) c ts >>= λ t e rest. reads Name rules d expr e rest >>= λ a f end. collected (found ++ a ∷ []) (reads Name rules d more_exprs f end))
 unfolding more_exprs
-more_exprs_step found d c ts here = many_step (after role.Outside kind.Comma expr) d found c ts more_exprs_clear here ∙ ap (λ o. o >>= λ a f end. collected (found ++ a ∷ []) (reads Name rules d more_exprs f end)) (after_is role.Outside kind.Comma expr d c ts) ∙ word (one role.Outside (kind.Comma ∷ []) c ts) where
-  word : (o : Outcome Token) → ((o >>= λ t e rest. reads Name rules d expr e rest) >>= λ a f end. collected (found ++ a ∷ []) (reads Name rules d more_exprs f end)) ≡ (o >>= λ t e rest. reads Name rules d expr e rest >>= λ a f end. collected (found ++ a ∷ []) (reads Name rules d more_exprs f end))
-  word (Done t e rest) = refl
-  word (Stop w rest) = refl
+more_exprs_step found d c ts here = next_is expr found d c ts more_exprs_clear here
 
 pub more_exprs_end : (found : List Expr) (d : ℕ) (c : Counts) (ts : List Token) → starts (kind.Comma ∷ []) ts ≡ false → collected found (reads Name rules d more_exprs c ts) ≡ Done found c ts
 unfolding more_exprs
-more_exprs_end found d c ts none = many_end (after role.Outside kind.Comma expr) d found c ts more_exprs_clear none
+more_exprs_end found d c ts none = last_is expr found d c ts more_exprs_clear none
 
 pub expr_shorter : (d : ℕ) (c e : Counts) (ts rest : List Token) (a : Expr) → reads Name rules d expr c ts ≡ Done a e rest → length rest ≤ length ts
 expr_shorter d c e ts rest a is = no_longer Name rules clear rich expr expr_clear d c e ts rest a is

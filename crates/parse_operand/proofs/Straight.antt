@@ -6,10 +6,11 @@ use Rattle.sql_tree.specs.declared.expr.Expr.TheVariants as tree
 use Rattle.sql_grammar.specs.declared.counts.Counts.{Counts}
 use Rattle.sql_grammar.specs.declared.counts.Role.TheVariants as role
 use Rattle.sql_grammar.specs.Rules.{starts, first, tok, reads, one, Outcome, Done, Stop, ◌>>=◌}
-use Rattle.sql_grammar.specs.Grammar.{Name, rules, after, name, names, in_parentheses, cast, literal_kinds, literal, parameter, filter, call, of_table, behind_name, named, casting, raising, exprs, some_arguments, raise_what}
+use Rattle.sql_grammar.specs.Grammar.{Name, after, name, names, in_parentheses, cast, literal_kinds, literal, parameter, filter, call, of_table, behind_name, named, casting, existing, raising, exprs, some_arguments, raise_what}
+use Rattle.sql_grammar.specs.Bodies.{rules}
 use Rattle.sql_grammar.proofs.ReadingLaws.{chosen, other}
 use Rattle.parse_cursor.specs.Gives.{apply_one}
-use Rattle.parse_operand.specs.Parts.{in_arguments, in_condition, in_cast, in_raise}
+use Rattle.parse_operand.specs.Parts.{in_arguments, in_condition, in_cast, in_query, in_raise}
 use Rattle.parse_operand.proofs.Clear.{first_exprs, first_some_arguments}
 use Rattle.parse_cursor.proofs.Steps.{both_to, after_to, after_is, maybe_some, maybe_none, apply_after, apply_both}
 
@@ -51,6 +52,10 @@ casting_is d c ts = after_to (λ p. tree.Cast p.0 p.1) role.Quiet kind.Cast (in_
 pub raising_is : (d : ℕ) (c : Counts) (ts : List Token) → reads Name rules d raising c ts ≡ (one role.Quiet (kind.Raise ∷ []) c ts >>= λ t e rest. reads Name rules d in_raise e rest)
 unfolding raising in_raise
 raising_is d c ts = after_is role.Quiet kind.Raise in_raise d c ts
+
+pub existing_is : (d : ℕ) (c : Counts) (ts : List Token) → reads Name rules d existing c ts ≡ (one role.Quiet (kind.Exists ∷ []) c ts >>= λ t e rest. reads Name rules d in_query e rest >>= λ q f end. Done (tree.Exists q) f end)
+unfolding existing in_query
+existing_is d c ts = after_to tree.Exists role.Quiet kind.Exists in_query d c ts
 
 -- ---- calls
 

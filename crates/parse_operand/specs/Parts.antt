@@ -5,9 +5,11 @@ use Rattle.sql_tree.specs.declared.expr.Arguments.{Arguments}
 use Rattle.sql_tree.specs.declared.expr.Arm.{Arm}
 use Rattle.sql_tree.specs.declared.expr.Expr.{Expr}
 use Rattle.sql_tree.specs.declared.expr.TypeName.{TypeName}
+use Rattle.sql_tree.specs.declared.query.Query.{Query}
 use Rattle.sql_grammar.specs.declared.counts.Role.TheVariants as role
-use Rattle.sql_grammar.specs.Rules.{many}
-use Rattle.sql_grammar.specs.Grammar.{Of, after, in_parentheses, arguments, condition, cast, members, raise, rules, arm, expr}
+use Rattle.sql_grammar.specs.Rules.{many, to}
+use Rattle.sql_grammar.specs.Grammar.{Of, after, maybe, or_none, in_parentheses, parenthesized, subquery, arguments, condition, cast, members, raise, arm, expr, exprs}
+use Rattle.sql_grammar.specs.Bodies.{rules}
 
 -- "(" ["*" | [DISTINCT] expr {"," expr}] ")"
 unfoldable pub in_arguments : Of (Arguments × List Expr)
@@ -27,12 +29,24 @@ in_cast = in_parentheses cast
 unfoldable pub inside_cast : Of (Expr × TypeName)
 inside_cast = rules _ cast
 
--- "(" [expr {"," expr}] ")"
-unfoldable pub in_members : Of (List Expr)
+-- "(" query ")"
+unfoldable pub in_query : Of Query
+in_query = in_parentheses subquery
+
+-- query | expr
+unfoldable pub inside_parentheses : Of Expr
+inside_parentheses = rules _ parenthesized
+
+-- "(" query | [expr {"," expr}] ")"
+unfoldable pub in_members : Of (Expr → Expr)
 in_members = in_parentheses members
 
-unfoldable pub inside_members : Of (List Expr)
+unfoldable pub inside_members : Of (Expr → Expr)
 inside_members = rules _ members
+
+-- [expr {"," expr}]
+unfoldable pub listed_members : Of (List Expr)
+listed_members = to or_none (maybe exprs)
 
 -- "(" IGNORE | ABORT "," text ")"
 unfoldable pub in_raise : Of Expr

@@ -3,7 +3,8 @@
 ghost use Rattle.std.specs.Prelude.{◌≡◌, ◌<◌, ◌-◌};
 ghost use Rattle.sql_grammar.specs.Rules.{reads, first, starts};
 ghost use Rattle.sql_grammar.specs.Grammar as spec;
-ghost use Rattle.sql_grammar.specs.Grammar.{Name, rules};
+ghost use Rattle.sql_grammar.specs.Grammar.{Name};
+ghost use Rattle.sql_grammar.specs.Bodies.{rules};
 ghost use Rattle.parse_cursor.specs.Gives.{Gives, apply_one};
 ghost use Rattle.parse_operand.specs.Nests.{Nests};
 ghost use Rattle.parse_operand.specs.Parts as part;
@@ -16,7 +17,7 @@ use sqlite_items::{Boxed, Items};
 use std::alloc::Global;
 
 /// What an expression begins with.
-const EXPR_STARTS: [TokenKind; 48] = [
+const EXPR_STARTS: [TokenKind; 49] = [
     TokenKind::Not,
     TokenKind::Minus,
     TokenKind::Plus,
@@ -62,6 +63,7 @@ const EXPR_STARTS: [TokenKind; 48] = [
     TokenKind::View,
     TokenKind::Virtual,
     TokenKind::LeftParen,
+    TokenKind::Exists,
     TokenKind::Cast,
     TokenKind::Case,
     TokenKind::Raise,
@@ -69,7 +71,7 @@ const EXPR_STARTS: [TokenKind; 48] = [
 
 /// Whether an expression begins here.
 #[tactic(auto, using(crate::proofs::Clear::first_exprs))]
-pub(crate) fn sees_expr(tokens: &Cursor<'_>) -> bool
+pub fn sees_expr(tokens: &Cursor<'_>) -> bool
     ensures { result ≡ starts (first spec.exprs) tokens.now.rest.now }
 {
     tokens.sees_any(&EXPR_STARTS)
@@ -86,11 +88,11 @@ fn sees_arguments(tokens: &Cursor<'_>) -> bool
     sees_expr(tokens)
 }
 
-impl<F: Fn(Global, &mut Cursor<'_>, usize) -> Result<Boxed<Expr>, ParseError>> Operands<F> {
+impl<F: Fn(Global, &mut Cursor<'_>, usize) -> Result<Boxed<Expr>, ParseError>, G> Operands<F, G> {
     /// `expr {, expr}`
     #[tactic(auto, using(crate::proofs::Lists::exprs_steps))]
-    pub(crate) fn exprs(&self, tokens: &mut Cursor<'_>) -> Result<Items<Expr>, ParseError>
-        requires nests { Nests self.now.depth (F.pre self.now.inner) (F.post self.now.inner) }
+    pub fn exprs(&self, tokens: &mut Cursor<'_>) -> Result<Items<Expr>, ParseError>
+        requires exprs { Nests spec.expr self.now.depth (F.pre self.now.inner) (F.post self.now.inner) }
         requires open { 0 < self.now.depth }
         ensures { Gives (reads Name rules (self.now.depth - 1) spec.exprs tokens.old.counts tokens.old.rest.now) result tokens.new.counts tokens.new.rest.now }
     {
@@ -109,7 +111,7 @@ impl<F: Fn(Global, &mut Cursor<'_>, usize) -> Result<Boxed<Expr>, ParseError>> O
         &self,
         tokens: &mut Cursor<'_>,
     ) -> Result<(Arguments, Items<Expr>), ParseError>
-        requires nests { Nests self.now.depth (F.pre self.now.inner) (F.post self.now.inner) }
+        requires exprs { Nests spec.expr self.now.depth (F.pre self.now.inner) (F.post self.now.inner) }
         requires open { 0 < self.now.depth }
         ensures { Gives (reads Name rules (self.now.depth - 1) spec.some_arguments tokens.old.counts tokens.old.rest.now) result tokens.new.counts tokens.new.rest.now }
     {
@@ -130,7 +132,7 @@ impl<F: Fn(Global, &mut Cursor<'_>, usize) -> Result<Boxed<Expr>, ParseError>> O
         &self,
         tokens: &mut Cursor<'_>,
     ) -> Result<(Arguments, Items<Expr>), ParseError>
-        requires nests { Nests self.now.depth (F.pre self.now.inner) (F.post self.now.inner) }
+        requires exprs { Nests spec.expr self.now.depth (F.pre self.now.inner) (F.post self.now.inner) }
         requires open { 0 < self.now.depth }
         ensures { Gives (reads Name rules (self.now.depth - 1) part.inside_arguments tokens.old.counts tokens.old.rest.now) result tokens.new.counts tokens.new.rest.now }
     {
@@ -147,7 +149,7 @@ impl<F: Fn(Global, &mut Cursor<'_>, usize) -> Result<Boxed<Expr>, ParseError>> O
         &self,
         tokens: &mut Cursor<'_>,
     ) -> Result<(Arguments, Items<Expr>), ParseError>
-        requires { Nests self.now.depth (F.pre self.now.inner) (F.post self.now.inner) }
+        requires exprs { Nests spec.expr self.now.depth (F.pre self.now.inner) (F.post self.now.inner) }
         ensures { Gives (reads Name rules self.now.depth part.in_arguments tokens.old.counts tokens.old.rest.now) result tokens.new.counts tokens.new.rest.now }
     {
         tokens.open(self.depth, TokenKind::LeftParen, Role::Inward)?;
@@ -159,7 +161,7 @@ impl<F: Fn(Global, &mut Cursor<'_>, usize) -> Result<Boxed<Expr>, ParseError>> O
     /// `( WHERE expr )`
     #[tactic(auto, using(crate::proofs::Bracketed::in_condition_is))]
     pub(crate) fn in_condition(&self, tokens: &mut Cursor<'_>) -> Result<Boxed<Expr>, ParseError>
-        requires { Nests self.now.depth (F.pre self.now.inner) (F.post self.now.inner) }
+        requires exprs { Nests spec.expr self.now.depth (F.pre self.now.inner) (F.post self.now.inner) }
         ensures { Gives (reads Name rules self.now.depth part.in_condition tokens.old.counts tokens.old.rest.now) result tokens.new.counts tokens.new.rest.now }
     {
         tokens.open(self.depth, TokenKind::LeftParen, Role::Inward)?;
@@ -172,7 +174,7 @@ impl<F: Fn(Global, &mut Cursor<'_>, usize) -> Result<Boxed<Expr>, ParseError>> O
     /// `[FILTER ( WHERE expr )]`
     #[tactic(auto, using(crate::proofs::Straight::filters))]
     pub(crate) fn filter(&self, tokens: &mut Cursor<'_>) -> Result<Option<Boxed<Expr>>, ParseError>
-        requires { Nests self.now.depth (F.pre self.now.inner) (F.post self.now.inner) }
+        requires exprs { Nests spec.expr self.now.depth (F.pre self.now.inner) (F.post self.now.inner) }
         ensures { Gives (reads Name rules self.now.depth spec.filter tokens.old.counts tokens.old.rest.now) result tokens.new.counts tokens.new.rest.now }
     {
         if tokens.sees(TokenKind::Filter) {
@@ -185,42 +187,12 @@ impl<F: Fn(Global, &mut Cursor<'_>, usize) -> Result<Boxed<Expr>, ParseError>> O
 
     /// What stands behind the name of a function (SQL Language Expressions, Functions).
     #[tactic(auto, using(crate::proofs::Straight::call_is))]
-    pub(crate) fn call(
-        &self,
-        tokens: &mut Cursor<'_>,
-        function: Token,
-    ) -> Result<Boxed<Expr>, ParseError>
-        requires { Nests self.now.depth (F.pre self.now.inner) (F.post self.now.inner) }
+    pub fn call(&self, tokens: &mut Cursor<'_>, function: Token) -> Result<Boxed<Expr>, ParseError>
+        requires exprs { Nests spec.expr self.now.depth (F.pre self.now.inner) (F.post self.now.inner) }
         ensures { Gives (apply_one function (reads Name rules self.now.depth spec.call tokens.old.counts tokens.old.rest.now)) result tokens.new.counts tokens.new.rest.now }
     {
         let (how, arguments) = self.in_arguments(tokens)?;
         let filter = self.filter(tokens)?;
         Ok(Boxed::new(self.alloc, Expr::Call(function, how, arguments, filter))?)
-    }
-
-    /// `[expr {, expr}]`
-    #[tactic(auto, using(crate::proofs::Inside::members_steps))]
-    pub(crate) fn inside_members(&self, tokens: &mut Cursor<'_>) -> Result<Items<Expr>, ParseError>
-        requires nests { Nests self.now.depth (F.pre self.now.inner) (F.post self.now.inner) }
-        requires open { 0 < self.now.depth }
-        ensures { Gives (reads Name rules (self.now.depth - 1) part.inside_members tokens.old.counts tokens.old.rest.now) result tokens.new.counts tokens.new.rest.now }
-    {
-        if sees_expr(tokens) {
-            self.exprs(tokens)
-        } else {
-            Ok(Items::new(self.alloc))
-        }
-    }
-
-    /// `( [expr {, expr}] )`, the members behind IN
-    #[tactic(auto, using(crate::proofs::Bracketed::in_members_is))]
-    pub fn in_members(&self, tokens: &mut Cursor<'_>) -> Result<Items<Expr>, ParseError>
-        requires { Nests self.now.depth (F.pre self.now.inner) (F.post self.now.inner) }
-        ensures { Gives (reads Name rules self.now.depth part.in_members tokens.old.counts tokens.old.rest.now) result tokens.new.counts tokens.new.rest.now }
-    {
-        tokens.open(self.depth, TokenKind::LeftParen, Role::Inward)?;
-        let found = self.inside_members(tokens)?;
-        tokens.expect(TokenKind::RightParen, Role::Outward)?;
-        Ok(found)
     }
 }

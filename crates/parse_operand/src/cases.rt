@@ -3,7 +3,8 @@
 ghost use Rattle.std.specs.Prelude.{◌<◌, ◌-◌};
 ghost use Rattle.sql_grammar.specs.Rules.{reads};
 ghost use Rattle.sql_grammar.specs.Grammar as spec;
-ghost use Rattle.sql_grammar.specs.Grammar.{Name, rules};
+ghost use Rattle.sql_grammar.specs.Grammar.{Name};
+ghost use Rattle.sql_grammar.specs.Bodies.{rules};
 ghost use Rattle.parse_cursor.specs.Gives.{Gives};
 ghost use Rattle.parse_operand.specs.Nests.{Nests};
 
@@ -14,11 +15,11 @@ use sql_tree::{Arm, Expr, TokenKind};
 use sqlite_items::{Boxed, Items};
 use std::alloc::Global;
 
-impl<F: Fn(Global, &mut Cursor<'_>, usize) -> Result<Boxed<Expr>, ParseError>> Operands<F> {
+impl<F: Fn(Global, &mut Cursor<'_>, usize) -> Result<Boxed<Expr>, ParseError>, G> Operands<F, G> {
     /// `WHEN expr THEN expr`
     #[tactic(auto, unfolding(sql_grammar::specs::Grammar::arm))]
     pub(crate) fn arm(&self, tokens: &mut Cursor<'_>) -> Result<Arm, ParseError>
-        requires nests { Nests self.now.depth (F.pre self.now.inner) (F.post self.now.inner) }
+        requires exprs { Nests spec.expr self.now.depth (F.pre self.now.inner) (F.post self.now.inner) }
         requires open { 0 < self.now.depth }
         ensures { Gives (reads Name rules (self.now.depth - 1) spec.arm tokens.old.counts tokens.old.rest.now) result tokens.new.counts tokens.new.rest.now }
     {
@@ -35,7 +36,7 @@ impl<F: Fn(Global, &mut Cursor<'_>, usize) -> Result<Boxed<Expr>, ParseError>> O
     /// `arm {arm}`
     #[tactic(auto, using(crate::proofs::Lists::arms_steps))]
     pub(crate) fn arms(&self, tokens: &mut Cursor<'_>) -> Result<Items<Arm>, ParseError>
-        requires nests { Nests self.now.depth (F.pre self.now.inner) (F.post self.now.inner) }
+        requires exprs { Nests spec.expr self.now.depth (F.pre self.now.inner) (F.post self.now.inner) }
         requires open { 0 < self.now.depth }
         ensures { Gives (reads Name rules (self.now.depth - 1) spec.arms tokens.old.counts tokens.old.rest.now) result tokens.new.counts tokens.new.rest.now }
     {
@@ -53,7 +54,7 @@ impl<F: Fn(Global, &mut Cursor<'_>, usize) -> Result<Boxed<Expr>, ParseError>> O
         &self,
         tokens: &mut Cursor<'_>,
     ) -> Result<Option<Boxed<Expr>>, ParseError>
-        requires nests { Nests self.now.depth (F.pre self.now.inner) (F.post self.now.inner) }
+        requires exprs { Nests spec.expr self.now.depth (F.pre self.now.inner) (F.post self.now.inner) }
         requires open { 0 < self.now.depth }
         ensures { Gives (reads Name rules (self.now.depth - 1) spec.otherwise tokens.old.counts tokens.old.rest.now) result tokens.new.counts tokens.new.rest.now }
     {
@@ -68,7 +69,7 @@ impl<F: Fn(Global, &mut Cursor<'_>, usize) -> Result<Boxed<Expr>, ParseError>> O
     /// `[expr] arm {arm} [ELSE expr]`
     #[tactic(auto, using(crate::proofs::Clear::case_firsts), unfolding(sql_grammar::specs::Grammar::case))]
     pub(crate) fn case(&self, tokens: &mut Cursor<'_>) -> Result<Boxed<Expr>, ParseError>
-        requires nests { Nests self.now.depth (F.pre self.now.inner) (F.post self.now.inner) }
+        requires exprs { Nests spec.expr self.now.depth (F.pre self.now.inner) (F.post self.now.inner) }
         requires open { 0 < self.now.depth }
         ensures { Gives (reads Name rules (self.now.depth - 1) spec.case tokens.old.counts tokens.old.rest.now) result tokens.new.counts tokens.new.rest.now }
     {

@@ -3,7 +3,9 @@
 ghost use Rattle.std.specs.Prelude.{ℕ, ◌<◌, ◌-◌};
 ghost use Rattle.sql_grammar.specs.Rules.{reads};
 ghost use Rattle.sql_grammar.specs.Grammar as spec;
-ghost use Rattle.sql_grammar.specs.Grammar.{Name, rules};
+ghost use Rattle.sql_grammar.specs.Grammar.{Name};
+ghost use Rattle.sql_grammar.specs.Bodies.{rules};
+ghost use Rattle.sql_grammar.specs.Queries.{query};
 ghost use Rattle.parse_cursor.specs.Gives.{Gives, apply_one};
 ghost use Rattle.parse_operand.specs.Nests.{Nests};
 ghost use Rattle.parse_operand.specs.Parts as part;
@@ -11,7 +13,7 @@ ghost use Rattle.parse_operand.specs.Parts as part;
 use crate::operands::Operands;
 use parse_cursor::{Cursor, ParseError, name, sees_name, type_name};
 use sql_grammar::Role;
-use sql_tree::{Expr, Token, TokenKind, TypeName};
+use sql_tree::{Expr, Query, Token, TokenKind, TypeName};
 use sqlite_items::Boxed;
 use std::alloc::Global;
 
@@ -66,7 +68,7 @@ fn raise_what(alloc: Global, tokens: &mut Cursor<'_>) -> Result<Boxed<Expr>, Par
     Ok(Boxed::new(alloc, Expr::RaiseAbort(why))?)
 }
 
-impl<F: Fn(Global, &mut Cursor<'_>, usize) -> Result<Boxed<Expr>, ParseError>> Operands<F> {
+impl<F: Fn(Global, &mut Cursor<'_>, usize) -> Result<Boxed<Expr>, ParseError>, G> Operands<F, G> {
     /// What stands behind a name: a column of that table, the arguments of a call, or nothing.
     #[tactic(auto, using(crate::proofs::Clear::behind_name_firsts), unfolding(sql_grammar::specs::Grammar::behind_name))]
     pub(crate) fn behind_name(
@@ -74,7 +76,7 @@ impl<F: Fn(Global, &mut Cursor<'_>, usize) -> Result<Boxed<Expr>, ParseError>> O
         tokens: &mut Cursor<'_>,
         word: Token,
     ) -> Result<Boxed<Expr>, ParseError>
-        requires { Nests self.now.depth (F.pre self.now.inner) (F.post self.now.inner) }
+        requires exprs { Nests spec.expr self.now.depth (F.pre self.now.inner) (F.post self.now.inner) }
         ensures { Gives (apply_one word (reads Name rules self.now.depth spec.behind_name tokens.old.counts tokens.old.rest.now)) result tokens.new.counts tokens.new.rest.now }
     {
         if tokens.sees(TokenKind::Dot) {
@@ -89,23 +91,11 @@ impl<F: Fn(Global, &mut Cursor<'_>, usize) -> Result<Boxed<Expr>, ParseError>> O
     /// A column or a call.
     #[tactic(auto, using(crate::proofs::Straight::named_is))]
     pub(crate) fn named(&self, tokens: &mut Cursor<'_>) -> Result<Boxed<Expr>, ParseError>
-        requires { Nests self.now.depth (F.pre self.now.inner) (F.post self.now.inner) }
+        requires exprs { Nests spec.expr self.now.depth (F.pre self.now.inner) (F.post self.now.inner) }
         ensures { Gives (reads Name rules self.now.depth spec.named tokens.old.counts tokens.old.rest.now) result tokens.new.counts tokens.new.rest.now }
     {
         let word = name(tokens)?;
         self.behind_name(tokens, word)
-    }
-
-    /// `( expr )`
-    #[tactic(auto, using(crate::proofs::Bracketed::enclosed_is))]
-    pub(crate) fn enclosed(&self, tokens: &mut Cursor<'_>) -> Result<Boxed<Expr>, ParseError>
-        requires { Nests self.now.depth (F.pre self.now.inner) (F.post self.now.inner) }
-        ensures { Gives (reads Name rules self.now.depth spec.enclosed tokens.old.counts tokens.old.rest.now) result tokens.new.counts tokens.new.rest.now }
-    {
-        tokens.open(self.depth, TokenKind::LeftParen, Role::Inward)?;
-        let inner = self.inner(tokens)?;
-        tokens.expect(TokenKind::RightParen, Role::Outward)?;
-        Ok(inner)
     }
 
     /// `expr AS type`
@@ -114,7 +104,7 @@ impl<F: Fn(Global, &mut Cursor<'_>, usize) -> Result<Boxed<Expr>, ParseError>> O
         &self,
         tokens: &mut Cursor<'_>,
     ) -> Result<(Boxed<Expr>, TypeName), ParseError>
-        requires nests { Nests self.now.depth (F.pre self.now.inner) (F.post self.now.inner) }
+        requires exprs { Nests spec.expr self.now.depth (F.pre self.now.inner) (F.post self.now.inner) }
         requires open { 0 < self.now.depth }
         ensures { Gives (reads Name rules (self.now.depth - 1) part.inside_cast tokens.old.counts tokens.old.rest.now) result tokens.new.counts tokens.new.rest.now }
     {
@@ -130,7 +120,7 @@ impl<F: Fn(Global, &mut Cursor<'_>, usize) -> Result<Boxed<Expr>, ParseError>> O
         &self,
         tokens: &mut Cursor<'_>,
     ) -> Result<(Boxed<Expr>, TypeName), ParseError>
-        requires { Nests self.now.depth (F.pre self.now.inner) (F.post self.now.inner) }
+        requires exprs { Nests spec.expr self.now.depth (F.pre self.now.inner) (F.post self.now.inner) }
         ensures { Gives (reads Name rules self.now.depth part.in_cast tokens.old.counts tokens.old.rest.now) result tokens.new.counts tokens.new.rest.now }
     {
         tokens.open(self.depth, TokenKind::LeftParen, Role::Inward)?;
@@ -142,7 +132,7 @@ impl<F: Fn(Global, &mut Cursor<'_>, usize) -> Result<Boxed<Expr>, ParseError>> O
     /// `CAST ( expr AS type )`
     #[tactic(auto, using(crate::proofs::Straight::casting_is))]
     pub(crate) fn casting(&self, tokens: &mut Cursor<'_>) -> Result<Boxed<Expr>, ParseError>
-        requires { Nests self.now.depth (F.pre self.now.inner) (F.post self.now.inner) }
+        requires exprs { Nests spec.expr self.now.depth (F.pre self.now.inner) (F.post self.now.inner) }
         ensures { Gives (reads Name rules self.now.depth spec.casting tokens.old.counts tokens.old.rest.now) result tokens.new.counts tokens.new.rest.now }
     {
         tokens.expect(TokenKind::Cast, Role::Quiet)?;
@@ -153,7 +143,7 @@ impl<F: Fn(Global, &mut Cursor<'_>, usize) -> Result<Boxed<Expr>, ParseError>> O
     /// `CASE .. END`
     #[tactic(auto, using(crate::proofs::Bracketed::choosing_is))]
     pub(crate) fn choosing(&self, tokens: &mut Cursor<'_>) -> Result<Boxed<Expr>, ParseError>
-        requires { Nests self.now.depth (F.pre self.now.inner) (F.post self.now.inner) }
+        requires exprs { Nests spec.expr self.now.depth (F.pre self.now.inner) (F.post self.now.inner) }
         ensures { Gives (reads Name rules self.now.depth spec.choosing tokens.old.counts tokens.old.rest.now) result tokens.new.counts tokens.new.rest.now }
     {
         tokens.open(self.depth, TokenKind::Case, Role::Inward)?;
@@ -165,7 +155,7 @@ impl<F: Fn(Global, &mut Cursor<'_>, usize) -> Result<Boxed<Expr>, ParseError>> O
     /// `( IGNORE | ABORT , text )`
     #[tactic(auto, using(crate::proofs::Bracketed::in_raise_is))]
     pub(crate) fn in_raise(&self, tokens: &mut Cursor<'_>) -> Result<Boxed<Expr>, ParseError>
-        requires { Nests self.now.depth (F.pre self.now.inner) (F.post self.now.inner) }
+        requires exprs { Nests spec.expr self.now.depth (F.pre self.now.inner) (F.post self.now.inner) }
         ensures { Gives (reads Name rules self.now.depth part.in_raise tokens.old.counts tokens.old.rest.now) result tokens.new.counts tokens.new.rest.now }
     {
         tokens.open(self.depth, TokenKind::LeftParen, Role::Inward)?;
@@ -177,17 +167,23 @@ impl<F: Fn(Global, &mut Cursor<'_>, usize) -> Result<Boxed<Expr>, ParseError>> O
     /// `RAISE ( IGNORE | ABORT , text )`
     #[tactic(auto, using(crate::proofs::Straight::raising_is))]
     pub(crate) fn raising(&self, tokens: &mut Cursor<'_>) -> Result<Boxed<Expr>, ParseError>
-        requires { Nests self.now.depth (F.pre self.now.inner) (F.post self.now.inner) }
+        requires exprs { Nests spec.expr self.now.depth (F.pre self.now.inner) (F.post self.now.inner) }
         ensures { Gives (reads Name rules self.now.depth spec.raising tokens.old.counts tokens.old.rest.now) result tokens.new.counts tokens.new.rest.now }
     {
         tokens.expect(TokenKind::Raise, Role::Quiet)?;
         self.in_raise(tokens)
     }
+}
 
+impl<
+    F: Fn(Global, &mut Cursor<'_>, usize) -> Result<Boxed<Expr>, ParseError>,
+    G: Fn(Global, &mut Cursor<'_>, usize) -> Result<Boxed<Query>, ParseError>,
+> Operands<F, G> {
     /// An operand.
     #[tactic(auto, using(crate::proofs::Clear::primary_firsts), unfolding(sql_grammar::specs::Grammar::primary))]
     pub fn primary(&self, tokens: &mut Cursor<'_>) -> Result<Boxed<Expr>, ParseError>
-        requires { Nests self.now.depth (F.pre self.now.inner) (F.post self.now.inner) }
+        requires exprs { Nests spec.expr self.now.depth (F.pre self.now.inner) (F.post self.now.inner) }
+        requires queries { Nests query self.now.depth (G.pre self.now.query) (G.post self.now.query) }
         ensures { Gives (reads Name rules self.now.depth spec.primary tokens.old.counts tokens.old.rest.now) result tokens.new.counts tokens.new.rest.now }
     {
         if tokens.sees_any(&LITERALS) {
@@ -198,6 +194,8 @@ impl<F: Fn(Global, &mut Cursor<'_>, usize) -> Result<Boxed<Expr>, ParseError>> O
             self.named(tokens)
         } else if tokens.sees(TokenKind::LeftParen) {
             self.enclosed(tokens)
+        } else if tokens.sees(TokenKind::Exists) {
+            self.existing(tokens)
         } else if tokens.sees(TokenKind::Cast) {
             self.casting(tokens)
         } else if tokens.sees(TokenKind::Case) {

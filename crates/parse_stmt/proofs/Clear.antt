@@ -1,62 +1,40 @@
--- One token of look-ahead tells what to do in each rule of statements, and with which kinds each begins.
-use Rattle.std.proofs.Common.{◌≡◌, true, [], ◌∷◌, refl}
+-- With which kinds the rules of statements begin.
+use Rattle.std.proofs.Common.{◌≡◌, [], ◌∷◌, refl}
 use Rattle.sql_tree.specs.declared.token.TokenKind.TheVariants as kind
-use Rattle.sql_grammar.specs.Rules.{is_clear, first}
-use Rattle.sql_grammar.specs.Grammar.{Name, names, rules, type_name, column, signed_literal}
-use Rattle.sql_grammar.specs.Statements.{one_row, create_table, insert, result, all_statement_rules}
-use Rattle.parse_stmt.specs.Parts.{more_columns, more_literals, more_rows, more_results}
+use Rattle.sql_grammar.specs.Rules.{first}
+use Rattle.sql_grammar.specs.Definitions.{create}
+use Rattle.sql_grammar.specs.Statements.{remove, begin, commit, rollback, savepoint, transaction, pragma_value, all_statement_rules}
 
--- all rules, for proofs that compute with them
-unfoldable computed : Unit {0}
-unfolding all_statement_rules more_columns more_literals more_rows more_results
-computed = tt
+pub first_create : first create ≡ kind.Create ∷ []
+unfolding all_statement_rules
+first_create = refl
 
--- ---- clear
+pub first_remove : first remove ≡ kind.Drop ∷ []
+unfolding all_statement_rules
+first_remove = refl
 
-pub more_columns_clear : is_clear Name rules more_columns ≡ true
-unfolding computed
-more_columns_clear = refl
+pub first_transaction : first transaction ≡ kind.Begin ∷ kind.Commit ∷ kind.End ∷ kind.Rollback ∷ kind.Savepoint ∷ kind.Release ∷ []
+unfolding all_statement_rules
+first_transaction = refl
 
-pub more_literals_clear : is_clear Name rules more_literals ≡ true
-unfolding computed
-more_literals_clear = refl
+pub ruleset command_firsts = (first_create, first_remove, first_transaction)
 
-pub more_rows_clear : is_clear Name rules more_rows ≡ true
-unfolding computed
-more_rows_clear = refl
+pub first_begin : first begin ≡ kind.Begin ∷ []
+unfolding all_statement_rules
+first_begin = refl
 
-pub more_results_clear : is_clear Name rules more_results ≡ true
-unfolding computed
-more_results_clear = refl
+pub first_commit : first commit ≡ kind.Commit ∷ kind.End ∷ []
+unfolding all_statement_rules
+first_commit = refl
 
-pub column_clear : is_clear Name rules column ≡ true
-unfolding computed
-column_clear = refl
+pub first_rollback : first rollback ≡ kind.Rollback ∷ []
+unfolding all_statement_rules
+first_rollback = refl
 
-pub literal_clear : is_clear Name rules signed_literal ≡ true
-unfolding computed
-literal_clear = refl
+pub first_savepoint : first savepoint ≡ kind.Savepoint ∷ []
+unfolding all_statement_rules
+first_savepoint = refl
 
-pub row_clear : is_clear Name rules one_row ≡ true
-unfolding computed
-row_clear = refl
-
-pub result_clear : is_clear Name rules result ≡ true
-unfolding computed
-result_clear = refl
-
--- ---- the kinds that they begin with
-
-pub first_type_name : first type_name ≡ names
-unfolding computed
-first_type_name = refl
-
-pub first_create_table : first create_table ≡ kind.Create ∷ []
-unfolding computed
-first_create_table = refl
-
-pub first_insert : first insert ≡ kind.Insert ∷ []
-unfolding computed
-first_insert = refl
-
-pub ruleset statement_firsts = (first_create_table, first_insert)
+pub first_value : first pragma_value ≡ kind.Equal ∷ kind.LeftParen ∷ []
+unfolding all_statement_rules
+first_value = refl

@@ -1,7 +1,4 @@
 pub mod Clear
-pub mod Steps
-pub mod Lists
-pub mod Tables
-pub mod Rows
-pub mod Queries
+pub mod Words
+pub mod Transacted
 pub mod Ends

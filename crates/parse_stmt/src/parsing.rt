@@ -3,34 +3,78 @@
 ghost use Rattle.std.specs.Prelude.{ℕ};
 ghost use Rattle.sql_tree.specs.declared.statement.Statement.{Statement};
 ghost use Rattle.sql_grammar.specs.Answers.{Answer};
-ghost use Rattle.sql_grammar.specs.Grammar.{Name, rules};
+ghost use Rattle.sql_grammar.specs.Grammar.{Name};
+ghost use Rattle.sql_grammar.specs.Bodies.{rules};
 ghost use Rattle.sql_grammar.specs.Rules.{reads};
 ghost use Rattle.sql_grammar.specs.Statements as spec;
 ghost use Rattle.sql_grammar.specs.StatementTexts.{AnswersAs};
 ghost use Rattle.parse_cursor.specs.Gives.{Gives};
-ghost use Rattle.parse_expr.specs.Whole.{Shows};
+ghost use Rattle.parse_cursor.specs.Whole.{Shows};
+ghost use Rattle.parse_stmt.specs.Parts as part;
 
-use crate::creating::create_table;
-use crate::inserting::insert;
-use crate::selecting::select;
-use parse_cursor::{Cursor, ParseError};
-use parse_expr::{Failure, MAX_OPEN, failure_at, place};
+use crate::pragmas::pragma;
+use crate::removals::remove;
+use crate::transactions::transaction;
+use parse_create::{create, row_command, sees_row_command};
+use parse_cursor::{Cursor, Failure, ParseError, failure_at, place};
+use parse_query::MAX_OPEN;
 use sql_grammar::{Counts, Role};
-use sql_tree::{Statement, Token, TokenKind};
+use sql_tree::{Command, Explain, Statement, Token, TokenKind};
 use std::alloc::Global;
 
-/// `create | insert | select`
-#[tactic(auto, using(crate::proofs::Clear::statement_firsts), unfolding(sql_grammar::specs::Statements::unended))]
-fn unended(alloc: Global, tokens: &mut Cursor<'_>, depth: usize) -> Result<Statement, ParseError>
-    ensures { Gives (reads Name rules depth spec.unended tokens.old.counts tokens.old.rest.now) result tokens.new.counts tokens.new.rest.now }
+const TRANSACTIONS: [TokenKind; 6] = [
+    TokenKind::Begin,
+    TokenKind::Commit,
+    TokenKind::End,
+    TokenKind::Rollback,
+    TokenKind::Savepoint,
+    TokenKind::Release,
+];
+
+/// `query | insert | update | delete | create | drop | transaction | pragma`
+#[tactic(auto, using(crate::proofs::Clear::command_firsts), unfolding(sql_grammar::specs::Statements::command))]
+fn command(alloc: Global, tokens: &mut Cursor<'_>, depth: usize) -> Result<Command, ParseError>
+    ensures { Gives (reads Name rules depth spec.command tokens.old.counts tokens.old.rest.now) result tokens.new.counts tokens.new.rest.now }
 {
+    if sees_row_command(tokens) {
+        return Ok(Command::Rows(row_command(alloc, tokens, depth)?));
+    }
     if tokens.sees(TokenKind::Create) {
-        return Ok(Statement::CreateTable(create_table(alloc, tokens, depth)?));
+        return Ok(Command::Create(create(alloc, tokens, depth)?));
     }
-    if tokens.sees(TokenKind::Insert) {
-        return Ok(Statement::Insert(insert(alloc, tokens, depth)?));
+    if tokens.sees(TokenKind::Drop) {
+        return Ok(Command::Remove(remove(tokens)?));
     }
-    Ok(Statement::Select(select(alloc, tokens, depth)?))
+    if tokens.sees_any(&TRANSACTIONS) {
+        return Ok(Command::Transaction(transaction(tokens)?));
+    }
+    Ok(Command::Pragma(pragma(tokens, depth)?))
+}
+
+/// `[QUERY PLAN]`
+#[tactic(auto, using(crate::proofs::Ends::explanations))]
+fn explained(tokens: &mut Cursor<'_>) -> Result<Explain, ParseError>
+    ensures { (d : ℕ) → Gives (reads Name rules d spec.explained tokens.old.counts tokens.old.rest.now) result tokens.new.counts tokens.new.rest.now }
+{
+    if !tokens.sees(TokenKind::Query) {
+        return Ok(Explain::Instructions);
+    }
+    tokens.expect(TokenKind::Query, Role::Outside)?;
+    tokens.expect(TokenKind::Plan, Role::Outside)?;
+    Ok(Explain::QueryPlan)
+}
+
+/// `[EXPLAIN [QUERY PLAN]]` (EXPLAIN)
+#[tactic(auto, using(crate::proofs::Ends::explains))]
+fn explain(tokens: &mut Cursor<'_>) -> Result<Option<Explain>, ParseError>
+    ensures { (d : ℕ) → Gives (reads Name rules d spec.explain tokens.old.counts tokens.old.rest.now) result tokens.new.counts tokens.new.rest.now }
+{
+    if tokens.sees(TokenKind::Explain) {
+        tokens.expect(TokenKind::Explain, Role::Outside)?;
+        Ok(Some(explained(tokens)?))
+    } else {
+        Ok(None)
+    }
 }
 
 /// `[;]`
@@ -45,6 +89,14 @@ fn semicolon(tokens: &mut Cursor<'_>) -> Result<Option<Token>, ParseError>
     }
 }
 
+/// A statement, with the `;` that may end it.
+fn ended(tokens: &mut Cursor<'_>, found: Statement) -> Result<Statement, ParseError>
+    ensures { (d : ℕ) → Gives (part.ended found (reads Name rules d spec.semicolon tokens.old.counts tokens.old.rest.now)) result tokens.new.counts tokens.new.rest.now }
+{
+    semicolon(tokens)?;
+    Ok(found)
+}
+
 /// Parses the statement that the next tokens are, with the `;` that may end it, as far as it goes (SQL As Understood By SQLite), where
 /// so many nestings may still be opened. After an error the cursor stands at the first token that cannot stand there or passes a limit.
 #[tactic(auto, using(crate::proofs::Ends::statement_is))]
@@ -55,9 +107,9 @@ pub fn statement(
 ) -> Result<Statement, ParseError>
     ensures { Gives (reads Name rules depth spec.statement tokens.old.counts tokens.old.rest.now) result tokens.new.counts tokens.new.rest.now }
 {
-    let found = unended(alloc, tokens, depth)?;
-    semicolon(tokens)?;
-    Ok(found)
+    let explain = explain(tokens)?;
+    let command = command(alloc, tokens, depth)?;
+    ended(tokens, Statement { explain, command })
 }
 
 /// Parses the tokens of a text of so many bytes as one statement (SQL As Understood By SQLite), which a `;` may end: its tree, or the

@@ -1,17 +1,17 @@
-// Texts with the trees that the rules of the grammar give them by hand, and texts that are no statement, up to the first token that is wrong.
-mod limits;
-mod lines;
-mod trees;
-mod wrong_creations;
-mod wrong_insertions;
-mod wrong_selections;
+// Texts that are statements, and texts that are none, up to the first token that is wrong.
+mod names;
+mod others;
+mod places;
+mod rows;
+mod schema;
+mod spans;
+mod tables;
 
 use super::*;
-use lines::line;
 use sql_tree::Statement;
 use std::alloc::{AllocError, Global};
 
-fn parsed(alloc: Global, text: &str) -> Result<Result<Statement, Failure>, AllocError> {
+pub(crate) fn parsed(alloc: Global, text: &str) -> Result<Result<Statement, Failure>, AllocError> {
     let tokens = sql_lex::tokens(alloc, text)?;
     Ok(parse(alloc, &tokens, text.len()))
 }
@@ -21,23 +21,11 @@ pub(crate) fn failure(alloc: Global, text: &str) -> Result<Option<Failure>, Allo
     Ok(parsed(alloc, text)?.err())
 }
 
-// The tree of a text as a line, or the failure.
-fn read(alloc: Global, text: &str) -> Result<String, AllocError> {
-    match parsed(alloc, text)? {
-        Ok(tree) => line(alloc, text, &tree),
-        Err(failure) => format!(in alloc; "{failure:?}"),
-    }
-}
-
-/// What the first text gives that is read otherwise than as the tree beside it.
-pub(crate) fn first_misread(
-    alloc: Global,
-    rows: &[(&str, &str)],
-) -> Result<Option<String>, AllocError> {
-    for (text, tree) in rows {
-        let found = read(alloc, text)?;
-        if found.as_str() != *tree {
-            return Ok(Some(found));
+/// The first text that is no statement.
+pub(crate) fn first_refused(alloc: Global, texts: &[&str]) -> Result<Option<String>, AllocError> {
+    for text in texts {
+        if let Some(failure) = failure(alloc, text)? {
+            return Ok(Some(format!(in alloc; "{text}: {failure:?}")?));
         }
     }
     Ok(None)
@@ -50,8 +38,9 @@ pub(crate) fn first_not_refused(
 ) -> Result<Option<String>, AllocError> {
     for (front, back) in rows {
         let text = format!(in alloc; "{front}{back}")?;
-        if failure(alloc, &text)? != Some(Failure::Syntax(front.len())) {
-            return Ok(Some(text));
+        let found = failure(alloc, &text)?;
+        if found != Some(Failure::Syntax(front.len())) {
+            return Ok(Some(format!(in alloc; "{text}: {found:?}")?));
         }
     }
     Ok(None)

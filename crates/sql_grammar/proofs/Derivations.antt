@@ -1,8 +1,8 @@
 -- What rules derive: with more openings no less, and something at all.
 use Rattle.std.proofs.Common.{◌≡◌, ℕ, zero, suc, ◌≤◌, ◌||◌, max, Bool, true, false, List, [], ◌∷◌, ◌++◌, is_some, refl, sym, subst, arith, inl, inr}
 use Rattle.sql_grammar.specs.Kinds.{all_kinds}
-use Rattle.sql_grammar.specs.Marks.{stays, opens, closes, Marked, marked}
-use Rattle.sql_grammar.specs.Rules.{Kinds, join, has, Lang, Loop, Rule, tok, pure, seq, fork, pick, alt, many, until, to, nest, some_kind, can_be_empty, first, is_clear, derives_in, nested, derives, can_end, ends}
+use Rattle.sql_grammar.specs.Marks.{stays, opens, closes, Marked, marked, plain}
+use Rattle.sql_grammar.specs.Rules.{Kinds, join, has, Lang, Loop, Rule, tok, pure, seq, fork, pick, alt, many, until, to, over, nest, some_kind, can_be_empty, first, is_clear, derives_in, nested, derives, can_end, ends}
 use Rattle.sql_grammar.specs.Exact.{Begins}
 use Rattle.sql_grammar.proofs.ReadingLaws.{bool_cases, Grows, left_of_max, right_of_max, some_token}
 use Rattle.sql_grammar.proofs.KindSets.{and_true, or_left, or_right, has_right, has_left}
@@ -28,6 +28,7 @@ module _ (N : Type 0 → Type 1) (rules : (A : Type 0) → N A → Rule N A) whe
     empty_law (many r) a d = refl
     empty_law (until r f s) a d = refl
     empty_law (to f r) a d = empty_law r d.0 d.1
+    empty_law (over f r) a d = empty_law r d.0 d.1
     empty_law (nest m o n k c) a d = cc d.3
 
     pub loop_first : {A : Type 0} (ks : Kinds) (l : Bool → Lang A) (f : A → Bool) → ((b : Bool) (t : Marked) (w : List Marked) (a : A) → l b (t ∷ w) a → has ks t.token.kind ≡ true)
@@ -75,6 +76,7 @@ module _ (N : Type 0 → Type 1) (rules : (A : Type 0) → N A → Rule N A) whe
       at g h true t w a p = has_right (first r) (first s) _ (h t w a p)
       at g h false t w a p = has_left (first r) (first s) _ (g t w a p)
     first_law (to f r) t w a d = first_law r t w d.0 d.1
+    first_law (over f r) t w a d = first_law r t w d.0 d.1
     first_law (nest m o n k c) t w a d = let same : marked (opens m) d.0 ≡ t = cc d.3 in subst (λ (z : Marked). has o z.token.kind ≡ true) same d.4
 
   -- ---- what is within more openings
@@ -98,6 +100,7 @@ module _ (N : Type 0 → Type 1) (rules : (A : Type 0) → N A → Rule N A) whe
   derives_mono inner outer f (until r g s) w found d = loop_mono (λ b. pick b (derives_in N rules inner s) (derives_in N rules inner r)) (λ b. pick b (derives_in N rules outer s) (derives_in N rules outer r)) g
       (λ b w a. pick_mono (derives_in N rules inner s) (derives_in N rules outer s) (derives_in N rules inner r) (derives_in N rules outer r) w a b (derives_mono inner outer f s w a) (derives_mono inner outer f r w a)) false w found d
   derives_mono inner outer f (to g r) w a d = (d.0, derives_mono inner outer f r w d.0 d.1, d.2)
+  derives_mono inner outer f (over g r) w a d = (d.0, derives_mono inner outer f r w d.0 d.1, d.2)
   derives_mono inner outer f (nest {A} m o n k c) w a d = (d.0, d.1, d.2, d.3, d.4, d.5, f A n d.2 a d.6)
 
   pub nested_grows : (d e : ℕ) → d ≤ e → (A : Type 0) (n : N A) (w : List Marked) (a : A) → nested N rules d A n w a → nested N rules e A n w a
@@ -148,6 +151,7 @@ module _ (N : Type 0 → Type 1) (rules : (A : Type 0) → N A → Rule N A) whe
   end_law inner f (many r) h k = (0, [], [], refl)
   end_law inner f (until r g s) h k = (0, [], [], refl)
   end_law inner f (to g r) h k = let b = end_law inner f r h k in (b.0, b.1, g b.2, (b.2, b.3, refl))
+  end_law inner f (over g r) h k = let b = end_law inner f r h k in (b.0, b.1, g b.2 (plain b.1), (b.2, b.3, refl))
   end_law inner f (nest {A} m o n k c) h l =
       let p = and_true (is_some (some_kind o all_kinds)) _ h in
       let q = and_true (is_some (some_kind c all_kinds)) _ p.1 in

@@ -5,7 +5,8 @@ use Rattle.sql_tree.specs.declared.token.Token.{Token}
 use Rattle.sql_grammar.specs.declared.counts.TheConstants.{MAX_NESTINGS}
 use Rattle.sql_grammar.specs.Answers.{Answer, whole}
 use Rattle.sql_grammar.specs.Expressions.{Expression, AnswersAs, HasTree, read_expr}
-use Rattle.sql_grammar.specs.Grammar.{Name, rules, expr}
+use Rattle.sql_grammar.specs.Grammar.{Name, expr}
+use Rattle.sql_grammar.specs.Bodies.{rules}
 use Rattle.sql_grammar.specs.Marks.{Marked, plain, start}
 use Rattle.sql_grammar.proofs.Clear.{clear, rich, expr_clear}
 use Rattle.sql_grammar.proofs.Whole.{one_tree, only_meets, some_answer}

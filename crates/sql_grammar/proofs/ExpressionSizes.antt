@@ -12,8 +12,10 @@ use Rattle.sql_grammar.specs.declared.counts.Role.{Role}
 use Rattle.sql_grammar.specs.declared.counts.Role.TheVariants as role
 use Rattle.sql_grammar.specs.Marks.{Marked}
 use Rattle.sql_grammar.specs.Rules.{Kinds, Lang, tok, seq, many, nest}
-use Rattle.sql_grammar.specs.Grammar.{Name, parenthesized, arguments, condition, cast, choice, members, sizes, raise, columns, row, Of, maybe, after, list_of, applied, suffixed, infix_by, rules, or_none, or_no_arguments, equality_op, and_op, or_op, with_signs, with_nots, sign_op, null_op, signed, literal, parameter, filter, call, of_table, behind_name, named, enclosed, casting, choosing, raising, primary, signs, signed_primary, collation, collations, collated, concatenation_op, more_concatenation, concatenation, product_op, more_product, product, sum_op, more_sum, sum, bits_op, more_bits, bits, relation_op, more_relation, relation, equal_to, distinct_from, is_op, is_test, between, like, glob, member_of, positive_test, null_test, negated, test, tests, equality, nots, negation, more_conjunction, conjunction, more_expr, expr, exprs, arm, arms, otherwise, case, some_arguments, raise_what, column, all_columns, signed_literal, all_literals}
-use Rattle.sql_grammar.proofs.SizeClauses.{size_of-Literal, size_of-Parameter, size_of-Column, size_of-TableColumn, size_of-Unary, size_of-Binary, size_of-Between, size_of-Like, size_of-In, size_of-Collate, size_of-Cast, size_of-Call, size_of-Case, size_of-RaiseIgnore, size_of-RaiseAbort, size_of_arm-is}
+use Rattle.sql_grammar.specs.Grammar.{Name, Of, maybe, after, list_of, applied, suffixed, infix_by, or_none, or_no_arguments, equality_op, and_op, or_op, with_signs, with_nots, sign_op, null_op, literal, parameter, filter, call, of_table, behind_name, named, enclosed, existing, casting, choosing, raising, primary, signs, signed_primary, collation, collations, collated, concatenation_op, more_concatenation, concatenation, product_op, more_product, product, sum_op, more_sum, sum, bits_op, more_bits, bits, relation_op, more_relation, relation, equal_to, distinct_from, is_op, is_test, between, like, glob, member_of, positive_test, null_test, negated, test, tests, equality, nots, negation, more_conjunction, conjunction, more_expr, expr, exprs, tails, other_primary, signed_other, negated_first, other_expr, arm, arms, otherwise, case, some_arguments, raise_what}
+use Rattle.sql_grammar.specs.Grammar as name
+use Rattle.sql_grammar.specs.Bodies.{rules}
+use Rattle.sql_grammar.proofs.SizeClauses.{size_of-Literal, size_of-Parameter, size_of-Column, size_of-TableColumn, size_of-Unary, size_of-Binary, size_of-Between, size_of-Like, size_of-Exists, size_of-Collate, size_of-Cast, size_of-Call, size_of-Case, size_of-RaiseIgnore, size_of-RaiseAbort, size_of_arm-is}
 use Rattle.sql_grammar.proofs.Weights.{Fact, Weighs, weighs_tok, weighs_pure, weighs_alt, weighs_to, weighs_seq, weighs_both, weighs_many, weighs_nest}
 
 -- ---- what is true of the trees of the rules
@@ -55,18 +57,18 @@ AllAdd n fs = (m : ℕ) (l : Expr) → size_of l ≤ m → size_of (applied l fs
 abbrev pub BehindName : Fact (Token → Expr)
 BehindName n f = (t : Token) → size_of (f t) ≤ 1 + n
 
--- what stands between brackets; the two words of CASE .. END count with what they enclose
+-- what stands between brackets; a query counts with its brackets, a CASE with its two words, and a list behind IN with that word
 abbrev pub Enclosed : (A : Type 0) → Name A → Fact A
-Enclosed A parenthesized n e = size_of e ≤ n
-Enclosed A arguments n p = total (map size_of p.1) ≤ n
-Enclosed A condition n e = size_of e ≤ n
-Enclosed A cast n p = size_of p.0 ≤ n
-Enclosed A choice n e = size_of e ≤ n + 2
-Enclosed A members n es = total (map size_of es) ≤ n
-Enclosed A sizes n numbers = Unit {0}
-Enclosed A raise n e = size_of e ≤ n
-Enclosed A columns n definitions = length definitions ≤ n
-Enclosed A row n literals = length literals ≤ n
+Enclosed A name.parenthesized n e = size_of e ≤ n + 2
+Enclosed A name.row n es = length es ≤ n
+Enclosed A name.arguments n p = total (map size_of p.1) ≤ n
+Enclosed A name.condition n e = size_of e ≤ n
+Enclosed A name.cast n p = size_of p.0 ≤ n
+Enclosed A name.choice n e = size_of e ≤ n + 2
+Enclosed A name.members n f = Adds (1 + n) f
+Enclosed A name.raise n e = size_of e ≤ n
+Enclosed A name.columns n t = length t.columns ≤ n
+Enclosed A _ n a = Unit {0}
 
 -- ---- runs of signs and of NOT
 
@@ -126,7 +128,7 @@ module _ (inner : (A : Type 0) → Name A → Lang A) (known : (A : Type 0) (n :
   unfolding filter
   filter_keeps = maybe_keeps {P = Within} (after_one {P = Within} (between_brackets (λ n a h. omega arith)) (λ n a h. omega arith)) (omega arith) (λ n a h. h)
 
-  call_keeps : Keeps BehindName call
+  pub call_keeps : Keeps BehindName call
   unfolding call
   call_keeps = weighs_both {P = λ n p. Together n p.1} (between_brackets (λ n a h. omega arith)) filter_keeps (λ m n a b p q t. let e = size_of-Call t a.0 a.1 b in omega arith)
 
@@ -144,7 +146,11 @@ module _ (inner : (A : Type 0) → Name A → Lang A) (known : (A : Type 0) (n :
 
   enclosed_keeps : Keeps Within enclosed
   unfolding enclosed
-  enclosed_keeps = between_brackets (λ n a h. omega arith)
+  enclosed_keeps = between_brackets (λ n a h. h)
+
+  existing_keeps : Keeps Within existing
+  unfolding existing
+  existing_keeps = weighs_to (after_one {Q = SomeToken} anything (λ n q h. omega arith)) (λ n q h. let e = size_of-Exists q in omega arith)
 
   casting_keeps : Keeps Within casting
   unfolding casting
@@ -160,7 +166,7 @@ module _ (inner : (A : Type 0) → Name A → Lang A) (known : (A : Type 0) (n :
 
   primary_keeps : Keeps Within primary
   unfolding primary
-  primary_keeps = weighs_alt literal_keeps (weighs_alt parameter_keeps (weighs_alt named_keeps (weighs_alt enclosed_keeps (weighs_alt casting_keeps (weighs_alt choosing_keeps raising_keeps)))))
+  primary_keeps = weighs_alt literal_keeps (weighs_alt parameter_keeps (weighs_alt named_keeps (weighs_alt enclosed_keeps (weighs_alt existing_keeps (weighs_alt casting_keeps (weighs_alt choosing_keeps raising_keeps))))))
 
   -- ---- operators
 
@@ -256,8 +262,7 @@ module _ (inner : (A : Type 0) → Name A → Lang A) (known : (A : Type 0) (n :
 
   member_of_adds : (m : Role) → Keeps Adds (member_of m)
   unfolding member_of
-  member_of_adds m = weighs_to (after_one {P = Together} {Q = λ n es. 1 + total (map size_of es) ≤ n} (between_brackets (λ n a h. omega arith)) (λ n a h. omega arith))
-      (λ n es h m l p. let e = size_of-In l es in omega arith)
+  member_of_adds m = after_one (between_brackets {Q = λ n f. Adds (1 + n) f} (λ n f h m l p. let e = h m l p in omega arith)) (λ n f h. h)
 
   positive_test_adds : (m : Role) → Keeps Adds (positive_test m)
   unfolding positive_test
@@ -311,9 +316,38 @@ module _ (inner : (A : Type 0) → Name A → Lang A) (known : (A : Type 0) (n :
   unfolding expr
   expr_keeps = suffixed_keeps conjunction_keeps more_expr_adds
 
-  exprs_keep : Keeps Together exprs
+  pub exprs_keep : Keeps Together exprs
   unfolding exprs
   exprs_keep = list_keeps expr_keeps (λ n a h. omega arith) (omega arith) (λ m n a more p q. omega arith)
+
+  -- ---- an expression in two steps
+
+  -- one level's operators, and what goes on behind them
+  then_adds : {B : Type 0} {r : Of (List (Expr → Expr))} {s : Of B} (g : B → Expr → Expr) → Keeps AllAdd r → Keeps (λ n b. Adds n (g b)) s → Keeps (λ n p. Adds n (λ x. g p.1 (applied x p.0))) (seq r s)
+  then_adds g f h = weighs_seq f h (λ m n fs b p q k l e. let d = q (k + m) (applied l fs) (p k l e) in omega arith)
+
+  pub tails_add : Keeps Adds tails
+  unfolding tails
+  tails_add = weighs_to
+      (then_adds _ collations_add (then_adds _ more_concatenation_adds (then_adds _ more_product_adds (then_adds _ more_sum_adds (then_adds _ more_bits_adds (then_adds _ more_relation_adds (then_adds _ tests_add (then_adds (λ fs x. applied x fs) more_conjunction_adds more_expr_adds))))))))
+      (λ n p h. h)
+
+  other_primary_keeps : Keeps Within other_primary
+  unfolding other_primary
+  other_primary_keeps = weighs_alt literal_keeps (weighs_alt parameter_keeps (weighs_alt enclosed_keeps (weighs_alt existing_keeps (weighs_alt casting_keeps (weighs_alt choosing_keeps raising_keeps)))))
+
+  signed_other_keeps : Keeps Within signed_other
+  unfolding signed_other
+  signed_other_keeps = weighs_alt (weighs_both one_token signed_primary_keeps (λ m n t x h q. let e = with_signs-size (t ∷ []) x in omega arith)) other_primary_keeps
+
+  pub other_expr_keeps : Keeps Within other_expr
+  unfolding other_expr
+  other_expr_keeps = weighs_alt
+      (weighs_both {P = λ n t. n ≡ 1} {Q = λ n p. (t : Token) → size_of (negated_first (t, p)) ≤ 1 + n} one_token
+      (weighs_seq negation_keeps (then_adds (λ fs x. applied x fs) more_conjunction_adds more_expr_adds)
+      (λ m n x p h q t. let e = with_nots-size (t ∷ []) x in let f = q (1 + m) (with_nots (t ∷ []) x) (omega arith) in omega arith))
+      (λ m n t p h q. let e = q t in omega arith))
+      (weighs_both signed_other_keeps tails_add (λ m n x f p q. q m x p))
 
   -- ---- between brackets
 
@@ -330,54 +364,18 @@ module _ (inner : (A : Type 0) → Name A → Lang A) (known : (A : Type 0) (n :
   unfolding otherwise
   otherwise_keeps = maybe_keeps (after_one {Q = Within} expr_keeps (λ n a h. omega arith)) (omega arith) (λ n a h. h)
 
-  case_keeps : Keeps (λ n e. Within (n + 2) e) case
+  pub case_keeps : Keeps (λ n e. Within (n + 2) e) case
   unfolding case
   case_keeps = weighs_alt
       (weighs_both arms_keep otherwise_keeps (λ m n a b p q. let e = size_of-Case None a b in omega arith))
       (weighs_both expr_keeps (weighs_seq {R = λ n p. total (map size_of_arm p.0) + size_of_filter p.1 ≤ n} arms_keep otherwise_keeps (λ m n a b p q. omega arith)) (λ m n a b p q. let e = size_of-Case (Some a) b.0 b.1 in omega arith))
 
-  some_arguments_keep : Keeps (λ n p. Together n p.1) some_arguments
+  pub some_arguments_keep : Keeps (λ n p. Together n p.1) some_arguments
   unfolding some_arguments
   some_arguments_keep = weighs_alt (weighs_to one_token (λ n t h. omega arith)) (weighs_alt (weighs_to (after_one {Q = Together} exprs_keep (λ n a h. omega arith)) (λ n es h. h)) (weighs_to exprs_keep (λ n es h. h)))
 
-  raise_what_keeps : Keeps Within raise_what
+  pub raise_what_keeps : Keeps Within raise_what
   unfolding raise_what
   raise_what_keeps = weighs_alt
       (weighs_to one_token (λ n t h. let e = size_of-RaiseIgnore in omega arith))
       (weighs_to (after_one {P = SomeToken} {Q = SomeToken} (after_one {Q = SomeToken} one_token (λ n a h. omega arith)) (λ n a h. omega arith)) (λ n t h. let e = size_of-RaiseAbort t in omega arith))
-
-  -- ---- between brackets of a statement
-
-  column_keeps : Keeps SomeToken column
-  unfolding column
-  column_keeps = weighs_both one_token anything (λ m n a b p q. omega arith)
-
-  all_columns_keep : Keeps AsMany all_columns
-  unfolding all_columns
-  all_columns_keep = list_keeps column_keeps (λ n a h. omega arith) (omega arith) (λ m n a more p q. omega arith)
-
-  signed_keeps : Keeps SomeToken signed
-  unfolding signed
-  signed_keeps = weighs_both anything one_token (λ m n a b p q. omega arith)
-
-  signed_literal_keeps : Keeps SomeToken signed_literal
-  unfolding signed_literal
-  signed_literal_keeps = weighs_alt (weighs_to one_token (λ n t h. omega arith)) (weighs_to signed_keeps (λ n a h. h))
-
-  all_literals_keep : Keeps AsMany all_literals
-  unfolding all_literals
-  all_literals_keep = list_keeps signed_literal_keeps (λ n a h. omega arith) (omega arith) (λ m n a more p q. omega arith)
-
-  -- ---- each name
-
-  pub enclosed_within : (A : Type 0) (n : Name A) → Keeps (Enclosed A n) (rules A n)
-  enclosed_within A parenthesized = expr_keeps
-  enclosed_within A arguments = weighs_to (maybe_keeps {Q = λ n o. Together n (or_no_arguments o).1} some_arguments_keep (omega arith) (λ n a h. h)) (λ n o h. h)
-  enclosed_within A condition = after_one expr_keeps (λ n a h. omega arith)
-  enclosed_within A cast = weighs_seq expr_keeps anything (λ m n a b p q. omega arith)
-  enclosed_within A choice = case_keeps
-  enclosed_within A members = weighs_to (maybe_keeps {Q = λ n o. Together n (or_none o)} exprs_keep (omega arith) (λ n a h. h)) (λ n o h. h)
-  enclosed_within A sizes = anything
-  enclosed_within A raise = raise_what_keeps
-  enclosed_within A columns = all_columns_keep
-  enclosed_within A row = all_literals_keep

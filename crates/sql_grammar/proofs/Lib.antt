@@ -6,8 +6,12 @@ pub mod Alike
 pub mod Clear
 pub mod ExpressionLaws
 pub mod StatementLaws
-pub mod SizeClauses
 pub mod Weights
+pub mod SizeClauses
 pub mod ExpressionSizes
 pub mod StatementSizes
 pub mod SizeLaws
+pub mod FactoredExpressions
+pub mod FactoredStatements
+pub mod FactoredResults
+pub mod FactoredQueries

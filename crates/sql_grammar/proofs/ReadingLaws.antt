@@ -1,5 +1,5 @@
 -- The laws of each form of rule.
-use Rattle.std.proofs.Common.{◌≡◌, ℕ, zero, suc, ◌-◌, ◌<◌, ◌≤◌, length-append, ◌||◌, max, Bool, true, false, List, [], ◌∷◌, ◌++◌, length, if◌then◌else◌, None, is_some, Result, Ok, Err, refl, sym, ◌∙◌, ap, subst, append_assoc, append-nil, arith, ◌⊎◌, inl, inr}
+use Rattle.std.proofs.Common.{◌≡◌, ℕ, zero, suc, take, ◌-◌, ◌<◌, ◌≤◌, length-append, ◌||◌, max, Bool, true, false, List, [], ◌∷◌, ◌++◌, length, if◌then◌else◌, None, is_some, Result, Ok, Err, refl, sym, ◌∙◌, ap, subst, append_assoc, append-nil, arith, ◌⊎◌, inl, inr}
 use Rattle.sql_tree.specs.declared.token.Token.{Token}
 use Rattle.sql_tree.specs.declared.token.TokenKind.{TokenKind}
 use Rattle.sql_grammar.specs.declared.counts.Limit.{Limit}
@@ -7,7 +7,7 @@ use Rattle.sql_grammar.specs.declared.counts.Role.{Role}
 use Rattle.sql_grammar.specs.declared.counts.Counts.{Counts}
 use Rattle.sql_grammar.specs.Kinds.{all_kinds}
 use Rattle.sql_grammar.specs.Marks.{count, Mark, stays, opens, closes, Marked, marked, plain, Run, Fits, Past, counted, step, run_on, run}
-use Rattle.sql_grammar.specs.Rules.{Kinds, has, starts, Lang, Tok, To, Loop, Fork, Parser, Outcome, Done, Stop, Fail, Wrong, Over, ◌>>=◌, one, on, all_of, some_kind}
+use Rattle.sql_grammar.specs.Rules.{Kinds, has, starts, Lang, Tok, To, Made, before, Loop, Fork, Parser, Outcome, Done, Stop, Fail, Wrong, Over, ◌>>=◌, one, on, all_of, some_kind}
 use Rattle.sql_grammar.specs.Exact.{Begins, again, rest_of, replace, Covers, Means, Found, Reads, same_level}
 
 pub bool_cases : (b : Bool) → (b ≡ true) ⊎ (b ≡ false)
@@ -218,6 +218,37 @@ module _ {A B : Type 0} (up : ℕ → ℕ) (f : A → B) (P : ℕ → Parser A) 
 
   pub to_reads : ((k : Counts) (ts : List Token) → Reads up P L d k ts) → (k : Counts) (ts : List Token) → Reads up fP fL d k ts
   to_reads p k ts = to_from k ts (p k ts).0 (p k ts).1
+
+-- ---- a function of the tree and of its tokens
+
+take_front : (v rest : List Token) → take (length v) (v ++ rest) ≡ v
+take_front [] rest = refl
+take_front (t ∷ v) rest = ap (λ (u : List Token). t ∷ u) (take_front v rest)
+
+pub before_front : (v rest : List Token) → before (v ++ rest) rest ≡ v
+before_front v rest = let n : length (v ++ rest) - length rest ≡ length v = omega (arith, length-append v rest) in rw n (take_front v rest)
+
+module _ {A B : Type 0} (up : ℕ → ℕ) (f : A → List Token → B) (P : ℕ → Parser A) (L : ℕ → Lang A) (d : ℕ) where
+  abbrev oP : ℕ → Parser B
+  oP = λ e k ts. P e k ts >>= λ a c rest. Done (f a (before ts rest)) c rest
+
+  abbrev oL : ℕ → Lang B
+  oL = λ e. Made f (L e)
+
+  begins_over : (w : List Marked) → Begins L w → Begins oL w
+  begins_over w b = (b.0, b.1, f b.2 (plain (w ++ b.1)), (b.2, b.3, refl))
+
+  over_done : (e : ℕ) (k c : Counts) (ts rest : List Token) (a : A) (w : List Marked) → ts ≡ plain w ++ rest → P e k ts ≡ Done a c rest → oP e k ts ≡ Done (f a (plain w)) c rest
+  over_done e k c ts rest a w split is = ap (λ r. r >>= λ a c rest. Done (f a (before ts rest)) c rest) is ∙ ap (λ (v : List Token). Done (f a v) c rest) (ap (λ (v : List Token). before v rest) split ∙ before_front (plain w) rest)
+
+  over_from : (k : Counts) (ts : List Token) (o : Outcome A) → Found up P L d k ts o → Reads up oP oL d k ts
+  over_from k ts (Done a c rest) r = (Done (f a (plain r.w)) c rest, record { is = over_done d k c ts rest a r.w r.split r.is; w = r.w; split = r.split; means = ((a, r.means.0, refl), r.means.1); same = λ h x i. over_done h k c (plain r.w ++ again rest x) (again rest x) a r.w refl (r.same h x i) })
+  over_from k ts (Stop Wrong rest) r = (Fail rest, record { is = ap (λ r. r >>= λ a c rest. Done (f a (before ts rest)) c rest) r.is; w = r.w; split = r.split; means = (begins_over r.w r.means.0, r.means.1); same = λ h x i. ap (λ o. o >>= λ a c end. Done (f a (before (plain r.w ++ again rest x) end)) c end) (r.same h x i) })
+  over_from k ts (Stop (Over l) []) r = absurd r.means
+  over_from k ts (Stop (Over l) (t ∷ rest)) r = (Stop (Over l) (t ∷ rest), record { is = ap (λ r. r >>= λ a c rest. Done (f a (before ts rest)) c rest) r.is; w = r.w; split = r.split; means = (r.means.0, begins_over (r.w ++ marked r.means.0 t ∷ []) r.means.1, r.means.2); same = λ h x i. ap (λ o. o >>= λ a c end. Done (f a (before (plain r.w ++ t ∷ x) end)) c end) (r.same h x i) })
+
+  pub over_reads : ((k : Counts) (ts : List Token) → Reads up P L d k ts) → (k : Counts) (ts : List Token) → Reads up oP oL d k ts
+  over_reads p k ts = over_from k ts (p k ts).0 (p k ts).1
 
 -- ---- one of two
 

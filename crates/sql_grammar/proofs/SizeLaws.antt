@@ -5,12 +5,13 @@ use Rattle.sql_tree.specs.declared.expr.Expr.{Expr}
 use Rattle.sql_tree.specs.declared.statement.Statement.{Statement}
 use Rattle.sql_tree.specs.declared.token.Token.{Token}
 use Rattle.sql_grammar.specs.Expressions as expressions
-use Rattle.sql_grammar.specs.Grammar.{Name, rules}
+use Rattle.sql_grammar.specs.Grammar.{Name}
+use Rattle.sql_grammar.specs.Bodies.{rules}
 use Rattle.sql_grammar.specs.Rules.{nested}
 use Rattle.sql_grammar.specs.StatementTexts as statements
 use Rattle.sql_grammar.proofs.Weights.{plain_keeps_length, weighs_nested}
-use Rattle.sql_grammar.proofs.ExpressionSizes.{Enclosed, enclosed_within, expr_keeps}
-use Rattle.sql_grammar.proofs.StatementSizes.{statement_keeps}
+use Rattle.sql_grammar.proofs.ExpressionSizes.{Enclosed, expr_keeps}
+use Rattle.sql_grammar.proofs.StatementSizes.{enclosed_within, statement_keeps}
 
 pub expression_within : (tokens : List Token) (tree : Expr) → expressions.HasTree tokens tree → size_of tree ≤ length tokens
 expression_within tokens tree t =

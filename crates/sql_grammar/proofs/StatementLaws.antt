@@ -1,21 +1,16 @@
 -- The grammar of statements is read exactly.
-use Rattle.std.proofs.Common.{◌≡◌, ℕ, true, List, refl}
+use Rattle.std.proofs.Common.{◌≡◌, ℕ, List}
 use Rattle.sql_tree.specs.declared.statement.Statement.{Statement}
 use Rattle.sql_tree.specs.declared.token.Token.{Token}
 use Rattle.sql_grammar.specs.declared.counts.TheConstants.{MAX_NESTINGS}
 use Rattle.sql_grammar.specs.Answers.{Answer, whole}
-use Rattle.sql_grammar.specs.Grammar.{Name, rules}
+use Rattle.sql_grammar.specs.Grammar.{Name}
+use Rattle.sql_grammar.specs.Bodies.{rules}
 use Rattle.sql_grammar.specs.Marks.{Marked, plain, start}
-use Rattle.sql_grammar.specs.Rules.{is_clear}
-use Rattle.sql_grammar.specs.Statements.{statement, all_statement_rules}
+use Rattle.sql_grammar.specs.Statements.{statement}
 use Rattle.sql_grammar.specs.StatementTexts.{IsStatement, AnswersAs, HasTree, read_statement}
-use Rattle.sql_grammar.proofs.Clear.{clear, rich}
+use Rattle.sql_grammar.proofs.Clear.{clear, rich, statement_clear}
 use Rattle.sql_grammar.proofs.Whole.{one_tree, only_meets, some_answer}
-
--- one token of look-ahead tells what to do
-pub statement_clear : is_clear Name rules statement ≡ true
-unfolding all_statement_rules
-statement_clear = refl
 
 pub an_answer : (tokens : List Token) → (x : Answer Statement) × AnswersAs tokens x
 an_answer tokens = some_answer Name rules clear rich statement statement_clear MAX_NESTINGS start tokens

@@ -8,10 +8,10 @@ use Rattle.sql_grammar.specs.declared.counts.Role.{Role}
 use Rattle.sql_grammar.specs.declared.counts.Counts.{Counts}
 use Rattle.sql_grammar.specs.Kinds.{all_kinds}
 use Rattle.sql_grammar.specs.Marks.{count, Mark, stays, opens, closes, Marked, marked, plain, Run, Fits, Past, counted, step, run_on, run}
-use Rattle.sql_grammar.specs.Rules.{Kinds, join, has, starts, Lang, Tok, Loop, To, Rule, tok, pure, seq, fork, Fork, pick, pick_kinds, pick_read, alt, many, until, to, nest, Parser, Outcome, Done, Stop, Fail, Wrong, Over, ◌>>=◌, taken, one, both, all_of, body, opening, some_kind, can_be_empty, first, more, apart, is_clear, nested, derives, reads}
+use Rattle.sql_grammar.specs.Rules.{Kinds, join, has, starts, Lang, Tok, Loop, To, Rule, tok, pure, seq, fork, Fork, pick, pick_kinds, pick_read, alt, many, until, to, over, nest, before, Parser, Outcome, Done, Stop, Fail, Wrong, Over, ◌>>=◌, taken, one, both, all_of, body, opening, some_kind, can_be_empty, first, more, apart, is_clear, nested, derives, reads}
 use Rattle.sql_grammar.specs.Answers.{Answer, Tree, Syntax, TooMuch, whole, IsTree, NoneBegins, IsFirstWrong, IsFirstPast, Meets}
 use Rattle.sql_grammar.specs.Exact.{Begins, rest_of, Found, Reads, same_level}
-use Rattle.sql_grammar.proofs.ReadingLaws.{Cuts, alike, less_first, more_first, cuts, past_length, plain_length, plain_split, bool_cases, plain_append, plain_assoc, run_more, run_append, fits_then, left_of_max, right_of_max, one_reads, some_token, on_reads, to_reads, alt_reads, loop_reads, chosen, other, none_of, one_turn, turn_step, add_one}
+use Rattle.sql_grammar.proofs.ReadingLaws.{Cuts, alike, less_first, more_first, cuts, past_length, plain_length, plain_split, bool_cases, plain_append, plain_assoc, run_more, run_append, fits_then, left_of_max, right_of_max, one_reads, some_token, on_reads, to_reads, over_reads, before_front, alt_reads, loop_reads, chosen, other, none_of, one_turn, turn_step, add_one}
 use Rattle.sql_grammar.proofs.KindSets.{and_true, or_right, not_true, starts_apart, apart_has}
 use Rattle.sql_grammar.proofs.Derivations.{empty_law, first_law, grows, begins_pick, pick_grows}
 
@@ -45,6 +45,7 @@ module _ (N : Type 0 → Type 1) (rules : (A : Type 0) → N A → Rule N A) whe
     productive (many r) h = (0, [], [], refl)
     productive (until r f s) h = (0, [], [], refl)
     productive (to f r) h = let b = productive r h in (b.0, b.1, f b.2, (b.2, b.3, refl))
+    productive (over f r) h = let b = productive r h in (b.0, b.1, f b.2 (plain b.1), (b.2, b.3, refl))
     productive (nest {A} m o n k c) h =
         let p = and_true (is_some (some_kind o all_kinds)) _ h in
         let q = and_true (is_some (some_kind c all_kinds)) _ p.1 in
@@ -191,6 +192,7 @@ module _ (N : Type 0 → Type 1) (rules : (A : Type 0) → N A → Rule N A) whe
           loop_reads (λ b. pick_kinds b (first s) (first r)) f (λ b e. pick_read b (R s e) (R r e)) (λ b e. pick b (D s e) (D r e)) (λ b. pick_grows N rules b s r) (pick_solid r s u.0 v.0) d
           (λ b. pick_reads (R s) (R r) (D s) (D r) d b (rule_reads s q.0) (rule_reads r p.0)) false i ts
       rule_reads (to f r) h i ts = to_reads same_level f (R r) (D r) d (rule_reads r h) i ts
+      rule_reads (over f r) h i ts = over_reads same_level f (R r) (D r) d (rule_reads r h) i ts
       rule_reads (nest {A} m o n k c) h i ts = inner A m o n k c h i ts
 
     inner_reads : (d : ℕ) (A : Type 0) (m : Role) (o : Kinds) (n : N A) (k : Role) (c : Kinds) → is_clear N rules (nest m o n k c) ≡ true → (i : Counts) (ts : List Token) → Reads same_level (W m o n k c) (WL m o n k c) d i ts
@@ -253,6 +255,11 @@ module _ (N : Type 0 → Type 1) (rules : (A : Type 0) → N A → Rule N A) whe
   ended_to : {A B : Type 0} (f : A → B) (a : A) (rest : List Token) (r : Run) → (ended a rest r >>= λ x c end. Done (f x) c end) ≡ ended (f a) rest r
   ended_to f a rest (Fits e c) = refl
   ended_to f a rest (Past l u) = refl
+
+  -- `v` are the tokens in front of the rest
+  ended_over : {A B : Type 0} (f : A → List Token → B) (a : A) (v rest : List Token) (r : Run) → (ended a rest r >>= λ x c end. Done (f x (before (v ++ rest) end)) c end) ≡ ended (f a v) rest r
+  ended_over f a v rest (Fits e c) = ap (λ (u : List Token). Done (f a u) c rest) (before_front v rest)
+  ended_over f a v rest (Past l u) = refl
 
   after_ended : {A B : Type 0} (d u : ℕ) (k : Counts) (xs ys : List Marked) (rest : List Token) (a : A) (b : B) (o : Outcome A) (g : A → Parser B)
       → o ≡ ended a (plain ys ++ rest) (run d k xs) → Level d (run d k xs) → ((c : Counts) → (g a c (plain ys ++ rest) ≡ ended b rest (run d c ys)) × Level u (run d c ys))
@@ -467,6 +474,9 @@ module _ (N : Type 0 → Type 1) (rules : (A : Type 0) → N A → Rule N A) whe
       rule_takes {A} (to f r) h w a rest k l i =
           let one = rule_takes r h w l.0 rest k l.1 i in
           (ap (λ o. o >>= λ a c rest. Done (f a) c rest) one.0 ∙ ended_to f l.0 rest (run d k w) ∙ ap (λ (b : A). ended b rest (run d k w)) (sym l.2), one.1)
+      rule_takes {A} (over f r) h w a rest k l i =
+          let one = rule_takes r h w l.0 rest k l.1 i in
+          (ap (λ o. o >>= λ a c end. Done (f a (before (plain w ++ rest) end)) c end) one.0 ∙ ended_over f l.0 (plain w) rest (run d k w) ∙ ap (λ (b : A). ended b rest (run d k w)) (sym l.2), one.1)
       rule_takes (nest {A} m o n z c) h w a rest k l i =
           let p = and_true (is_some (some_kind o all_kinds)) _ h in
           let q = and_true (is_some (some_kind c all_kinds)) _ p.1 in

@@ -45,3 +45,8 @@ abbrev pub Meets : {A : Type 0} → (ℕ → Lang A) → ℕ → Counts → List
 Meets L d k ts (Tree a) = IsTree L d k ts a
 Meets L d k ts (Syntax rest) = IsFirstWrong L d k ts rest
 Meets L d k ts (TooMuch l rest) = IsFirstPast L d k l ts rest
+
+-- The byte where these tokens begin. The end is one of them, at the text's length.
+abbrev pub place : ℕ → List Token → ℕ
+place len [] = len
+place len (t ∷ ts) = t.span.start

@@ -4,7 +4,8 @@ use Rattle.sql_tree.specs.declared.expr.Expr.{Expr}
 use Rattle.sql_tree.specs.declared.token.Token.{Token}
 use Rattle.sql_grammar.specs.declared.counts.TheConstants.{MAX_NESTINGS}
 use Rattle.sql_grammar.specs.Answers.{Answer, IsTree, Meets}
-use Rattle.sql_grammar.specs.Grammar.{Name, rules, expr}
+use Rattle.sql_grammar.specs.Grammar.{Name, expr}
+use Rattle.sql_grammar.specs.Bodies.{rules}
 use Rattle.sql_grammar.specs.Marks.{start}
 use Rattle.sql_grammar.specs.Rules.{Lang, Parser, derives, reads}
 

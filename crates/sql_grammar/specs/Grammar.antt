@@ -1,5 +1,6 @@
--- The grammar of expressions, as rules with the trees that they make (SQL Language Expressions), and what stands in brackets anywhere.
-use Rattle.std.specs.Prelude.{List, [], ◌∷◌, Option, Some, None, fold}
+-- The grammar of expressions, as rules with the trees that they make (SQL Language Expressions). What stands in brackets is in Bodies.
+use Rattle.std.specs.Prelude.{ℕ, List, [], ◌∷◌, Option, Some, None, fold}
+use Rattle.sql_tree.specs.declared.token.Span.{Span}
 use Rattle.sql_tree.specs.declared.token.Token.{Token}
 use Rattle.sql_tree.specs.declared.token.TokenKind.{TokenKind}
 use Rattle.sql_tree.specs.declared.token.TokenKind.TheVariants as kind
@@ -14,18 +15,27 @@ use Rattle.sql_tree.specs.declared.expr.SignedNumber.{SignedNumber}
 use Rattle.sql_tree.specs.declared.expr.TypeName.{TypeName}
 use Rattle.sql_tree.specs.declared.expr.UnaryOp.{UnaryOp}
 use Rattle.sql_tree.specs.declared.expr.UnaryOp.TheVariants as unary
-use Rattle.sql_tree.specs.declared.statement.ColumnDefinition.{ColumnDefinition}
-use Rattle.sql_tree.specs.declared.statement.SignedLiteral.{SignedLiteral}
+use Rattle.sql_tree.specs.declared.query.Query.{Query}
+use Rattle.sql_tree.specs.declared.statement.IndexedColumn.{IndexedColumn}
+use Rattle.sql_tree.specs.declared.statement.TableDefinition.{TableDefinition}
 use Rattle.sql_grammar.specs.declared.counts.Role.{Role}
 use Rattle.sql_grammar.specs.declared.counts.Role.TheVariants as role
 use Rattle.sql_grammar.specs.Rules.{Rule, tok, pure, seq, alt, many, to, nest, Kinds}
 
 -- what stands between an opening and a closing token
 pub data Name : Type 0 → Type 1 where
-  -- `( expr )`
+  -- `( expr )` or `( query )` as an operand
   parenthesized : Name Expr
+  -- `( query )`
+  subquery : Name Query
+  -- `( expr )` of a constraint
+  expression : Name Expr
+  -- `VALUES ( .. )`
+  row : Name (List Expr)
   -- `name ( .. )`
   arguments : Name (Arguments × List Expr)
+  -- `FROM name ( .. )`
+  table_arguments : Name (List Expr)
   -- `FILTER ( WHERE expr )`
   condition : Name Expr
   -- `CAST ( expr AS type )`
@@ -33,20 +43,39 @@ pub data Name : Type 0 → Type 1 where
   -- `CASE .. END`
   choice : Name Expr
   -- `IN ( .. )`
-  members : Name (List Expr)
+  members : Name (Expr → Expr)
   -- `type ( .. )`
   sizes : Name (List SignedNumber)
   -- `RAISE ( .. )`
   raise : Name Expr
+  -- `( name, .. )`
+  name_list : Name (List Token)
   -- `CREATE TABLE name ( .. )`
-  columns : Name (List ColumnDefinition)
-  -- `VALUES ( .. )`
-  row : Name (List SignedLiteral)
+  columns : Name TableDefinition
+  -- `PRIMARY KEY ( .. )` and `UNIQUE ( .. )`
+  key_columns : Name (List IndexedColumn)
+  -- `CREATE INDEX .. ( .. )`
+  index_columns : Name (List IndexedColumn)
+  -- `USING module ( .. )`
+  module_arguments : Name (List (Option Span))
+  -- `( .. )` in an argument of a module
+  balanced : Name (Unit {0})
+  -- `PRAGMA name ( word )`
+  word : Name Token
 
 abbrev pub Of : Type 0 → Type 1
 Of A = Rule Name A
 
 -- ---- words of grammars
+
+-- the bytes from the first of these tokens to the last one
+abbrev pub last_end : Token → List Token → ℕ
+last_end t [] = t.span.end
+last_end t (u ∷ ts) = last_end u ts
+
+abbrev pub span_of : List Token → Span
+span_of [] = record { start = 0; end = 0 }
+span_of (t ∷ ts) = record { start = t.span.start; end = last_end t ts }
 
 -- [x]
 abbrev pub maybe : {A : Type 0} → Of A → Of (Option A)
@@ -151,15 +180,19 @@ enclosed = in_parentheses parenthesized
 unfoldable pub casting : Of Expr
 casting = to (λ p. e.Cast p.0 p.1) (after role.Quiet kind.Cast (in_parentheses cast))
 
+-- EXISTS "(" query ")"
+unfoldable pub existing : Of Expr
+existing = to e.Exists (after role.Quiet kind.Exists (in_parentheses subquery))
+
 unfoldable pub choosing : Of Expr
 choosing = nest role.Inward (kind.Case ∷ []) choice role.Outward (kind.End ∷ [])
 
 unfoldable pub raising : Of Expr
 raising = after role.Quiet kind.Raise (in_parentheses raise)
 
--- prim = literal | parameter | name .. | "(" expr ")" | CAST .. | CASE .. END | RAISE ..
+-- prim = literal | parameter | name .. | "(" expr ")" | "(" query ")" | EXISTS .. | CAST .. | CASE .. END | RAISE ..
 unfoldable pub primary : Of Expr
-primary = alt literal (alt parameter (alt named (alt enclosed (alt casting (alt choosing raising)))))
+primary = alt literal (alt parameter (alt named (alt enclosed (alt existing (alt casting (alt choosing raising))))))
 
 -- ---- operators, from the tightest on
 
@@ -289,9 +322,9 @@ like m = to (λ p l. e.Like l p.0 p.1) (after m kind.Like (seq relation (maybe (
 unfoldable pub glob : Role → Of (Expr → Expr)
 glob m = to (λ r l. e.Binary binary.Glob l r) (after m kind.Glob relation)
 
--- IN "(" [expr {"," expr}] ")"
+-- IN "(" [expr {"," expr} | query] ")"
 unfoldable pub member_of : Role → Of (Expr → Expr)
-member_of m = to (λ es l. e.In l es) (after m kind.In (in_parentheses members))
+member_of m = after m kind.In (in_parentheses members)
 
 -- BETWEEN, LIKE, GLOB, IN
 unfoldable pub positive_test : Role → Of (Expr → Expr)
@@ -356,6 +389,32 @@ expr = suffixed conjunction more_expr
 unfoldable pub exprs : Of (List Expr)
 exprs = list_of expr
 
+-- ---- an expression in two steps, for where its first token may begin something else: that of a name and what goes on behind it
+
+-- all that may stand behind an operand, from the tightest operator on
+abbrev pub Tails : Type 0
+Tails = List (Expr → Expr) × (List (Expr → Expr) × (List (Expr → Expr) × (List (Expr → Expr) × (List (Expr → Expr) × (List (Expr → Expr) × (List (Expr → Expr) × (List (Expr → Expr) × List (Expr → Expr))))))))
+
+abbrev pub with_tails : Tails → Expr → Expr
+with_tails p x = applied (applied (applied (applied (applied (applied (applied (applied (applied x p.0) p.1.0) p.1.1.0) p.1.1.1.0) p.1.1.1.1.0) p.1.1.1.1.1.0) p.1.1.1.1.1.1.0) p.1.1.1.1.1.1.1.0) p.1.1.1.1.1.1.1.1
+
+unfoldable pub tails : Of (Expr → Expr)
+tails = to with_tails (seq collations (seq more_concatenation (seq more_product (seq more_sum (seq more_bits (seq more_relation (seq tests (seq more_conjunction more_expr))))))))
+
+-- an operand that begins with no name
+unfoldable pub other_primary : Of Expr
+other_primary = alt literal (alt parameter (alt enclosed (alt existing (alt casting (alt choosing raising)))))
+
+unfoldable pub signed_other : Of Expr
+signed_other = alt (to (λ p. with_signs (p.0 ∷ []) p.1) (seq (tok role.Operator (kind.Minus ∷ kind.Plus ∷ kind.Tilde ∷ [])) signed_primary)) other_primary
+
+abbrev pub negated_first : Token × (Expr × (List (Expr → Expr) × List (Expr → Expr))) → Expr
+negated_first p = applied (applied (with_nots (p.0 ∷ []) p.1.0) p.1.1.0) p.1.1.1
+
+-- an expression that begins with no name
+unfoldable pub other_expr : Of Expr
+other_expr = alt (to negated_first (seq (tok role.Operator (kind.Not ∷ [])) (seq negation (seq more_conjunction more_expr)))) (to (λ p. p.1 p.0) (seq signed_other tails))
+
 -- ---- between brackets
 
 -- WHEN expr THEN expr
@@ -386,40 +445,7 @@ some_arguments =
 unfoldable pub raise_what : Of Expr
 raise_what = alt (to (λ t. e.RaiseIgnore) (tok role.Quiet (kind.Ignore ∷ []))) (to e.RaiseAbort (after role.Quiet kind.Abort (after role.Quiet kind.Comma (tok role.Quiet (kind.Text ∷ [])))))
 
--- ---- between brackets of a statement
-
--- name [type] (CREATE TABLE, Column Definitions)
-unfoldable pub column : Of ColumnDefinition
-column = to (λ p. record { name = p.0; type_name = p.1 }) (seq name (maybe type_name))
-
--- column {"," column}
-unfoldable pub all_columns : Of (List ColumnDefinition)
-all_columns = list_of column
-
-abbrev pub unsigned_kinds : Kinds
-unsigned_kinds = kind.Text ∷ kind.Blob ∷ kind.Null ∷ kind.True ∷ kind.False ∷ []
-
--- text | blob | NULL | TRUE | FALSE | [+ | -] number
-unfoldable pub signed_literal : Of SignedLiteral
-signed_literal = alt (to (λ t. record { sign = None; literal = t }) (tok role.Outside unsigned_kinds)) (to (λ n. record { sign = n.sign; literal = n.number }) signed)
-
--- literal {"," literal}
-unfoldable pub all_literals : Of (List SignedLiteral)
-all_literals = list_of signed_literal
-
-abbrev pub rules : (A : Type 0) → Name A → Of A
-rules A parenthesized = expr
-rules A arguments = to or_no_arguments (maybe some_arguments)
-rules A condition = after role.Quiet kind.Where expr
-rules A cast = seq expr (after role.Quiet kind.As type_name)
-rules A choice = case
-rules A members = to or_none (maybe exprs)
-rules A sizes = two_sizes
-rules A raise = raise_what
-rules A columns = all_columns
-rules A row = all_literals
-
--- opens every rule where a proof computes with them
+-- opens every rule of expressions where a proof computes with them
 unfoldable pub all_rules : Unit {0}
-unfolding signed two_sizes type_sizes type_words type_name literal parameter filter call of_table behind_name named enclosed casting choosing raising primary signs signed_primary collation collations collated more_concatenation concatenation more_product product more_sum sum more_bits bits more_relation relation equal_to distinct_from is_test between like glob member_of positive_test null_test negated test tests equality nots negation more_conjunction conjunction more_expr expr exprs arm arms otherwise case some_arguments raise_what column all_columns signed_literal all_literals
+unfolding signed two_sizes type_sizes type_words type_name literal parameter filter call of_table behind_name named enclosed existing casting choosing raising primary signs signed_primary collation collations collated more_concatenation concatenation more_product product more_sum sum more_bits bits more_relation relation equal_to distinct_from is_test between like glob member_of positive_test null_test negated test tests equality nots negation more_conjunction conjunction more_expr expr exprs tails other_primary signed_other other_expr arm arms otherwise case some_arguments raise_what
 all_rules = tt

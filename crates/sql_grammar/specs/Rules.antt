@@ -1,5 +1,5 @@
 -- Rules of a grammar: the trees that they derive from marked tokens, and how one token of look-ahead reads them.
-use Rattle.std.specs.Prelude.{◌≡◌, ℕ, nat_eq, zero, suc, Result, Ok, Err, Bool, true, false, not, ◌&&◌, ◌||◌, if◌then◌else◌, List, [], ◌∷◌, ◌++◌, length, ◌⊎◌, Option, Some, None, is_some}
+use Rattle.std.specs.Prelude.{◌≡◌, ℕ, ◌-◌, take, nat_eq, zero, suc, Result, Ok, Err, Bool, true, false, not, ◌&&◌, ◌||◌, if◌then◌else◌, List, [], ◌∷◌, ◌++◌, length, ◌⊎◌, Option, Some, None, is_some}
 use Rattle.sql_tree.specs.declared.token.Token.{Token}
 use Rattle.sql_tree.specs.declared.token.TokenKind.{TokenKind}
 use Rattle.sql_grammar.specs.Kinds.{all_kinds}
@@ -8,7 +8,7 @@ use Rattle.sql_grammar.specs.declared.counts.Limit.{Limit}
 use Rattle.sql_grammar.specs.declared.counts.Limit.TheVariants as limit
 use Rattle.sql_grammar.specs.declared.counts.Role.{Role}
 use Rattle.sql_grammar.specs.declared.counts.Counts.{Counts}
-use Rattle.sql_grammar.specs.Marks.{count, Mark, stays, opens, closes, Marked, marked}
+use Rattle.sql_grammar.specs.Marks.{count, Mark, stays, opens, closes, Marked, marked, plain}
 
 -- a set of kinds
 abbrev pub Kinds : Type 0
@@ -40,6 +40,8 @@ pub data Rule (N : Type 0 → Type 1) : Type 0 → Type 1 where
   -- any number of the first, and after one where the test holds any number of the second
   until : {A : Type 0} → Rule N A → (A → Bool) → Rule N A → Rule N (List A)
   to : {A B : Type 0} → (A → B) → Rule N A → Rule N B
+  -- a function of the tree and of its tokens
+  over : {A B : Type 0} → (A → List Token → B) → Rule N A → Rule N B
   -- an opening token, what is named, a closing token
   nest : {A : Type 0} → Role → Kinds → N A → Role → Kinds → Rule N A
 
@@ -67,6 +69,9 @@ Fork l m ts p = (xs ys : List Marked) × (ts ≡ xs ++ ys) × l xs p.0 × m p.0 
 abbrev pub To : {A B : Type 0} → (A → B) → Lang A → Lang B
 To {A} f l ts b = (a : A) × l ts a × (b ≡ f a)
 
+abbrev pub Made : {A B : Type 0} → (A → List Token → B) → Lang A → Lang B
+Made {A} f l ts b = (a : A) × l ts a × (b ≡ f a (plain ts))
+
 abbrev pub Between : {A : Type 0} → Role → Kinds → Lang A → Role → Kinds → Lang A
 Between m o l k c ts a = (t z : Token) × (xs : List Marked) × (ts ≡ marked (opens m) t ∷ (xs ++ marked (closes k) z ∷ [])) × (has o t.kind ≡ true) × (has c z.kind ≡ true) × l xs a
 
@@ -80,6 +85,7 @@ module _ (N : Type 0 → Type 1) (rules : (A : Type 0) → N A → Rule N A) whe
   derives_in inner (many r) ts found = Loop (λ b. derives_in inner r) (λ a. false) false ts found
   derives_in inner (until r f s) ts found = Loop (λ b. pick b (derives_in inner s) (derives_in inner r)) f false ts found
   derives_in inner (to f r) ts b = To f (derives_in inner r) ts b
+  derives_in inner (over f r) ts b = Made f (derives_in inner r) ts b
   derives_in inner (nest {A} m o n k c) ts a = Between m o (inner A n) k c ts a
 
   -- with at most so many nestings open
@@ -101,6 +107,7 @@ can_be_empty (alt r s) = can_be_empty r || can_be_empty s
 can_be_empty (many r) = true
 can_be_empty (until r f s) = true
 can_be_empty (to f r) = can_be_empty r
+can_be_empty (over f r) = can_be_empty r
 can_be_empty (nest m o n k c) = false
 
 -- the kinds that it begins with
@@ -113,6 +120,7 @@ first (alt r s) = join (first r) (first s)
 first (many r) = first r
 first (until r f s) = join (first r) (first s)
 first (to f r) = first r
+first (over f r) = first r
 first (nest m o n k c) = o
 
 -- the kinds that may make it longer
@@ -125,6 +133,7 @@ more (alt r s) = join (more r) (join (more s) (if can_be_empty s then first r el
 more (many r) = join (first r) (more r)
 more (until r f s) = join (join (first r) (more r)) (join (first s) (more s))
 more (to f r) = more r
+more (over f r) = more r
 more (nest m o n k c) = []
 
 abbrev pub apart : Kinds → Kinds → Bool
@@ -146,6 +155,7 @@ module _ (N : Type 0 → Type 1) (rules : (A : Type 0) → N A → Rule N A) whe
   is_clear (many r) = is_clear r && (not (can_be_empty r) && apart (more r) (first r))
   is_clear (until r f s) = is_clear r && (is_clear s && (not (can_be_empty r) && (not (can_be_empty s) && (apart (more r) (first r) && (apart (more r) (first s) && apart (more s) (first s))))))
   is_clear (to f r) = is_clear r
+  is_clear (over f r) = is_clear r
   is_clear (nest {A} m o n k c) = is_some (some_kind o all_kinds) && (is_some (some_kind c all_kinds) && apart (more (rules A n)) c)
 
 -- something is derived, where some inner names do
@@ -158,6 +168,7 @@ can_end inner (alt r s) = can_end inner r || can_end inner s
 can_end inner (many r) = true
 can_end inner (until r f s) = true
 can_end inner (to f r) = can_end inner r
+can_end inner (over f r) = can_end inner r
 can_end inner (nest {A} m o n k c) = inner A n
 
 module _ (N : Type 0 → Type 1) (rules : (A : Type 0) → N A → Rule N A) where
@@ -215,6 +226,10 @@ abbrev pub pick_kinds : Bool → Kinds → Kinds → Kinds
 pick_kinds true ks js = ks
 pick_kinds false ks js = js
 
+-- the tokens in front of a rest
+abbrev pub before : List Token → List Token → List Token
+before ts rest = take (length ts - length rest) ts
+
 -- as long as one of these kinds comes; the number bounds the turns, and each takes a token
 abbrev pub all_of : {A : Type 0} → (Bool → Kinds) → (Bool → Parser A) → (A → Bool) → ℕ → Bool → Parser (List A)
 all_of ks p f zero b c ts = Done [] c ts
@@ -235,6 +250,7 @@ module _ (N : Type 0 → Type 1) (rules : (A : Type 0) → N A → Rule N A) whe
   read_in inner (many r) c ts = all_of (λ b. first r) (λ b. read_in inner r) (λ a. false) (length ts) false c ts
   read_in inner (until r f s) c ts = all_of (λ b. pick_kinds b (first s) (first r)) (λ b. pick_read b (read_in inner s) (read_in inner r)) f (length ts) false c ts
   read_in inner (to f r) c ts = read_in inner r c ts >>= λ a d rest. Done (f a) d rest
+  read_in inner (over f r) c ts = read_in inner r c ts >>= λ a d rest. Done (f a (before ts rest)) d rest
   read_in inner (nest {A} m o n k z) c ts = if starts o ts then inner A n m k z c ts else Fail ts
 
   abbrev pub read_nested : ℕ → (A : Type 0) → N A → Role → Role → Kinds → Parser A

@@ -1,122 +1,248 @@
--- The trees of small statements, and the places of what is refused.
-use Rattle.std.specs.Prelude.{◌≡◌, List, [], ◌∷◌, Some, None, refl}
-use Rattle.sql_tree.specs.declared.token.TokenKind.{TokenKind}
+-- How other statements are read, by the trees of small texts.
+use Rattle.std.specs.Prelude.{◌≡◌, true, false, [], ◌∷◌, Some, None, refl}
 use Rattle.sql_tree.specs.declared.token.TokenKind.TheVariants as kind
-use Rattle.sql_tree.specs.declared.expr.BinaryOp.TheVariants as binary
-use Rattle.sql_tree.specs.declared.expr.Expr.TheVariants as e
-use Rattle.sql_tree.specs.declared.statement.ResultColumn.TheVariants as result_is
-use Rattle.sql_tree.specs.declared.statement.Statement.{Statement}
-use Rattle.sql_tree.specs.declared.statement.Statement.TheVariants as statement_is
-use Rattle.sql_grammar.specs.Answers.{Answer, Tree, Syntax, whole}
-use Rattle.sql_grammar.specs.Examples.{t, a, tokens_from}
-use Rattle.sql_grammar.specs.Marks.{start, count}
-use Rattle.sql_grammar.specs.Rules.{reads}
-use Rattle.sql_grammar.specs.Grammar.{Name, rules}
-use Rattle.sql_grammar.specs.Statements.{statement, all_statement_rules}
+use Rattle.sql_tree.specs.declared.statement.Command.TheVariants as command_is
+use Rattle.sql_tree.specs.declared.statement.Explain.TheVariants as explain_by
+use Rattle.sql_tree.specs.declared.statement.ObjectKind.TheVariants as object_kind
+use Rattle.sql_tree.specs.declared.statement.RowCommand.TheVariants as rows_by
+use Rattle.sql_tree.specs.declared.statement.Transaction.TheVariants as transaction_is
+use Rattle.sql_grammar.specs.Answers.{Tree}
+use Rattle.sql_grammar.specs.Marks.{count}
+use Rattle.sql_grammar.specs.ExampleWords.{t, word, select_one, plain_tree, asks, statement_of, WrongAt}
+use Rattle.sql_grammar.specs.Statements.{all_statement_rules}
 
-abbrev read : List TokenKind → Answer Statement
-read ks = whole (reads Name rules 100 statement start (tokens_from 0 ks))
+-- ---- EXPLAIN and the end
 
--- ---- trees
-
--- CREATE TABLE t(a)
-a_column : read (kind.Create ∷ kind.Table ∷ kind.Word ∷ kind.LeftParen ∷ kind.Word ∷ kind.RightParen ∷ []) ≡ Tree (statement_is.CreateTable (record { name = t kind.Word 2; columns = record { name = t kind.Word 4; type_name = None } ∷ [] }))
+-- SELECT a;
+ended : statement_of (kind.Select ∷ kind.Word ∷ kind.Semicolon ∷ []) ≡ asks (select_one 1)
 unfolding all_statement_rules count
-a_column = refl
+ended = refl
 
--- CREATE TABLE t(a b c(1), d);
-typed : read (kind.Create ∷ kind.Table ∷ kind.Word ∷ kind.LeftParen ∷ kind.Word ∷ kind.Word ∷ kind.Word ∷ kind.LeftParen ∷ kind.Number ∷ kind.RightParen ∷ kind.Comma ∷ kind.Word ∷ kind.RightParen ∷ kind.Semicolon ∷ [])
-    ≡ Tree (statement_is.CreateTable (record {
-      name = t kind.Word 2;
-      columns = record { name = t kind.Word 4; type_name = Some (record { words = t kind.Word 5 ∷ t kind.Word 6 ∷ []; sizes = record { sign = None; number = t kind.Number 8 } ∷ [] }) } ∷ record { name = t kind.Word 11; type_name = None } ∷ [];
-    }))
+-- EXPLAIN SELECT a
+explain : statement_of (kind.Explain ∷ kind.Select ∷ kind.Word ∷ []) ≡ Tree (record { explain = Some explain_by.Instructions; command = command_is.Rows (rows_by.Query (select_one 2)) })
 unfolding all_statement_rules count
-typed = refl
+explain = refl
 
--- INSERT INTO t VALUES(-1, 'b'), (NULL)
-two_rows : read (kind.Insert ∷ kind.Into ∷ kind.Word ∷ kind.Values ∷ kind.LeftParen ∷ kind.Minus ∷ kind.Number ∷ kind.Comma ∷ kind.Text ∷ kind.RightParen ∷ kind.Comma ∷ kind.LeftParen ∷ kind.Null ∷ kind.RightParen ∷ [])
-    ≡ Tree (statement_is.Insert (record {
-      table = t kind.Word 2;
-      rows = (record { sign = Some (t kind.Minus 5); literal = t kind.Number 6 } ∷ record { sign = None; literal = t kind.Text 8 } ∷ []) ∷ (record { sign = None; literal = t kind.Null 12 } ∷ []) ∷ [];
-    }))
+-- EXPLAIN QUERY PLAN DELETE FROM a;
+explain_query_plan : statement_of (kind.Explain ∷ kind.Query ∷ kind.Plan ∷ kind.Delete ∷ kind.From ∷ kind.Word ∷ kind.Semicolon ∷ [])
+    ≡ Tree (record { explain = Some explain_by.QueryPlan; command = command_is.Rows (rows_by.Delete (record { table = word 5; filter = None })) })
 unfolding all_statement_rules count
-two_rows = refl
+explain_query_plan = refl
 
--- SELECT 1
-a_number : read (kind.Select ∷ kind.Number ∷ []) ≡ Tree (statement_is.Select (record { results = result_is.Expression (e.Literal (t kind.Number 1)) ∷ []; from = None; filter = None }))
-unfolding all_statement_rules count
-a_number = refl
+-- ---- DROP
 
--- SELECT *, a FROM t WHERE b = c;
-filtered : read (kind.Select ∷ kind.Star ∷ kind.Comma ∷ kind.Word ∷ kind.From ∷ kind.Word ∷ kind.Where ∷ kind.Word ∷ kind.Equal ∷ kind.Word ∷ kind.Semicolon ∷ [])
-    ≡ Tree (statement_is.Select (record { results = result_is.All ∷ result_is.Expression (a 3) ∷ []; from = Some (t kind.Word 5); filter = Some (e.Binary binary.Equal (a 7) (a 9)) }))
+-- DROP TABLE a
+drop_table : statement_of (kind.Drop ∷ kind.Table ∷ kind.Word ∷ []) ≡ plain_tree (command_is.Remove (record { kind = object_kind.Table; if_exists = false; name = word 2 }))
 unfolding all_statement_rules count
-filtered = refl
+drop_table = refl
+
+-- DROP INDEX IF EXISTS a
+drop_index : statement_of (kind.Drop ∷ kind.Index ∷ kind.If ∷ kind.Exists ∷ kind.Word ∷ []) ≡ plain_tree (command_is.Remove (record { kind = object_kind.Index; if_exists = true; name = word 4 }))
+unfolding all_statement_rules count
+drop_index = refl
+
+-- DROP VIEW a
+drop_view : statement_of (kind.Drop ∷ kind.View ∷ kind.Word ∷ []) ≡ plain_tree (command_is.Remove (record { kind = object_kind.View; if_exists = false; name = word 2 }))
+unfolding all_statement_rules count
+drop_view = refl
+
+-- DROP TRIGGER IF EXISTS a
+drop_trigger : statement_of (kind.Drop ∷ kind.Trigger ∷ kind.If ∷ kind.Exists ∷ kind.Word ∷ []) ≡ plain_tree (command_is.Remove (record { kind = object_kind.Trigger; if_exists = true; name = word 4 }))
+unfolding all_statement_rules count
+drop_trigger = refl
+
+-- ---- transactions
+
+-- BEGIN
+begin : statement_of (kind.Begin ∷ []) ≡ plain_tree (command_is.Transaction transaction_is.Begin)
+unfolding all_statement_rules count
+begin = refl
+
+-- BEGIN TRANSACTION
+begin_transaction : statement_of (kind.Begin ∷ kind.Transaction ∷ []) ≡ plain_tree (command_is.Transaction transaction_is.Begin)
+unfolding all_statement_rules count
+begin_transaction = refl
+
+-- BEGIN DEFERRED TRANSACTION
+begin_deferred : statement_of (kind.Begin ∷ kind.Deferred ∷ kind.Transaction ∷ []) ≡ plain_tree (command_is.Transaction transaction_is.Begin)
+unfolding all_statement_rules count
+begin_deferred = refl
+
+-- BEGIN IMMEDIATE
+begin_immediate : statement_of (kind.Begin ∷ kind.Immediate ∷ []) ≡ plain_tree (command_is.Transaction transaction_is.Begin)
+unfolding all_statement_rules count
+begin_immediate = refl
+
+-- BEGIN EXCLUSIVE
+begin_exclusive : statement_of (kind.Begin ∷ kind.Exclusive ∷ []) ≡ plain_tree (command_is.Transaction transaction_is.Begin)
+unfolding all_statement_rules count
+begin_exclusive = refl
+
+-- COMMIT
+commit : statement_of (kind.Commit ∷ []) ≡ plain_tree (command_is.Transaction transaction_is.Commit)
+unfolding all_statement_rules count
+commit = refl
+
+-- END TRANSACTION
+end_transaction : statement_of (kind.End ∷ kind.Transaction ∷ []) ≡ plain_tree (command_is.Transaction transaction_is.Commit)
+unfolding all_statement_rules count
+end_transaction = refl
+
+-- ROLLBACK TRANSACTION
+rollback : statement_of (kind.Rollback ∷ kind.Transaction ∷ []) ≡ plain_tree (command_is.Transaction transaction_is.Rollback)
+unfolding all_statement_rules count
+rollback = refl
+
+-- ROLLBACK TO a
+rollback_to : statement_of (kind.Rollback ∷ kind.To ∷ kind.Word ∷ []) ≡ plain_tree (command_is.Transaction (transaction_is.RollbackTo (word 2)))
+unfolding all_statement_rules count
+rollback_to = refl
+
+-- ROLLBACK TRANSACTION TO SAVEPOINT a
+rollback_to_savepoint : statement_of (kind.Rollback ∷ kind.Transaction ∷ kind.To ∷ kind.Savepoint ∷ kind.Word ∷ []) ≡ plain_tree (command_is.Transaction (transaction_is.RollbackTo (word 4)))
+unfolding all_statement_rules count
+rollback_to_savepoint = refl
+
+-- SAVEPOINT a
+savepoint : statement_of (kind.Savepoint ∷ kind.Word ∷ []) ≡ plain_tree (command_is.Transaction (transaction_is.Savepoint (word 1)))
+unfolding all_statement_rules count
+savepoint = refl
+
+-- RELEASE a
+release : statement_of (kind.Release ∷ kind.Word ∷ []) ≡ plain_tree (command_is.Transaction (transaction_is.Release (word 1)))
+unfolding all_statement_rules count
+release = refl
+
+-- RELEASE SAVEPOINT a
+release_savepoint : statement_of (kind.Release ∷ kind.Savepoint ∷ kind.Word ∷ []) ≡ plain_tree (command_is.Transaction (transaction_is.Release (word 2)))
+unfolding all_statement_rules count
+release_savepoint = refl
+
+-- ---- PRAGMA
+
+-- PRAGMA a
+pragma : statement_of (kind.Pragma ∷ kind.Word ∷ []) ≡ plain_tree (command_is.Pragma (record { name = word 1; value = None }))
+unfolding all_statement_rules count
+pragma = refl
+
+-- PRAGMA a = ON
+pragma_of_a_reserved_word : statement_of (kind.Pragma ∷ kind.Word ∷ kind.Equal ∷ kind.On ∷ []) ≡ plain_tree (command_is.Pragma (record { name = word 1; value = Some (t kind.On 3) }))
+unfolding all_statement_rules count
+pragma_of_a_reserved_word = refl
+
+-- PRAGMA a (b)
+pragma_in_parentheses : statement_of (kind.Pragma ∷ kind.Word ∷ kind.LeftParen ∷ kind.Word ∷ kind.RightParen ∷ []) ≡ plain_tree (command_is.Pragma (record { name = word 1; value = Some (word 3) }))
+unfolding all_statement_rules count
+pragma_in_parentheses = refl
 
 -- ---- what is refused
 
 -- no tokens
-nothing : read [] ≡ Syntax []
+nothing : WrongAt 0 []
 unfolding all_statement_rules count
 nothing = refl
 
 -- ;
-only_an_end : read (kind.Semicolon ∷ []) ≡ Syntax (t kind.Semicolon 0 ∷ [])
+only_an_end : WrongAt 0 (kind.Semicolon ∷ [])
 unfolding all_statement_rules count
 only_an_end = refl
 
--- SELECT 1;;
-two_ends : read (kind.Select ∷ kind.Number ∷ kind.Semicolon ∷ kind.Semicolon ∷ []) ≡ Syntax (t kind.Semicolon 3 ∷ [])
+-- SELECT a;;
+two_ends : WrongAt 3 (kind.Select ∷ kind.Word ∷ kind.Semicolon ∷ kind.Semicolon ∷ [])
 unfolding all_statement_rules count
 two_ends = refl
 
--- CREATE TABLE t()
-no_column : read (kind.Create ∷ kind.Table ∷ kind.Word ∷ kind.LeftParen ∷ kind.RightParen ∷ []) ≡ Syntax (t kind.RightParen 4 ∷ [])
+-- SELECT a; SELECT b
+two_statements : WrongAt 3 (kind.Select ∷ kind.Word ∷ kind.Semicolon ∷ kind.Select ∷ kind.Word ∷ [])
 unfolding all_statement_rules count
-no_column = refl
+two_statements = refl
 
--- CREATE INDEX t
-no_table : read (kind.Create ∷ kind.Index ∷ kind.Word ∷ []) ≡ Syntax (t kind.Index 1 ∷ t kind.Word 2 ∷ [])
+-- a
+an_expression : WrongAt 0 (kind.Word ∷ [])
 unfolding all_statement_rules count
-no_table = refl
+an_expression = refl
 
--- CREATE TABLE t(a PRIMARY KEY)
-a_constraint : read (kind.Create ∷ kind.Table ∷ kind.Word ∷ kind.LeftParen ∷ kind.Word ∷ kind.Primary ∷ kind.Key ∷ kind.RightParen ∷ []) ≡ Syntax (t kind.Primary 5 ∷ t kind.Key 6 ∷ t kind.RightParen 7 ∷ [])
+-- EXPLAIN EXPLAIN SELECT a
+explain_twice : WrongAt 1 (kind.Explain ∷ kind.Explain ∷ kind.Select ∷ kind.Word ∷ [])
 unfolding all_statement_rules count
-a_constraint = refl
+explain_twice = refl
 
--- INSERT INTO t VALUES()
-no_literal : read (kind.Insert ∷ kind.Into ∷ kind.Word ∷ kind.Values ∷ kind.LeftParen ∷ kind.RightParen ∷ []) ≡ Syntax (t kind.RightParen 5 ∷ [])
+-- EXPLAIN PLAN SELECT a
+explain_plan : WrongAt 1 (kind.Explain ∷ kind.Plan ∷ kind.Select ∷ kind.Word ∷ [])
 unfolding all_statement_rules count
-no_literal = refl
+explain_plan = refl
 
--- INSERT INTO t VALUES(-'a')
-signed_text : read (kind.Insert ∷ kind.Into ∷ kind.Word ∷ kind.Values ∷ kind.LeftParen ∷ kind.Minus ∷ kind.Text ∷ kind.RightParen ∷ []) ≡ Syntax (t kind.Text 6 ∷ t kind.RightParen 7 ∷ [])
+-- EXPLAIN QUERY SELECT a
+explain_query : WrongAt 2 (kind.Explain ∷ kind.Query ∷ kind.Select ∷ kind.Word ∷ [])
 unfolding all_statement_rules count
-signed_text = refl
+explain_query = refl
 
--- INSERT INTO t(a) VALUES(1)
-named_columns : read (kind.Insert ∷ kind.Into ∷ kind.Word ∷ kind.LeftParen ∷ kind.Word ∷ kind.RightParen ∷ kind.Values ∷ kind.LeftParen ∷ kind.Number ∷ kind.RightParen ∷ [])
-    ≡ Syntax (t kind.LeftParen 3 ∷ t kind.Word 4 ∷ t kind.RightParen 5 ∷ t kind.Values 6 ∷ t kind.LeftParen 7 ∷ t kind.Number 8 ∷ t kind.RightParen 9 ∷ [])
+-- DROP a
+drop_a_name : WrongAt 1 (kind.Drop ∷ kind.Word ∷ [])
 unfolding all_statement_rules count
-named_columns = refl
+drop_a_name = refl
 
--- INSERT INTO t VALUES(1),
-no_next_row : read (kind.Insert ∷ kind.Into ∷ kind.Word ∷ kind.Values ∷ kind.LeftParen ∷ kind.Number ∷ kind.RightParen ∷ kind.Comma ∷ []) ≡ Syntax []
+-- DROP TABLE IF NOT EXISTS a
+drop_if_not : WrongAt 3 (kind.Drop ∷ kind.Table ∷ kind.If ∷ kind.Not ∷ kind.Exists ∷ kind.Word ∷ [])
 unfolding all_statement_rules count
-no_next_row = refl
+drop_if_not = refl
 
--- SELECT FROM t
-no_result : read (kind.Select ∷ kind.From ∷ kind.Word ∷ []) ≡ Syntax (t kind.From 1 ∷ t kind.Word 2 ∷ [])
+-- DROP TABLE a, b
+drop_two : WrongAt 3 (kind.Drop ∷ kind.Table ∷ kind.Word ∷ kind.Comma ∷ kind.Word ∷ [])
 unfolding all_statement_rules count
-no_result = refl
+drop_two = refl
 
--- SELECT * FROM t, u
-two_tables : read (kind.Select ∷ kind.Star ∷ kind.From ∷ kind.Word ∷ kind.Comma ∷ kind.Word ∷ []) ≡ Syntax (t kind.Comma 4 ∷ t kind.Word 5 ∷ [])
+-- BEGIN a
+begin_concurrent : WrongAt 1 (kind.Begin ∷ kind.Word ∷ [])
 unfolding all_statement_rules count
-two_tables = refl
+begin_concurrent = refl
 
--- SELECT * WHERE a FROM t
-from_last : read (kind.Select ∷ kind.Star ∷ kind.Where ∷ kind.Word ∷ kind.From ∷ kind.Word ∷ []) ≡ Syntax (t kind.From 4 ∷ t kind.Word 5 ∷ [])
+-- BEGIN IMMEDIATE EXCLUSIVE
+two_words_of_begin : WrongAt 2 (kind.Begin ∷ kind.Immediate ∷ kind.Exclusive ∷ [])
 unfolding all_statement_rules count
-from_last = refl
+two_words_of_begin = refl
+
+-- COMMIT a
+commit_a_name : WrongAt 1 (kind.Commit ∷ kind.Word ∷ [])
+unfolding all_statement_rules count
+commit_a_name = refl
+
+-- END TO a
+end_to : WrongAt 1 (kind.End ∷ kind.To ∷ kind.Word ∷ [])
+unfolding all_statement_rules count
+end_to = refl
+
+-- ROLLBACK a
+rollback_a_name : WrongAt 1 (kind.Rollback ∷ kind.Word ∷ [])
+unfolding all_statement_rules count
+rollback_a_name = refl
+
+-- ROLLBACK TO
+rollback_to_nothing : WrongAt 2 (kind.Rollback ∷ kind.To ∷ [])
+unfolding all_statement_rules count
+rollback_to_nothing = refl
+
+-- SAVEPOINT
+savepoint_nothing : WrongAt 1 (kind.Savepoint ∷ [])
+unfolding all_statement_rules count
+savepoint_nothing = refl
+
+-- RELEASE TO a
+release_to : WrongAt 1 (kind.Release ∷ kind.To ∷ kind.Word ∷ [])
+unfolding all_statement_rules count
+release_to = refl
+
+-- PRAGMA a = 1
+a_pragma_of_a_number : WrongAt 3 (kind.Pragma ∷ kind.Word ∷ kind.Equal ∷ kind.Number ∷ [])
+unfolding all_statement_rules count
+a_pragma_of_a_number = refl
+
+-- PRAGMA a = b c
+a_pragma_of_two_words : WrongAt 4 (kind.Pragma ∷ kind.Word ∷ kind.Equal ∷ kind.Word ∷ kind.Word ∷ [])
+unfolding all_statement_rules count
+a_pragma_of_two_words = refl
+
+-- PRAGMA a.b
+a_pragma_of_a_schema : WrongAt 2 (kind.Pragma ∷ kind.Word ∷ kind.Dot ∷ kind.Word ∷ [])
+unfolding all_statement_rules count
+a_pragma_of_a_schema = refl

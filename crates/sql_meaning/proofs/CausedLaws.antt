@@ -1,5 +1,5 @@
 -- Whatever is bad in a statement has a cause, so that each refusal can be told.
-use Rattle.std.proofs.Common.{ℕ, List, [], ◌∷◌, ◌++◌, Bool, true, false, Some, None, Ok, Err, Result, map, fold, flat_map, sym, subst, if◌then◌else◌, zero, suc}
+use Rattle.std.proofs.Common.{ℕ, length, List, [], ◌∷◌, ◌++◌, Bool, true, false, Some, None, Ok, Err, Result, map, fold, flat_map, sym, subst, if◌then◌else◌, zero, suc}
 use Rattle.std.specs.Bool.{⊤}
 use Rattle.std.specs.Prelude.{slice_index_or}
 use Rattle.std.specs.Option.{option_map, option_to_list}
@@ -22,7 +22,9 @@ use Rattle.eng_value.specs.declared.value.Value.TheVariants as value
 use Rattle.eng_key.specs.Values.{value_key}
 use Rattle.std.proofs.Common.{ℤ}
 use Rattle.sql_tree.specs.declared.statement.Statement.{Statement}
-use Rattle.sql_tree.specs.declared.statement.Statement.TheVariants as statement
+use Rattle.sql_grammar.specs.Answers.{Answer, Tree, Syntax, TooMuch, place}
+use Rattle.sql_meaning.specs.Built.{built_of}
+use Rattle.sql_meaning.specs.Shapes.{Built, Creates, Inserts, Selects}
 use Rattle.sql_meaning.specs.declared.bound.BoundArm.{BoundArm}
 use Rattle.sql_meaning.specs.declared.bound.BoundExpr.{BoundExpr}
 use Rattle.sql_meaning.specs.declared.bound.BoundMatch.{BoundMatch}
@@ -33,10 +35,9 @@ use Rattle.sql_meaning.specs.declared.bound.Literal.TheVariants as literal
 use Rattle.sql_meaning.specs.declared.column.Column.{Column}
 use Rattle.sql_meaning.specs.declared.column.TableEntry.{TableEntry}
 use Rattle.sql_meaning.specs.Binding.{◌>>=◌}
-use Rattle.sql_meaning.specs.Built.{is_built}
 use Rattle.sql_meaning.specs.Expression.{Arm, MatchArm, Meaning, arm_of, arm_step, chosen_in, first_known, in_all, literal_out, match_of, match_step, matched_in, parameter_of, value_of, value_step}
 use Rattle.sql_meaning.specs.Statement as s
-use Rattle.sql_meaning.specs.Statement.{IsNamed, Item, Outcome, Put, Query, Row, Failed, after_conjunct, all_put, carried_out, create_outcome, environments, given_of, if_some, item_by, item_of, item_put, items_at, items_of, no_causes, outcome_of, parsed_outcome, put_outcome, put_source, query_outcome, refusal_of, refused, row_put, row_under, rows_put, shown, sifted, source_of, statement_of, stored, text_outcome, with_causes, written}
+use Rattle.sql_meaning.specs.Statement.{IsNamed, Item, Outcome, Put, Query, Row, Failed, after_conjunct, all_put, carried_out, create_outcome, environments, given_of, if_some, item_by, item_of, item_put, items_at, items_of, no_causes, outcome_of, answer_of, answer_outcome, built_outcome, put_outcome, put_source, query_outcome, refusal_of, refused, row_put, row_under, rows_put, shown, sifted, source_of, stored, text_outcome, with_causes, written}
 use Rattle.sql_meaning.specs.World.{State, rows_of}
 use Rattle.sql_meaning.proofs.CausedOperators.{AreCaused, IsCaused, IsCausedSet, IsCausedTruth, and_of-caused, bad-caused, binary_of-caused, choice_of-caused, comparison_of-caused, function_by-caused, good, like_escaped_of-caused, made-caused, member_of-caused, merged-caused, only-caused, or_else-caused, store_as-caused, truth_in-caused, truth_of-caused, unary_of-caused}
 
@@ -244,20 +245,21 @@ carried_out-told : {B : Type 0} (state : State) (g : B → Outcome) (r : Result 
 carried_out-told state g (Ok b) h = h b
 carried_out-told state g (Err why) h = only-caused why
 
-outcome_of-told : (hosts : HostMeanings) (state : State) (params : List Value) (text : List ℕ) (tokens : ℕ) (st : Statement) → ToldCauses (outcome_of hosts state params text tokens st).refusal
-outcome_of-told hosts state params text tokens (statement.CreateTable c) = carried_out-told state (create_outcome state) (s.created_entry state.world.catalog text tokens c) (λ t. tt)
-outcome_of-told hosts state params text tokens (statement.Insert i) =
+outcome_of-told : (hosts : HostMeanings) (state : State) (params : List Value) (text : List ℕ) (tokens : ℕ) (st : Built) → ToldCauses (outcome_of hosts state params text tokens st).refusal
+outcome_of-told hosts state params text tokens (Creates c) = carried_out-told state (create_outcome state) (s.created_entry state.world.catalog text tokens c) (λ t. tt)
+outcome_of-told hosts state params text tokens (Inserts i) =
     carried_out-told state (put_outcome state) (s.put_of state.world.catalog text i) (λ p. put_source-told state p (refusal_of (source_of p)) (given_of (source_of p)) (refusal_of-told (source_of p) (source-told p.rows)))
-outcome_of-told hosts state params text tokens (statement.Select q) =
+outcome_of-told hosts state params text tokens (Selects q) =
     carried_out-told state (λ query. query_outcome state (items_of state params query)) (s.query_of state.world.catalog text q) (λ query. refusal_of-told (items_of state params query) (items-told query.conjuncts query.results (environments state params query.table)))
 
-if-told : (b : Bool) (o p : Outcome) → ToldCauses o.refusal → ToldCauses p.refusal → ToldCauses (if b then o else p).refusal
-if-told true o p c d = c
-if-told false o p c d = d
+built_outcome-told : (hosts : HostMeanings) (state : State) (params : List Value) (text : List ℕ) (b : Option Built) → ToldCauses (built_outcome hosts state params text b).refusal
+built_outcome-told hosts state params text None = only-caused cause.NotYet
+built_outcome-told hosts state params text (Some b) = outcome_of-told hosts state params text _ b
 
-parsed_outcome-told : (hosts : HostMeanings) (state : State) (params : List Value) (text : List ℕ) (tree : Option Statement) → ToldCauses (parsed_outcome hosts state params text tree).refusal
-parsed_outcome-told hosts state params text None = only-caused cause.NotYet
-parsed_outcome-told hosts state params text (Some st) = if-told (is_built text st) _ _ (outcome_of-told hosts state params text _ st) (only-caused cause.NotYet)
+answer_outcome-told : (hosts : HostMeanings) (state : State) (params : List Value) (text : List ℕ) (x : Answer Statement) → ToldCauses (answer_outcome hosts state params text x).refusal
+answer_outcome-told hosts state params text (Tree st) = built_outcome-told hosts state params text (built_of text st)
+answer_outcome-told hosts state params text (Syntax rest) = only-caused (cause.Syntax (place (length text) rest))
+answer_outcome-told hosts state params text (TooMuch l rest) = only-caused (cause.Limit (s.limit_kind l))
 
 named : (causes : Option CauseSet) → ToldCauses causes → (why : Option Cause) × IsNamed causes why
 named None c = (None, tt)
@@ -265,4 +267,4 @@ named (Some causes) c = (Some c.0, c.1)
 
 -- a refusal has a cause that can be named
 pub text_outcome-named : (hosts : HostMeanings) (state : State) (params : List Value) (text : List ℕ) → (why : Option Cause) × IsNamed (text_outcome hosts state params text).refusal why
-text_outcome-named hosts state params text = named (text_outcome hosts state params text).refusal (parsed_outcome-told hosts state params text (statement_of text))
+text_outcome-named hosts state params text = named (text_outcome hosts state params text).refusal (answer_outcome-told hosts state params text (answer_of text))

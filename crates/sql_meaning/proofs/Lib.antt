@@ -4,7 +4,7 @@ pub mod NameLaws
 pub mod CausedOperators
 pub mod CausedLaws
 pub mod RefusalLaws
-pub mod TextLaws
+pub mod ShapeLaws
 pub mod OutcomeLaws
 pub mod ScriptLaws
 pub mod PartsLaws

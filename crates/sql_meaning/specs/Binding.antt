@@ -24,10 +24,11 @@ use Rattle.eng_value.specs.declared.value.Value.TheVariants as value
 use Rattle.sql_lex.specs.Tokens.{slice_of}
 use Rattle.sql_tree.specs.declared.expr.Arguments.{Arguments}
 use Rattle.sql_tree.specs.declared.expr.Arguments.TheVariants as arguments
-use Rattle.sql_tree.specs.declared.expr.Arm.{Arm as SyntaxArm, fold-Arm}
+use Rattle.sql_tree.specs.declared.expr.Arm.{Arm as SyntaxArm}
 use Rattle.sql_tree.specs.declared.expr.BinaryOp.{BinaryOp}
 use Rattle.sql_tree.specs.declared.expr.BinaryOp.TheVariants as op
-use Rattle.sql_tree.specs.declared.expr.Expr.{Expr, fold-Expr}
+use Rattle.sql_tree.specs.Folds.{ExprStep, ArmStep, fold_expr, fold_arm}
+use Rattle.sql_tree.specs.declared.expr.Expr.{Expr}
 use Rattle.sql_tree.specs.declared.expr.Expr.TheOpen.{Expr-F, Arm-F}
 use Rattle.sql_tree.specs.declared.expr.TypeName.{TypeName}
 use Rattle.sql_tree.specs.declared.expr.UnaryOp.{UnaryOp}
@@ -344,7 +345,7 @@ option_in s None = Ok None
 option_in s (Some part) = part s >>= λ b. Ok (Some b)
 
 -- a function's name and the number of its arguments come before the arguments, and a collation's name behind its operand
-abbrev pub bind_step : Expr-F Binding ArmBinding → Binding
+abbrev pub bind_step : ExprStep Binding ArmBinding → Binding
 bind_step (Expr-F.Literal t) s = Ok (literal_bound s.text t)
 bind_step (Expr-F.Parameter t) s = Ok (parameter_bound t)
 bind_step (Expr-F.Column t) s = column_bound (name_at s.text t) s.table
@@ -354,6 +355,9 @@ bind_step (Expr-F.Binary o a b) s = a s >>= λ x. b s >>= λ y. Ok (binary_bound
 bind_step (Expr-F.Between a b c) s = a s >>= λ x. b s >>= λ y. c s >>= λ z. Ok (between_bound x y z)
 bind_step (Expr-F.Like a b c) s = a s >>= λ x. b s >>= λ y. option_in s c >>= λ z. Ok (like_bound x y z)
 bind_step (Expr-F.In a others) s = a s >>= λ x. all_in s others >>= λ ys. Ok (in_bound x ys)
+bind_step (Expr-F.InQuery a q) s = Err cause.NotYet
+bind_step (Expr-F.Subquery q) s = Err cause.NotYet
+bind_step (Expr-F.Exists q) s = Err cause.NotYet
 bind_step (Expr-F.Collate a t) s = a s >>= λ x. collate_bound (name_at s.text t) (collation_named (name_at s.text t)) x
 bind_step (Expr-F.Cast a t) s = a s >>= λ x. Ok (cast_bound (affinity_of_type s.text t) x)
 bind_step (Expr-F.Call t how args filter) s =
@@ -362,12 +366,12 @@ bind_step (Expr-F.Case a arms otherwise) s = option_in s a >>= λ x. all_in s ar
 bind_step Expr-F.RaiseIgnore s = Err cause.NotYet
 bind_step (Expr-F.RaiseAbort t) s = Err cause.NotYet
 
-abbrev pub bind_arm_step : Arm-F Binding ArmBinding → ArmBinding
+abbrev pub bind_arm_step : ArmStep Binding ArmBinding → ArmBinding
 bind_arm_step arm s = arm.condition s >>= λ x. arm.value s >>= λ y. Ok (record { condition = x; value = y })
 
 -- an expression in a scope
 abbrev pub bound_of : Expr → Binding
-bound_of = fold-Expr Binding ArmBinding bind_step bind_arm_step
+bound_of = fold_expr bind_step bind_arm_step
 
 abbrev pub arm_bound : SyntaxArm → ArmBinding
-arm_bound = fold-Arm Binding ArmBinding bind_step bind_arm_step
+arm_bound = fold_arm bind_step bind_arm_step

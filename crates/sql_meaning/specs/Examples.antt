@@ -1,5 +1,5 @@
 -- Statements with what they come to, computed by the definitions.
-use Rattle.std.specs.Prelude.{◌≡◌, ℕ, List, [], ◌∷◌, pos, negsuc, Some, None, codes, refl}
+use Rattle.std.specs.Prelude.{◌≡◌, ℕ, ℤ, List, [], ◌∷◌, pos, negsuc, Some, None, codes, refl}
 use Rattle.std.specs.Fmt.{digits}
 use Rattle.eng_number.specs.Numbers.{text_kind}
 use Rattle.eng_value.specs.Casts.{store_as}
@@ -13,7 +13,10 @@ use Rattle.sql_grammar.specs.Marks.{count}
 use Rattle.sql_grammar.specs.Statements.{all_statement_rules}
 use Rattle.sql_lex.specs.Pieces.{word_kind}
 use Rattle.sql_lex.specs.Tokens.{tokens_of}
-use Rattle.sql_meaning.specs.Statement.{Outcome, text_outcome}
+use Rattle.sql_meaning.specs.Spelled.{the_text_test}
+use Rattle.sql_meaning.specs.declared.bound.Literal.{Literal}
+use Rattle.sql_meaning.specs.declared.bound.Literal.TheVariants as literal
+use Rattle.sql_meaning.specs.Statement.{Outcome, Put, put_outcome, text_outcome}
 use Rattle.sql_meaning.specs.World.{State, new_state}
 
 abbrev run : State → List ℕ → Outcome
@@ -25,27 +28,38 @@ abbrev created : State
 created = (run new_state (codes "CREATE TABLE t(a INTEGER, b varchar(10), c)")).next
 
 the_entry : created.world.catalog ≡ record { name = codes "t"; columns = record { name = codes "a"; affinity = affinity.Integer } ∷ record { name = codes "b"; affinity = affinity.Text } ∷ record { name = codes "c"; affinity = affinity.Blob } ∷ []; tokens = 15 } ∷ []
-unfolding all_statement_rules count tokens_of word_kind
+unfolding all_statement_rules count tokens_of word_kind the_text_test
 the_entry = refl
 
-rows_after : ((run created (codes "INSERT INTO t VALUES('12', 7, -9223372036854775808), (NULL, x'41', +0x10)")).refusal ≡ None) × ((run created (codes "INSERT INTO t VALUES('12', 7, -9223372036854775808), (NULL, x'41', +0x10)")).next.world.tables
+-- rows of literals for the table
+abbrev put : List (List Literal) → Put
+put rows = record { table = record { name = codes "t"; columns = record { name = codes "a"; affinity = affinity.Integer } ∷ record { name = codes "b"; affinity = affinity.Text } ∷ record { name = codes "c"; affinity = affinity.Blob } ∷ []; tokens = 15 }; rows = rows }
+
+abbrev number : ℤ → Literal
+number n = literal.Value (value.Integer n)
+
+abbrev text : List ℕ → Literal
+text bytes = literal.Value (value.Text bytes)
+
+rows_after : ((put_outcome created (put ((text (codes "12") ∷ number (pos 7) ∷ number (negsuc 9223372036854775807) ∷ []) ∷ (literal.Value value.Null ∷ literal.Value (value.Blob (65 ∷ [])) ∷ number (pos 16) ∷ []) ∷ []))).next.world.tables
     ≡ (codes "t", record { rowid = pos 1; values = value.Integer (pos 12) ∷ value.Text (codes "7") ∷ value.Integer (negsuc 9223372036854775807) ∷ [] } ∷ record { rowid = pos 2; values = value.Null ∷ value.Blob (65 ∷ []) ∷ value.Integer (pos 16) ∷ [] } ∷ []) ∷ [])
-unfolding all_statement_rules count tokens_of word_kind store_as text_kind digits
-rows_after = (refl, refl)
+unfolding all_statement_rules count tokens_of word_kind the_text_test store_as text_kind digits
+rows_after = refl
 
 -- a bad source fails before any row is put, and so does a row that cannot be stored
-refused_rows : ((run created (codes "INSERT INTO t VALUES(1, 2, 3), (4, 5, 1.5)")).refusal ≡ Some (only cause.Real)) × ((run created (codes "INSERT INTO t VALUES(1, 2, 3), ('1.5', 5, 6)")).next ≡ created)
-unfolding all_statement_rules count tokens_of word_kind store_as text_kind digits
+refused_rows : ((put_outcome created (put ((number (pos 1) ∷ number (pos 2) ∷ number (pos 3) ∷ []) ∷ (number (pos 4) ∷ number (pos 5) ∷ literal.Bad cause.Real ∷ []) ∷ []))).refusal ≡ Some (only cause.Real))
+    × ((put_outcome created (put ((number (pos 1) ∷ number (pos 2) ∷ number (pos 3) ∷ []) ∷ (text (codes "1.5") ∷ number (pos 5) ∷ number (pos 6) ∷ []) ∷ []))).next ≡ created)
+unfolding all_statement_rules count tokens_of word_kind the_text_test store_as text_kind digits
 refused_rows = (refl, refl)
 
 refused_names : ((run created (codes "CREATE TABLE T(x)")).refusal ≡ Some (only (cause.Exists named.Table (codes "t")))) × ((run created (codes "CREATE TABLE sqlite_x(a, a)")).refusal ≡ Some (only (cause.Reserved (codes "sqlite_x")))) × ((run created (codes "CREATE TABLE u(a, A)")).refusal ≡ Some (only (cause.Exists named.Column (codes "a")))) × ((run created (codes "CREATE TABLE u(a DOUBLE)")).refusal ≡ Some (only cause.Real))
-unfolding all_statement_rules count tokens_of word_kind
+unfolding all_statement_rules count tokens_of word_kind the_text_test
 refused_names = (refl, refl, refl, refl)
 
-refused_inserts : ((run created (codes "INSERT INTO u VALUES(1)")).refusal ≡ Some (only (cause.Unknown named.Table (codes "u")))) × ((run created (codes "INSERT INTO T VALUES(1, 2)")).refusal ≡ Some (only (cause.Arity (codes "t")))) × ((run created (codes "INSERT INTO T VALUES(1, 2, 3), (4)")).refusal ≡ Some (only (cause.Arity (codes "VALUES"))))
+not_built : ((run new_state (codes "EXPLAIN SELECT 1")).refusal ≡ Some (only cause.NotYet)) × ((run new_state (codes "BEGIN")).refusal ≡ Some (only cause.NotYet)) × ((run new_state (codes "CREATE TABLE t(a UNIQUE)")).refusal ≡ Some (only cause.NotYet))
 unfolding all_statement_rules count tokens_of word_kind
-refused_inserts = (refl, refl, refl)
+not_built = (refl, refl, refl)
 
-no_statements : ((run new_state (codes "SELECT")).refusal ≡ Some (only cause.NotYet)) × ((run new_state (codes "SELECT 1;;")).refusal ≡ Some (only cause.NotYet)) × ((run new_state (codes "INSERT INTO t VALUES(1 + 1)")).refusal ≡ Some (only cause.NotYet))
-unfolding all_statement_rules count tokens_of word_kind
+no_statements : ((run new_state (codes "SELECT")).refusal ≡ Some (only (cause.Syntax 6))) × ((run new_state (codes "SELECT 1;;")).refusal ≡ Some (only (cause.Syntax 9))) × ((run new_state (codes "SELECT 1 x y;")).refusal ≡ Some (only (cause.Syntax 11)))
+unfolding all_statement_rules count tokens_of word_kind the_text_test
 no_statements = (refl, refl, refl)

@@ -3,6 +3,7 @@ pub mod Names
 pub mod Spelled
 pub mod World
 pub mod Binding
+pub mod Shapes
 pub mod Built
 pub mod Expression
 pub mod Clauses

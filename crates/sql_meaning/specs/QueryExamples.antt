@@ -1,5 +1,14 @@
 -- Queries with what they give, computed by the definitions.
-use Rattle.std.specs.Prelude.{◌≡◌, [], negsuc, None, Ok, codes, refl}
+use Rattle.std.specs.Prelude.{◌≡◌, [], ◌∷◌, negsuc, Some, None, Ok, codes, refl}
+use Rattle.std.proofs.Common.{rules}
+use Rattle.sql_tree.specs.declared.expr.Expr.{the_lemmas}
+use Rattle.sql_tree.specs.declared.query.Query.{roll-Query}
+use Rattle.sql_tree.specs.declared.query.QueryPart.TheVariants as part
+use Rattle.sql_tree.specs.declared.statement.Command.TheVariants as command
+use Rattle.sql_tree.specs.declared.statement.ConflictChoice.TheVariants as choice
+use Rattle.sql_tree.specs.declared.statement.InsertSource.TheVariants as source
+use Rattle.sql_tree.specs.declared.statement.RowCommand.TheVariants as rows_by
+use Rattle.sql_meaning.specs.Shapes.{Inserts, shape_of}
 use Rattle.sql_tree.specs.declared.expr.Expr.TheVariants as e
 use Rattle.sql_tree.specs.declared.expr.UnaryOp.TheVariants as sign
 use Rattle.sql_tree.specs.declared.token.Token.{Token}
@@ -18,3 +27,8 @@ without_table = record { text = codes "-9223372036854775808"; table = None }
 
 the_least_integer : bound_of (e.Unary sign.Negative (e.Literal number_at)) without_table ≡ Ok (over [] (bound.Literal (literal.Value (value.Integer (negsuc 9223372036854775807)))))
 the_least_integer = rw (bound_of-Unary, bound_of-Literal) refl
+
+-- INSERT INTO t VALUES(a)
+an_insert : (t a : Token) → shape_of (record { explain = None; command = command.Rows (rows_by.Insert (record { choice = choice.Abort; table = t; columns = []; source = source.Query (roll-Query (record { with = []; first = part.Values ((e.Literal a ∷ []) ∷ []); others = []; order_by = []; limit = None })) })) })
+    ≡ Some (Inserts (record { table = t; rows = (e.Literal a ∷ []) ∷ [] }))
+an_insert t a = search (rules, the_lemmas)

@@ -1,6 +1,7 @@
 -- What the names and the literals of a text stand for (SQL Language Expressions, section 3; SQL Keywords).
 use Rattle.std.specs.Prelude.{◌≡◌, ℕ, ◌-◌, ◌%◌, ◌^◌, ◌==◌, ◌&&◌, ◌||◌, nat_lt, Bool, false, List, [], ◌∷◌, take, drop, length, ℤ, pos, negsuc, ◌-ℤ◌, if◌then◌else◌, codes, refl}
-use Rattle.std.specs.Char.{to_ascii_lowercase}
+use Rattle.std.specs.Char.{encode_utf8, to_ascii_lowercase}
+use Rattle.std.specs.Str.{chars, is_utf8}
 use Rattle.std.specs.Str.Parse.{digits_value}
 use Rattle.eng_number.specs.Forms.{digits}
 use Rattle.eng_number.specs.Numbers.{fits_integer}
@@ -27,6 +28,15 @@ undoubled quote [] = []
 undoubled quote (b ∷ []) = b ∷ []
 undoubled quote (b ∷ c ∷ rest) = if b == quote && c == quote then b ∷ undoubled quote rest else b ∷ undoubled quote (c ∷ rest)
 
+-- a text is UTF-8: a token ends where a character does, and so this leaves it as it is
+abbrev pub as_text : List ℕ → List ℕ
+as_text bytes = if is_utf8 bytes then bytes else []
+
+-- opens the test where an example computes with it
+unfoldable pub the_text_test : Unit {0}
+unfolding is_utf8 chars encode_utf8
+the_text_test = tt
+
 -- ---- names
 
 -- in `[..]` a name stands as it is, and in `".."` and `` `..` `` the quote is doubled
@@ -36,8 +46,11 @@ name_of (b ∷ bytes) =
     if b == 0x5b then inside (b ∷ bytes) else
     if b == 0x22 || b == 0x60 then undoubled b (inside (b ∷ bytes)) else b ∷ bytes
 
+abbrev pub name_bytes : List ℕ → Token → List ℕ
+name_bytes text t = name_of (slice_of text t)
+
 abbrev pub name_at : List ℕ → Token → List ℕ
-name_at text t = name_of (slice_of text t)
+name_at text t = as_text (name_bytes text t)
 
 -- ---- literals
 
@@ -79,7 +92,7 @@ kept v = if nat_lt MAX_VALUE_BYTES (length_of v) then Bad cause.TooBig else Valu
 
 abbrev pub literal_of : TokenKind → List ℕ → Literal
 literal_of kind.Number bytes = number_literal bytes
-literal_of kind.Text bytes = kept (value.Text (undoubled 0x27 (inside bytes)))
+literal_of kind.Text bytes = kept (value.Text (as_text (undoubled 0x27 (inside bytes))))
 literal_of kind.Blob bytes = kept (value.Blob (hexadecimal_bytes (inside (drop 1 bytes))))
 literal_of kind.True bytes = Value (value.Integer (pos 1))
 literal_of kind.False bytes = Value (value.Integer (pos 0))
@@ -97,4 +110,5 @@ numbers : (number_literal (codes "007") ≡ Value (value.Integer (pos 7))) × (n
 numbers = (refl, refl, refl, refl)
 
 others : (literal_of kind.Text (codes "'it''s'") ≡ Value (value.Text (codes "it's"))) × (literal_of kind.Blob (codes "X'61fF'") ≡ Value (value.Blob (0x61 ∷ 0xff ∷ []))) × (literal_of kind.Null (codes "null") ≡ Value value.Null) × (literal_of kind.True (codes "true") ≡ Value (value.Integer (pos 1)))
+unfolding the_text_test
 others = (refl, refl, refl, refl)

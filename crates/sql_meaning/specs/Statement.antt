@@ -14,6 +14,8 @@ use Rattle.eng_value.specs.declared.affinity.Affinity.{Affinity}
 use Rattle.eng_value.specs.declared.affinity.Affinity.TheVariants as affinity
 use Rattle.eng_value.specs.declared.cause.Cause.{Cause}
 use Rattle.eng_value.specs.declared.cause.Cause.TheVariants as cause
+use Rattle.eng_value.specs.declared.cause.LimitKind.{LimitKind}
+use Rattle.eng_value.specs.declared.cause.LimitKind.TheVariants as limit
 use Rattle.eng_value.specs.declared.cause.NameKind.TheVariants as named
 use Rattle.eng_value.specs.declared.limits.TheConstants.{MAX_COLUMNS}
 use Rattle.eng_value.specs.declared.out.Out.{Out}
@@ -22,21 +24,19 @@ use Rattle.eng_value.specs.declared.truth.Truth.{Truth}
 use Rattle.eng_value.specs.declared.truth.Truth.TheVariants as truth
 use Rattle.eng_value.specs.declared.value.Value.{Value}
 use Rattle.eng_value.specs.declared.value.Value.TheVariants as value
-use Rattle.sql_grammar.specs.Answers.{Answer, Tree, Syntax, TooMuch, whole}
+use Rattle.sql_grammar.specs.declared.counts.Limit.{Limit}
+use Rattle.sql_grammar.specs.declared.counts.Limit.TheVariants as grammar_limit
+use Rattle.sql_grammar.specs.Answers.{Answer, Tree, Syntax, TooMuch, place, whole}
 use Rattle.sql_grammar.specs.Marks.{start}
 use Rattle.sql_grammar.specs.StatementTexts.{read_statement}
 use Rattle.sql_lex.specs.Tokens.{slice_of, tokens_of}
 use Rattle.sql_tree.specs.declared.expr.Expr.{Expr}
 use Rattle.sql_tree.specs.declared.expr.TypeName.{TypeName}
 use Rattle.sql_tree.specs.declared.statement.ColumnDefinition.{ColumnDefinition}
-use Rattle.sql_tree.specs.declared.statement.CreateTable.{CreateTable}
-use Rattle.sql_tree.specs.declared.statement.Insert.{Insert}
-use Rattle.sql_tree.specs.declared.statement.ResultColumn.{ResultColumn}
-use Rattle.sql_tree.specs.declared.statement.ResultColumn.TheVariants as result
-use Rattle.sql_tree.specs.declared.statement.Select.{Select}
-use Rattle.sql_tree.specs.declared.statement.SignedLiteral.{SignedLiteral}
+use Rattle.sql_tree.specs.declared.expr.Expr.TheOpen.{ResultColumn-F}
+use Rattle.sql_tree.specs.declared.query.ResultColumn.{ResultColumn}
 use Rattle.sql_tree.specs.declared.statement.Statement.{Statement}
-use Rattle.sql_tree.specs.declared.statement.Statement.TheVariants as statement
+use Rattle.sql_tree.specs.Layers.{ResultLayer, of_result}
 use Rattle.sql_tree.specs.declared.token.Token.{Token}
 use Rattle.sql_tree.specs.declared.token.TokenKind.{TokenKind}
 use Rattle.sql_tree.specs.declared.token.TokenKind.TheVariants as kind
@@ -47,7 +47,9 @@ use Rattle.sql_meaning.specs.declared.bound.Literal.TheVariants as literal
 use Rattle.sql_meaning.specs.declared.column.Column.{Column}
 use Rattle.sql_meaning.specs.declared.column.TableEntry.{TableEntry}
 use Rattle.sql_meaning.specs.Binding.{◌>>=◌, in_turn, Scope, bound_of, affinity_of_type}
-use Rattle.sql_meaning.specs.Built.{is_built}
+use Rattle.sql_meaning.specs.Built.{built_of, signed_of}
+use Rattle.sql_meaning.specs.Shapes.{Built, Creates, Inserts, Selects, CreateTable, Insert, Select}
+use Rattle.sql_meaning.specs.declared.bound.SignedLiteral.{SignedLiteral}
 use Rattle.sql_meaning.specs.Expression.{value_of, literal_out}
 use Rattle.sql_meaning.specs.Names.{is_same_name, is_reserved_name}
 use Rattle.sql_meaning.specs.Spelled.{name_at, literal_at, is_least_magnitude}
@@ -87,7 +89,7 @@ abbrev pub with_table : State → List ℕ → List StoredRow → State
 with_table state name rows = record state { world = record state.world { tables = with_rows state.world.tables name rows } }
 
 abbrev pub within_columns : {X : Type 0} → List X → Result (List X) Cause
-within_columns xs = if nat_le (length xs) MAX_COLUMNS then Ok xs else Err cause.TooManyColumns
+within_columns xs = if nat_le (length xs) MAX_COLUMNS then Ok xs else Err (cause.Limit limit.Columns)
 
 -- ---- CREATE TABLE: the name comes first, then each column in turn
 
@@ -200,9 +202,13 @@ abbrev pub all_columns : Option TableEntry → Result (List BoundExpr) Cause
 all_columns None = Err (cause.Misuse (codes "*"))
 all_columns (Some t) = Ok (columns_from 0 t.columns)
 
+abbrev pub result_shown : Scope → ResultLayer → Result (List BoundExpr) Cause
+result_shown s ResultColumn-F.All = all_columns s.table
+result_shown s (ResultColumn-F.AllOf t) = Err cause.NotYet
+result_shown s (ResultColumn-F.Expression x name) = bound_of x.expr s >>= λ b. Ok (b.tree ∷ [])
+
 abbrev pub result_of : Scope → ResultColumn → Result (List BoundExpr) Cause
-result_of s result.All = all_columns s.table
-result_of s (result.Expression x) = bound_of x s >>= λ b. Ok (b.tree ∷ [])
+result_of s r = result_shown s (of_result r)
 
 abbrev pub results_behind : Scope → List BoundExpr → List ResultColumn → Result (List BoundExpr) Cause
 results_behind s found [] = Ok found
@@ -264,23 +270,24 @@ abbrev pub negative_literal : Literal → Literal
 negative_literal (literal.Value (value.Integer n)) = negative_integer n
 negative_literal l = l
 
--- behind a sign; minus makes the least integer of its magnitude
-abbrev pub behind_sign : TokenKind → Bool → Literal → Literal
-behind_sign kind.Minus true l = literal.Value (value.Integer (negsuc (2 ^ 63 - 1)))
-behind_sign kind.Minus false l = negative_literal l
-behind_sign _ least l = l
-
-abbrev pub signed_by : Option Token → Bool → Literal → Literal
-signed_by None least l = l
-signed_by (Some t) least l = behind_sign t.kind least l
+-- behind a minus, which makes the least integer of its magnitude
+abbrev pub behind_minus : Bool → Literal → Literal
+behind_minus true l = literal.Value (value.Integer (negsuc (2 ^ 63 - 1)))
+behind_minus false l = negative_literal l
 
 abbrev pub signed_literal : List ℕ → SignedLiteral → Literal
-signed_literal text l = signed_by l.sign (is_least_magnitude (slice_of text l.literal)) (literal_at text l.literal)
+signed_literal text l =
+    if l.minus then behind_minus (is_least_magnitude (slice_of text l.literal)) (literal_at text l.literal) else literal_at text l.literal
+
+-- no other expression is built there
+abbrev pub literal_in : List ℕ → Option SignedLiteral → Result Literal Cause
+literal_in text None = Err cause.NotYet
+literal_in text (Some l) = Ok (signed_literal text l)
 
 -- a row has no more values than a table may have columns, and as many as the first row
-abbrev pub row_of : List ℕ → ℕ → List SignedLiteral → Result (List Literal) Cause
+abbrev pub row_of : List ℕ → ℕ → List Expr → Result (List Literal) Cause
 row_of text width row =
-    within_columns (map (signed_literal text) row) >>= λ literals.
+    in_turn (λ x. literal_in text (signed_of x)) row >>= λ literals. within_columns literals >>= λ literals.
     if nat_eq (length literals) width then Ok literals else Err (cause.Arity (codes "VALUES"))
 
 abbrev pub width_of : {X : Type 0} → List (List X) → ℕ
@@ -288,7 +295,7 @@ width_of [] = 0
 width_of (row ∷ rows) = length row
 
 -- the rows of a source, of one width
-abbrev pub rows_in : List ℕ → List (List SignedLiteral) → Result (List (List Literal)) Cause
+abbrev pub rows_in : List ℕ → List (List Expr) → Result (List (List Literal)) Cause
 rows_in text rows = in_turn (row_of text (width_of rows)) rows
 
 abbrev pub fitting : TableEntry → List (List Literal) → Result (List (List Literal)) Cause
@@ -360,36 +367,34 @@ put_outcome state p = put_source state p (refusal_of (source_of p)) (given_of (s
 -- ---- any statement
 
 -- by what the statement is, in a text of so many tokens
-abbrev pub outcome_of : HostMeanings → State → List Value → List ℕ → ℕ → Statement → Outcome
-outcome_of hosts state params text tokens (statement.CreateTable c) =
-    carried_out state (create_outcome state) (created_entry state.world.catalog text tokens c)
-outcome_of hosts state params text tokens (statement.Insert i) = carried_out state (put_outcome state) (put_of state.world.catalog text i)
-outcome_of hosts state params text tokens (statement.Select q) =
+abbrev pub outcome_of : HostMeanings → State → List Value → List ℕ → ℕ → Built → Outcome
+outcome_of hosts state params text tokens (Creates c) = carried_out state (create_outcome state) (created_entry state.world.catalog text tokens c)
+outcome_of hosts state params text tokens (Inserts i) = carried_out state (put_outcome state) (put_of state.world.catalog text i)
+outcome_of hosts state params text tokens (Selects q) =
     carried_out state (λ query. query_outcome state (items_of state params query)) (query_of state.world.catalog text q)
 
--- the tree, where the tokens have one within the limits
-abbrev pub tree_in : Answer Statement → Option Statement
-tree_in (Tree tree) = Some tree
-tree_in (Syntax rest) = None
-tree_in (TooMuch limit rest) = None
+abbrev pub limit_kind : Limit → LimitKind
+limit_kind grammar_limit.Nestings = limit.Nestings
+limit_kind grammar_limit.Operators = limit.Operators
+limit_kind grammar_limit.Parts = limit.Parts
 
--- a byte above 127 stands in no statement yet
-abbrev pub has_other_bytes : List ℕ → Bool
-has_other_bytes text = list_any (λ b. nat_lt 127 b) text
+-- the answer of a text's tokens
+abbrev pub answer_of : List ℕ → Answer Statement
+answer_of text = whole (read_statement start (tokens_of text))
 
--- the statement of a text, where it has one
-abbrev pub statement_of : List ℕ → Option Statement
-statement_of text = if has_other_bytes text then None else tree_in (whole (read_statement start (tokens_of text)))
+abbrev pub built_outcome : HostMeanings → State → List Value → List ℕ → Option Built → Outcome
+built_outcome hosts state params text None = refused state (only cause.NotYet)
+built_outcome hosts state params text (Some b) = outcome_of hosts state params text (length (tokens_of text)) b
 
--- refused where it has none, or where the statement is not built
-abbrev pub parsed_outcome : HostMeanings → State → List Value → List ℕ → Option Statement → Outcome
-parsed_outcome hosts state params text None = refused state (only cause.NotYet)
-parsed_outcome hosts state params text (Some s) =
-    if is_built text s then outcome_of hosts state params text (length (tokens_of text)) s else refused state (only cause.NotYet)
+-- refused where it has no tree, or where the statement is not built
+abbrev pub answer_outcome : HostMeanings → State → List Value → List ℕ → Answer Statement → Outcome
+answer_outcome hosts state params text (Tree s) = built_outcome hosts state params text (built_of text s)
+answer_outcome hosts state params text (Syntax rest) = refused state (only (cause.Syntax (place (length text) rest)))
+answer_outcome hosts state params text (TooMuch l rest) = refused state (only (cause.Limit (limit_kind l)))
 
 -- the outcome of a statement's text with these parameters
 abbrev pub text_outcome : HostMeanings → State → List Value → List ℕ → Outcome
-text_outcome hosts state params text = parsed_outcome hosts state params text (statement_of text)
+text_outcome hosts state params text = answer_outcome hosts state params text (answer_of text)
 
 -- one of the causes is named, where there are any
 abbrev pub IsNamed : Option CauseSet → Option Cause → Type 0

@@ -2,11 +2,13 @@
 use Rattle.std.specs.Prelude.{ℕ, ◌+◌, ◌*◌, List, length, Option, Some, None}
 use Rattle.sql_lex.specs.Tokens.{tokens_of}
 use Rattle.sql_tree.specs.declared.statement.Statement.{Statement}
-use Rattle.sql_tree.specs.declared.statement.Statement.TheVariants as statement
 use Rattle.sql_tree.specs.declared.token.Token.{Token}
 use Rattle.sql_meaning.specs.declared.column.TableEntry.{TableEntry}
 use Rattle.sql_meaning.specs.Spelled.{name_at}
-use Rattle.sql_meaning.specs.Statement.{statement_of}
+use Rattle.sql_grammar.specs.Answers.{Answer, Tree, Syntax, TooMuch}
+use Rattle.sql_meaning.specs.Built.{built_of}
+use Rattle.sql_meaning.specs.Shapes.{Built, Creates, Inserts, Selects}
+use Rattle.sql_meaning.specs.Statement.{answer_of}
 use Rattle.sql_meaning.specs.World.{State, entry_named, rows_of}
 
 -- ---- size
@@ -22,10 +24,10 @@ entry_of state text None = None
 entry_of state text (Some t) = entry_named state.world.catalog (name_at text t)
 
 -- the table that a statement opens
-abbrev pub opened : State → List ℕ → Statement → Option TableEntry
-opened state text (statement.CreateTable c) = None
-opened state text (statement.Insert i) = entry_named state.world.catalog (name_at text i.table)
-opened state text (statement.Select q) = entry_of state text q.from
+abbrev pub opened : State → List ℕ → Built → Option TableEntry
+opened state text (Creates c) = None
+opened state text (Inserts i) = entry_named state.world.catalog (name_at text i.table)
+opened state text (Selects q) = entry_of state text q.from
 
 -- ---- work
 
@@ -44,17 +46,23 @@ scan_work state text None = single_work
 scan_work state text (Some t) = 1 + row_count state (entry_named state.world.catalog (name_at text t))
 
 -- a write has the work of its source, and 1 for each row that it takes; what is neither query nor write has none
-abbrev pub work_of : State → List ℕ → Statement → ℕ
-work_of state text (statement.CreateTable c) = 0
-work_of state text (statement.Insert i) = single_work + length i.rows
-work_of state text (statement.Select q) = scan_work state text q.from
+abbrev pub work_of : State → List ℕ → Built → ℕ
+work_of state text (Creates c) = 0
+work_of state text (Inserts i) = single_work + length i.rows
+work_of state text (Selects q) = scan_work state text q.from
 
 -- ---- the bound
 
-abbrev pub bound_of : State → List ℕ → ℕ → Option Statement → ℕ
+abbrev pub bound_of : State → List ℕ → ℕ → Option Built → ℕ
 bound_of state text tokens None = 256 * tokens
 bound_of state text tokens (Some s) = 256 * (tokens + table_size (opened state text s)) * (work_of state text s + 1)
 
+-- what of an answer runs
+abbrev pub built_in : List ℕ → Answer Statement → Option Built
+built_in text (Tree s) = built_of text s
+built_in text (Syntax rest) = None
+built_in text (TooMuch l rest) = None
+
 -- the most instructions that a text runs
 abbrev pub instruction_bound : State → List ℕ → ℕ
-instruction_bound state text = bound_of state text (length (tokens_of text)) (statement_of text)
+instruction_bound state text = bound_of state text (length (tokens_of text)) (built_in text (answer_of text))

@@ -2,6 +2,7 @@
 use eng_value::{
     Affinity, BinaryOperator, Built, Builtin, Cause, Sides, Text, UnaryOperator, Value,
 };
+use sql_tree::Token;
 use sqlite_items::{Boxed, Items};
 
 /// What a literal stands for: a value, or why it has none.
@@ -53,6 +54,13 @@ pub struct BoundMatch {
     pub sides: Sides,
     pub operand: BoundExpr,
     pub value: BoundExpr,
+}
+
+/// A literal of INSERT, with a minus in front or without.
+#[derive(Clone, Copy, Debug, PartialEq, Eq)]
+pub struct SignedLiteral {
+    pub minus: bool,
+    pub literal: Token,
 }
 
 /// Rows of literals for the table in a place of the catalog: its name as declared, and the affinities of its columns.

@@ -13,7 +13,9 @@ mod column;
 mod laws;
 mod script;
 
-pub use bound::{BoundArm, BoundExpr, BoundInsert, BoundMatch, BoundSelect, Literal};
+pub use bound::{
+    BoundArm, BoundExpr, BoundInsert, BoundMatch, BoundSelect, Literal, SignedLiteral,
+};
 pub use builtins::{ArgumentCount, BUILTINS};
 pub use column::{Column, TableEntry};
 pub use laws::{

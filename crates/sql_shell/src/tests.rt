@@ -22,8 +22,14 @@ use std::test::Fail;
 pub(crate) const FIRST: &str =
     "CREATE TABLE t(a INTEGER, b TEXT); INSERT INTO t VALUES(12, 'x'); SELECT b, a FROM t WHERE a > 3;";
 
-/// The line of a statement that is not built, or that is none.
+/// The line of a statement that is not built.
 pub(crate) const NOT_BUILT: &str = "Error 1: not built yet";
+
+/// The line of a text whose first token begins no statement.
+pub(crate) const AT_0: &str = "Error 1: syntax error at byte 0";
+
+/// The line of a text whose token behind SELECT cannot stand there.
+pub(crate) const AT_7: &str = "Error 1: syntax error at byte 7";
 
 /// The line of a dot line.
 pub(crate) const UNKNOWN: &str = "Error 1: unknown dot line";

@@ -1,5 +1,5 @@
 // Trees of expressions (SQL Language Expressions). Names and literals are told by their tokens.
-use crate::Token;
+use crate::{Query, Token};
 use sqlite_items::{Boxed, Items};
 
 /// An operator in front of its operand, or a test behind it.
@@ -84,6 +84,12 @@ pub enum Expr {
     Like(Boxed<Expr>, Boxed<Expr>, Option<Boxed<Expr>>),
     /// `a IN (b, ..)`
     In(Boxed<Expr>, Items<Expr>),
+    /// `a IN (query)`
+    InQuery(Boxed<Expr>, Boxed<Query>),
+    /// `(query)`, the value of its one column in its first row
+    Subquery(Boxed<Query>),
+    /// `EXISTS (query)`
+    Exists(Boxed<Query>),
     Collate(Boxed<Expr>, Token),
     Cast(Boxed<Expr>, TypeName),
     /// A call by its name, with its FILTER if any.

@@ -1,8 +1,8 @@
 // Literals (SQL Language Expressions, section 3).
 use super::*;
 use eng_value::Value;
-use sql_meaning::Literal;
-use sql_tree::{SignedLiteral, Span, Token, TokenKind};
+use sql_meaning::{Literal, SignedLiteral};
+use sql_tree::{Span, Token, TokenKind};
 use std::alloc::{AllocError, Global};
 use std::test::Fail;
 
@@ -59,14 +59,11 @@ fn literal_line(alloc: Global, l: &Literal) -> Result<String, AllocError> {
 // What the tokens of a literal stand for, as a line: one token, or a sign and another one.
 fn line(alloc: Global, text: &str) -> Result<String, AllocError> {
     let tokens = sql_lex::tokens(alloc, text)?;
-    if !text.is_ascii() {
-        return "not ASCII".to_string(alloc);
-    }
     match tokens.as_slice() {
         [token] => literal_line(alloc, &literal(alloc, text, token)?),
         [sign, token] => {
             let signed = SignedLiteral {
-                sign: Some(*sign),
+                minus: sign.kind == TokenKind::Minus,
                 literal: *token,
             };
             literal_line(alloc, &signed_literal(alloc, text, &signed)?)
@@ -105,10 +102,9 @@ fn a_literal_without_a_sign_stays_as_it_is(rt: HostRuntime) -> Result<(), Fail> 
         return Err(Fail::new("no token"));
     };
     let unsigned = SignedLiteral {
-        sign: None,
+        minus: false,
         literal: *token,
     };
-    assert!(rt; text.is_ascii());
     let found = signed_literal(rt.alloc(), text, &unsigned)?;
     let line = literal_line(rt.alloc(), &found)?;
     assert_eq!(rt; line.as_str(), "Integer(-9223372036854775808)");
@@ -127,7 +123,6 @@ fn hexadecimal_past_64_bits_has_no_value(rt: HostRuntime) -> Result<(), Fail> {
         },
         parameter: None,
     };
-    assert!(rt; text.is_ascii());
     let found = literal(rt.alloc(), text, &token)?;
     assert_eq!(rt; literal_line(rt.alloc(), &found)?.as_str(), "Bad(Overflow)");
     Ok(())

@@ -25,7 +25,7 @@ const NAMES: [(&str, &str); 14] = [
 fn first_name(alloc: Global, text: &str) -> Result<Option<Text>, AllocError> {
     let tokens = sql_lex::tokens(alloc, text)?;
     match tokens.first() {
-        Some(token) if text.is_ascii() => Ok(Some(name(alloc, text, token)?)),
+        Some(token) => Ok(Some(name(alloc, text, token)?)),
         _ => Ok(None),
     }
 }

@@ -1,6 +1,9 @@
 // CREATE TABLE.
-use crate::tests::{WORDS, line, word};
-use sql_tree::{ColumnDefinition, CreateTable, Span, Statement, Token, TypeName};
+use crate::tests::{WORDS, line, plain, word};
+use sql_tree::{
+    ColumnConstraint, ColumnDefinition, Command, Create, Definition, Span, Statement,
+    TableDefinition, Token, TypeName,
+};
 use sqlite_items::Items;
 use std::alloc::{AllocError, Global};
 use std::test::Fail;
@@ -18,6 +21,19 @@ fn type_name(alloc: Global, name: &str) -> Result<Option<TypeName>, AllocError> 
     }))
 }
 
+// CREATE TABLE of these columns.
+fn table(alloc: Global, name: &str, columns: Items<ColumnDefinition>) -> Statement {
+    plain(Command::Create(Create {
+        if_not_exists: false,
+        name: word(name),
+        definition: Definition::Table(TableDefinition {
+            columns,
+            constraints: Items::new(alloc),
+        }),
+        text: Span { start: 0, end: 1 },
+    }))
+}
+
 fn create(
     alloc: Global,
     name: &str,
@@ -28,12 +44,10 @@ fn create(
         columns.push(ColumnDefinition {
             name: word(name),
             type_name: type_name(alloc, words)?,
+            constraints: Items::new(alloc),
         })?;
     }
-    Ok(Statement::CreateTable(CreateTable {
-        name: word(name),
-        columns,
-    }))
+    Ok(table(alloc, name, columns))
 }
 
 // The line of a CREATE TABLE.
@@ -59,12 +73,10 @@ fn create_wide(alloc: Global, count: usize) -> Result<Statement, AllocError> {
         columns.push(ColumnDefinition {
             name: name_of_length(count - place),
             type_name: None,
+            constraints: Items::new(alloc),
         })?;
     }
-    Ok(Statement::CreateTable(CreateTable {
-        name: word("u"),
-        columns,
-    }))
+    Ok(table(alloc, "u", columns))
 }
 
 fn bound_wide(alloc: Global, count: usize) -> Result<String, AllocError> {
@@ -126,5 +138,21 @@ fn a_table_has_a_hundred_columns_at_most(rt: HostRuntime) -> Result<(), Fail> {
     let alloc = rt.alloc();
     assert_eq!(rt; bound_wide(alloc, 101)?.as_str(), "limit of 100 columns");
     assert!(rt; bound_wide(alloc, 100)?.as_str().starts_with("7 u xx"));
+    Ok(())
+}
+
+#[test]
+fn constraints_are_not_built(rt: HostRuntime) -> Result<(), Fail> {
+    let alloc = rt.alloc();
+    let mut constraints = Items::new(alloc);
+    constraints.push(ColumnConstraint::Unique)?;
+    let mut columns = Items::new(alloc);
+    columns.push(ColumnDefinition {
+        name: word("a"),
+        type_name: None,
+        constraints,
+    })?;
+    let unique = table(alloc, "t", columns);
+    assert_eq!(rt; line(alloc, &unique)?.as_str(), "not built yet");
     Ok(())
 }

@@ -1,43 +1,55 @@
 // INSERT.
-use crate::tests::{line, literal, token, word};
-use sql_tree::{Insert, SignedLiteral, Statement, TokenKind};
-use sqlite_items::Items;
+use crate::tests::{line, literal, of_rows, word};
+use sql_tree::{ConflictChoice, Expr, Insert, InsertSource, Query, QueryPart, RowCommand, UnaryOp};
+use sqlite_items::{Boxed, Items};
 use std::alloc::{AllocError, Global};
 use std::test::Fail;
 
 // A literal, with its minus if any.
-fn signed(text: &str) -> SignedLiteral {
+fn signed(alloc: Global, text: &str) -> Result<Expr, AllocError> {
     match text.strip_prefix("-") {
-        Some(text) => SignedLiteral {
-            sign: Some(token(TokenKind::Minus, "-")),
-            literal: literal(text),
-        },
-        None => SignedLiteral {
-            sign: None,
-            literal: literal(text),
-        },
+        Some(text) => Ok(Expr::Unary(
+            UnaryOp::Negative,
+            Boxed::new(alloc, Expr::Literal(literal(text)))?,
+        )),
+        None => Ok(Expr::Literal(literal(text))),
     }
 }
 
-// Rows of literals with blanks between them.
-fn insert(alloc: Global, table: &str, rows: &[&[&str]]) -> Result<Statement, AllocError> {
+// Rows of literals.
+fn values(alloc: Global, rows: &[&[&str]]) -> Result<Query, AllocError> {
     let mut found = Items::new(alloc);
     for row in rows {
         let mut literals = Items::new(alloc);
         for text in *row {
-            literals.push(signed(text))?;
+            literals.push(signed(alloc, text)?)?;
         }
         found.push(literals)?;
     }
-    Ok(Statement::Insert(Insert {
+    Ok(Query {
+        with: Items::new(alloc),
+        first: QueryPart::Values(found),
+        others: Items::new(alloc),
+        order_by: Items::new(alloc),
+        limit: None,
+    })
+}
+
+fn insert(alloc: Global, table: &str, rows: &[&[&str]]) -> Result<Insert, AllocError> {
+    Ok(Insert {
+        choice: ConflictChoice::Abort,
         table: word(table),
-        rows: found,
-    }))
+        columns: Items::new(alloc),
+        source: InsertSource::Query(values(alloc, rows)?),
+    })
 }
 
 // The line of an INSERT.
 fn bound(alloc: Global, table: &str, rows: &[&[&str]]) -> Result<String, AllocError> {
-    line(alloc, &insert(alloc, table, rows)?)
+    line(
+        alloc,
+        &of_rows(RowCommand::Insert(insert(alloc, table, rows)?)),
+    )
 }
 
 #[test]
@@ -90,5 +102,31 @@ fn a_row_has_a_hundred_values_at_most(rt: HostRuntime) -> Result<(), Fail> {
         bound(alloc, "t", &rows)?.as_str(),
         "wrong number of values: t"
     );
+    Ok(())
+}
+
+#[test]
+fn other_inserts_are_not_built(rt: HostRuntime) -> Result<(), Fail> {
+    let alloc = rt.alloc();
+    let rows: [&[&str]; 1] = [&["1", "1"]];
+    let not_built = "not built yet";
+    let other = Insert {
+        choice: ConflictChoice::Ignore,
+        ..insert(alloc, "u", &rows)?
+    };
+    assert_eq!(rt;
+        line(alloc, &of_rows(RowCommand::Insert(other)))?.as_str(),
+        not_built
+    );
+    let defaults = Insert {
+        source: InsertSource::Defaults,
+        ..insert(alloc, "u", &rows)?
+    };
+    assert_eq!(rt;
+        line(alloc, &of_rows(RowCommand::Insert(defaults)))?.as_str(),
+        not_built
+    );
+    let rows: [&[&str]; 1] = [&["-'x'"]];
+    assert_eq!(rt; bound(alloc, "u", &rows)?.as_str(), not_built);
     Ok(())
 }

@@ -1,6 +1,9 @@
 // SELECT.
-use crate::tests::{line, literal, word};
-use sql_tree::{Arguments, BinaryOp, Expr, ResultColumn, Select, Statement};
+use crate::tests::{line, literal, of_rows, word};
+use sql_tree::{
+    Arguments, BinaryOp, Expr, FromItem, Join, JoinConstraint, Query, QueryPart, ResultColumn,
+    RowCommand, SelectCore, Source, Span, SpannedExpr, Statement,
+};
 use sqlite_items::{Boxed, Items};
 use std::alloc::{AllocError, Global};
 use std::test::Fail;
@@ -14,11 +17,17 @@ fn expression(text: &str) -> Expr {
     }
 }
 
+// An expression without a name behind AS.
+fn of_text(expr: Expr) -> ResultColumn {
+    let text = Span { start: 0, end: 1 };
+    ResultColumn::Expression(SpannedExpr { expr, text }, None)
+}
+
 fn shown(text: &str) -> ResultColumn {
     if text == "*" {
         ResultColumn::All
     } else {
-        ResultColumn::Expression(expression(text))
+        of_text(expression(text))
     }
 }
 
@@ -46,21 +55,58 @@ fn filter(alloc: Global, texts: &[&str]) -> Result<Option<Expr>, AllocError> {
     Ok(filter)
 }
 
+// A table by its name, or none.
+fn from(alloc: Global, table: &str) -> Result<Items<FromItem>, AllocError> {
+    let mut items = Items::new(alloc);
+    if !table.is_empty() {
+        items.push(FromItem {
+            join: Join {
+                natural: false,
+                left: false,
+            },
+            source: Source::Table(word(table), None),
+            alias: None,
+            constraint: JoinConstraint::Unconstrained,
+        })?;
+    }
+    Ok(items)
+}
+
+// A query of this part alone.
+fn alone(alloc: Global, core: SelectCore) -> Statement {
+    of_rows(RowCommand::Query(Query {
+        with: Items::new(alloc),
+        first: QueryPart::Select(core),
+        others: Items::new(alloc),
+        order_by: Items::new(alloc),
+        limit: None,
+    }))
+}
+
+fn core(
+    alloc: Global,
+    results: Items<ResultColumn>,
+    table: &str,
+    filter: Option<Expr>,
+) -> Result<SelectCore, AllocError> {
+    Ok(SelectCore {
+        distinct: false,
+        results,
+        from: from(alloc, table)?,
+        filter,
+        group_by: Items::new(alloc),
+        having: None,
+    })
+}
+
 fn select(
     alloc: Global,
     shown: &[&str],
     table: &str,
     tests: &[&str],
 ) -> Result<Statement, AllocError> {
-    Ok(Statement::Select(Select {
-        results: results(alloc, shown)?,
-        from: if table.is_empty() {
-            None
-        } else {
-            Some(word(table))
-        },
-        filter: filter(alloc, tests)?,
-    }))
+    let filter = filter(alloc, tests)?;
+    Ok(alone(alloc, core(alloc, results(alloc, shown)?, table, filter)?))
 }
 
 // The line of a query.
@@ -116,14 +162,36 @@ fn a_result_has_a_hundred_columns_at_most(rt: HostRuntime) -> Result<(), Fail> {
 fn an_aggregate_is_not_built(rt: HostRuntime) -> Result<(), Fail> {
     let alloc = rt.alloc();
     let count = Expr::Call(word("count"), Arguments::Star, Items::new(alloc), None);
-    let query = Select {
-        results: results(alloc, &["*"])?,
-        from: Some(word("u")),
-        filter: Some(count),
+    let query = alone(
+        alloc,
+        core(alloc, results(alloc, &["*"])?, "u", Some(count))?,
+    );
+    assert_eq!(rt; line(alloc, &query)?.as_str(), "not built yet");
+    Ok(())
+}
+
+#[test]
+fn other_clauses_are_not_built(rt: HostRuntime) -> Result<(), Fail> {
+    let alloc = rt.alloc();
+    let distinct = SelectCore {
+        distinct: true,
+        ..core(alloc, results(alloc, &["a"])?, "u", None)?
     };
     assert_eq!(rt;
-        line(alloc, &Statement::Select(query))?.as_str(),
+        line(alloc, &alone(alloc, distinct))?.as_str(),
         "not built yet"
     );
+    let having = SelectCore {
+        having: Some(expression("1")),
+        ..core(alloc, results(alloc, &["a"])?, "u", None)?
+    };
+    assert_eq!(rt;
+        line(alloc, &alone(alloc, having))?.as_str(),
+        "not built yet"
+    );
+    let mut named = Items::new(alloc);
+    named.push(ResultColumn::AllOf(word("t")))?;
+    let star = core(alloc, named, "t", None)?;
+    assert_eq!(rt; line(alloc, &alone(alloc, star))?.as_str(), "not built yet");
     Ok(())
 }

@@ -1,5 +1,7 @@
 // What is pending where a script ends, and what `--bail` does there.
-use super::{BAIL, FIRST, NOT_BUILT, PLAIN, READ_FAULT, Row, Setting, UNKNOWN, first_other};
+use super::{
+    AT_0, AT_7, BAIL, FIRST, NOT_BUILT, PLAIN, READ_FAULT, Row, Setting, UNKNOWN, first_other,
+};
 use std::test::Fail;
 
 const BAIL_FAULT: Setting<'static> = Setting {
@@ -14,7 +16,7 @@ fn what_is_pending_runs_at_the_end(rt: HostRuntime) -> Result<(), Fail> {
     let rows: [Row; 7] = [
         ("", &["x|12"], 0),
         ("SELECT 1", &["x|12", "1"], 0),
-        ("SELECT 'a", &["x|12", NOT_BUILT], 1),
+        ("SELECT 'a", &["x|12", AT_7], 1),
         ("\n.x", &["x|12", UNKNOWN], 1),
         ("/* a", &["x|12"], 0),
         ("-- a", &["x|12"], 0),
@@ -51,7 +53,7 @@ fn bail_ends_at_the_first_error_line(rt: HostRuntime) -> Result<(), Fail> {
         ("DROP TABLE t", &["x|12", NOT_BUILT], 1),
         ("\n.x\nSELECT 1;", &["x|12", UNKNOWN], 1),
         ("\n.x", &["x|12", UNKNOWN], 1),
-        (".x\n;.y", &["x|12", NOT_BUILT], 1),
+        (".x\n;.y", &["x|12", AT_0], 1),
         // The rows in front of what is bad are written.
         (
             "INSERT INTO t VALUES(9223372036854775807, '');SELECT a + 1 FROM t;SELECT 1",

@@ -1,5 +1,5 @@
 // How scripts are cut into statements and dot lines.
-use super::{NOT_BUILT, PLAIN, Row, Setting, UNKNOWN, first_other};
+use super::{AT_0, AT_7, NOT_BUILT, PLAIN, Row, Setting, UNKNOWN, first_other};
 use std::test::Fail;
 
 const ONE_BYTE: Setting<'static> = Setting {
@@ -28,13 +28,17 @@ const DOT_LINES: [Row; 26] = [
     ("/* ; */\n.x", &[UNKNOWN], 1),
     ("/*\n*/\n.x", &[UNKNOWN], 1),
     // It begins nowhere else, and not where a statement or a comment goes on.
-    (" .x", &[NOT_BUILT], 1),
-    (";.x", &[NOT_BUILT], 1),
-    ("/*\n*/.x", &[NOT_BUILT], 1),
-    ("\r.x", &[NOT_BUILT], 1),
-    ("SELECT 1;.x\nSELECT 2;SELECT 3", &["1", NOT_BUILT, "3"], 1),
-    ("SELECT 1\n.5", &[NOT_BUILT], 1),
-    ("SELECT 1\n.5;SELECT 2", &[NOT_BUILT, "2"], 1),
+    (" .x", &[AT_0], 1),
+    (";.x", &[AT_0], 1),
+    ("/*\n*/.x", &[AT_0], 1),
+    ("\r.x", &[AT_0], 1),
+    ("SELECT 1;.x\nSELECT 2;SELECT 3", &["1", AT_0, "3"], 1),
+    ("SELECT 1\n.5", &["Error 1: syntax error at byte 9"], 1),
+    (
+        "SELECT 1\n.5;SELECT 2",
+        &["Error 1: syntax error at byte 9", "2"],
+        1,
+    ),
     (
         "CREATE TABLE t(a);INSERT INTO t VALUES(7);SELECT t\n.a FROM t",
         &["7"],
@@ -42,7 +46,11 @@ const DOT_LINES: [Row; 26] = [
     ),
     ("SELECT '\n.x\n'", &["", ".x", ""], 0),
     ("-- .x\n/* .y\n.z\n*/", &[], 0),
-    ("SELECT 1 --\n.x\n;SELECT 2", &[NOT_BUILT, "2"], 1),
+    (
+        "SELECT 1 --\n.x\n;SELECT 2",
+        &["Error 1: syntax error at byte 12", "2"],
+        1,
+    ),
 ];
 
 const LINE_ENDS: [Row; 7] = [
@@ -71,9 +79,9 @@ const SEMICOLONS: [Row; 13] = [
     ("/* SELECT 1; -- */ SELECT 2", &["2"], 0),
     ("SELECT 1;-- a\n;/* b */;--", &["1"], 0),
     // A text, a name and a comment without their ends go on to the end of the script.
-    ("SELECT 1;SELECT 'a;SELECT 2;", &["1", NOT_BUILT], 1),
-    ("SELECT 1;SELECT \"a;SELECT 2;", &["1", NOT_BUILT], 1),
-    ("SELECT 1;SELECT [a;SELECT 2;", &["1", NOT_BUILT], 1),
+    ("SELECT 1;SELECT 'a;SELECT 2;", &["1", AT_7], 1),
+    ("SELECT 1;SELECT \"a;SELECT 2;", &["1", AT_7], 1),
+    ("SELECT 1;SELECT [a;SELECT 2;", &["1", AT_7], 1),
     ("SELECT 1;/* SELECT 2;", &["1"], 0),
 ];
 
@@ -85,13 +93,13 @@ const TRIGGERS: [Row; 3] = [
     ),
     (
         "CREATE TRIGGER r AFTER INSERT ON t BEGIN\n SELECT CASE 1 WHEN 1 THEN 2 END;\n.x\n;\nEND;\n.x",
-        &[NOT_BUILT, UNKNOWN],
+        &["Error 1: syntax error at byte 75", UNKNOWN],
         1,
     ),
     // Without its END it is pending.
     (
         "SELECT 1;CREATE TRIGGER r AFTER INSERT ON t BEGIN SELECT 2;",
-        &["1", NOT_BUILT],
+        &["1", "Error 1: syntax error at byte 50"],
         1,
     ),
 ];
@@ -125,7 +133,7 @@ fn pieces_of_one_byte_are_one_script(rt: HostRuntime) -> Result<(), Fail> {
     assert_eq!(rt; first_other(rt.alloc(), "", &DOT_LINES, ONE_BYTE)?, None);
     assert_eq!(rt; first_other(rt.alloc(), "", &LINE_ENDS, ONE_BYTE)?, None);
     // Not even a character is whole in a piece.
-    let rows: [Row; 1] = [("SELECT 'é';-- é\nSELECT 1", &[NOT_BUILT, "1"], 1)];
+    let rows: [Row; 1] = [("SELECT 'é';-- é\nSELECT 1", &["é", "1"], 0)];
     assert_eq!(rt; first_other(rt.alloc(), "", &rows, ONE_BYTE)?, None);
     Ok(())
 }

@@ -1,5 +1,5 @@
 // The words behind the program's name.
-use super::{FIRST, NOT_BUILT, Row, Setting, answer_from, first_other};
+use super::{AT_0, FIRST, Row, Setting, answer_from, first_other};
 use host_traits::{MemorySource, ReadAnswer, Source};
 use std::test::Fail;
 
@@ -92,7 +92,7 @@ fn a_budget_interrupts_each_statement(rt: HostRuntime) -> Result<(), Fail> {
         ("SELECT 1", &[INTERRUPTED], 1),
         (
             "SELECT 1;.x\n;SELECT 2",
-            &[INTERRUPTED, NOT_BUILT, INTERRUPTED],
+            &[INTERRUPTED, AT_0, INTERRUPTED],
             1,
         ),
     ];

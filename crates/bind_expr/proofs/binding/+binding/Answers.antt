@@ -392,3 +392,10 @@ bind-returns-in_ok-choose-in-None t c =
     let is = rw c.in-None.is at whole_case in
     let is_arms = goes_on _ _ _ _ is (rw c.as_slice-in-None.ensures at c.in_ok-arms-in-None.ensures) in
     goes_on _ _ _ _ is_arms c.in_ok-otherwise-in-None.ensures ∙ ap Ok (sym c.in_ok-choose-in-None.ensures)
+
+pub bind-returns-in_err-operand-in-Some : goal.bind-returns-in_err-operand-in-Some
+bind-returns-in_err-operand-in-Some t c =
+    let whole_case = rw (← c.in-Case.is) at (part_of-Case c.in-Case.operand c.in-Case.arms c.in-Case.otherwise c.args.scope.now) in
+    let is = rw c.in-Some.is at whole_case in
+    let why = err_from_is_err_and c.from_residual-in_err-operand-in-Some.result c.from_residual-in_err-operand-in-Some.ensures.1 in
+    rw (why.1, why.2) (ends whole whole _ _ _ _ is (rw c.get-in-Some.ensures at c.in_err-operand-in-Some.ensures))

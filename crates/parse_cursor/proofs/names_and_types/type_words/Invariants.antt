@@ -1,6 +1,7 @@
 use Rattle.std.proofs.Common.{◌≡◌, ℕ, length}
 use Rattle.sql_grammar.specs.Rules.{reads}
-use Rattle.sql_grammar.specs.Grammar.{Name, rules, type_words}
+use Rattle.sql_grammar.specs.Grammar.{Name, type_words}
+use Rattle.sql_grammar.specs.Bodies.{rules}
 use Rattle.parse_cursor.specs.Gives.{collected}
 use Rattle.parse_cursor.specs.Parts.{more_names}
 use Rattle.parse_cursor.proofs.names_and_types.type_words.Given as goal

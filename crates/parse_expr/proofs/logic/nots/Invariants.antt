@@ -1,6 +1,7 @@
 use Rattle.std.proofs.Common.{◌≡◌, ℕ, length}
 use Rattle.sql_grammar.specs.Rules.{reads}
-use Rattle.sql_grammar.specs.Grammar.{Name, rules, nots}
+use Rattle.sql_grammar.specs.Grammar.{Name, nots}
+use Rattle.sql_grammar.specs.Bodies.{rules}
 use Rattle.parse_cursor.specs.Gives.{collected}
 use Rattle.parse_expr.proofs.logic.nots.Given as goal
 

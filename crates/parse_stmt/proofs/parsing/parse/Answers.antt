@@ -1,6 +1,6 @@
 use Rattle.sql_grammar.specs.StatementTexts.{AnswersAs, read_statement}
 use Rattle.sql_grammar.proofs.StatementLaws.{read_as_answered}
-use Rattle.parse_expr.proofs.Exact.{read_whole, too_long, stopped}
+use Rattle.parse_cursor.proofs.Exact.{read_whole, too_long, stopped}
 use Rattle.parse_stmt.proofs.parsing.parse.Goals as goal
 
 pub returns-then-cursor-eq0 : goal.returns-then-cursor-eq0

@@ -1,6 +1,7 @@
 use Rattle.std.proofs.Common.{◌≡◌, ◌-◌, length}
 use Rattle.sql_grammar.specs.Rules.{reads}
-use Rattle.sql_grammar.specs.Grammar.{Name, rules, exprs}
+use Rattle.sql_grammar.specs.Grammar.{Name, exprs}
+use Rattle.sql_grammar.specs.Bodies.{rules}
 use Rattle.parse_cursor.specs.Gives.{collected}
 use Rattle.parse_operand.specs.Parts.{more_exprs}
 use Rattle.parse_operand.proofs.operands.Operands.exprs.Given as goal

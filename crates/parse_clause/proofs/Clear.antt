@@ -1,0 +1,45 @@
+-- One token of look-ahead tells what to do in the lists of results and of items, and with which kinds an item behind the first begins.
+use Rattle.std.proofs.Common.{◌≡◌, ℕ, ◌-◌, ◌<◌, ◌≤◌, arith, length, take, suc, ◌+◌, Bool, if◌then◌else◌, true, false, ◌||◌, List, [], ◌∷◌, ◌++◌, map, Option, append_assoc, append-nil, Some, None, refl, ap, sym, ◌∙◌}
+use Rattle.sql_tree.specs.declared.token.Token.{Token}
+use Rattle.sql_tree.specs.declared.token.TokenKind.{TokenKind}
+use Rattle.sql_tree.specs.declared.token.TokenKind.TheVariants as kind
+use Rattle.sql_tree.specs.declared.expr.Expr.{Expr}
+use Rattle.sql_grammar.specs.declared.counts.Counts.{Counts}
+use Rattle.sql_grammar.specs.declared.counts.Role.TheVariants as role
+use Rattle.sql_grammar.specs.Rules.{Kinds, starts, has, first, is_clear, can_be_empty, reads, one, opening, before, both, pick_read, tok, pure, Parser, Outcome, Done, Stop, ◌>>=◌}
+use Rattle.sql_grammar.specs.Bodies.{rules}
+use Rattle.sql_grammar.proofs.ReadingLaws.{chosen, other}
+use Rattle.sql_grammar.specs.Grammar.{Name}
+use Rattle.sql_grammar.specs.Queries.{result, joined_item, all_query_rules}
+use Rattle.sql_grammar.specs.Definitions.{all_names}
+use Rattle.parse_clause.specs.declared.from.TheConstants.{JOINS}
+use Rattle.parse_clause.specs.Parts.{more_results, joined_items}
+
+-- all rules, for proofs that compute with them
+unfoldable computed : Unit {0}
+unfolding all_query_rules all_names more_results joined_items
+computed = tt
+
+pub more_results_clear : is_clear Name rules more_results ≡ true
+unfolding computed
+more_results_clear = refl
+
+pub joined_items_clear : is_clear Name rules joined_items ≡ true
+unfolding computed
+joined_items_clear = refl
+
+pub result_clear : is_clear Name rules result ≡ true
+unfolding computed
+result_clear = refl
+
+pub joined_item_clear : is_clear Name rules joined_item ≡ true
+unfolding computed
+joined_item_clear = refl
+
+pub joined_item_solid : can_be_empty joined_item ≡ false
+unfolding computed
+joined_item_solid = refl
+
+pub first_joined_item : first joined_item ≡ JOINS
+unfolding computed
+first_joined_item = refl

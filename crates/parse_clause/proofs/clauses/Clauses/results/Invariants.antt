@@ -1,0 +1,14 @@
+use Rattle.std.proofs.Common.{◌≡◌, length}
+use Rattle.sql_grammar.specs.Rules.{reads}
+use Rattle.sql_grammar.specs.Grammar.{Name}
+use Rattle.sql_grammar.specs.Bodies.{rules}
+use Rattle.sql_grammar.specs.Queries.{results}
+use Rattle.parse_cursor.specs.Gives.{collected}
+use Rattle.parse_clause.specs.Parts.{more_results}
+use Rattle.parse_clause.proofs.clauses.Clauses.results.Given as goal
+
+abbrev pub invariant-loop-tokens : goal.invariant-loop-tokens
+invariant-loop-tokens g l = reads Name rules l.self.levels.operands.depth results l.fn.tokens.counts l.fn.tokens.rest.now ≡ collected l.found (reads Name rules l.self.levels.operands.depth more_results l.tokens.counts l.tokens.rest.now)
+
+abbrev pub decreases-loop-tokens : goal.decreases-loop-tokens
+decreases-loop-tokens g l = length l.tokens.rest.now

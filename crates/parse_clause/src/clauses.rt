@@ -1,0 +1,74 @@
+// The rules at a number of nestings that are left, and what several of them share.
+
+ghost use Rattle.sql_grammar.specs.Rules.{reads};
+ghost use Rattle.sql_grammar.specs.Grammar.{Name, expr};
+ghost use Rattle.sql_grammar.specs.Queries as spec;
+ghost use Rattle.sql_grammar.specs.Queries.{query};
+ghost use Rattle.sql_grammar.specs.Bodies.{rules};
+ghost use Rattle.parse_cursor.specs.Gives.{Gives};
+ghost use Rattle.parse_operand.specs.Nests.{Nests};
+ghost use Rattle.parse_clause.specs.Parts as part;
+
+use parse_cursor::{Cursor, ParseError, text_before};
+use parse_expr::Levels;
+use sql_grammar::Role;
+use sql_tree::{Expr, Query, SpannedExpr, TokenKind};
+use sqlite_items::Boxed;
+use std::alloc::Global;
+
+/// Each rule of the grammar is a method, which parses what the rule derives.
+#[derive(Clone, Copy)]
+pub struct Clauses<F, G> {
+    pub levels: Levels<F, G>,
+}
+
+impl<
+    F: Fn(Global, &mut Cursor<'_>, usize) -> Result<Boxed<Expr>, ParseError>,
+    G: Fn(Global, &mut Cursor<'_>, usize) -> Result<Boxed<Query>, ParseError>,
+> Clauses<F, G> {
+    /// Parses an expression (SQL Language Expressions), and gives its tree with the bytes of its text.
+    #[tactic(auto, unfolding(sql_grammar::specs::Queries::spanned_expr))]
+    pub fn spanned_expr(&self, tokens: &mut Cursor<'_>) -> Result<SpannedExpr, ParseError>
+        requires exprs { Nests expr self.now.levels.operands.depth (F.pre self.now.levels.operands.inner) (F.post self.now.levels.operands.inner) }
+        requires queries { Nests query self.now.levels.operands.depth (G.pre self.now.levels.operands.query) (G.post self.now.levels.operands.query) }
+        ensures { Gives (reads Name rules self.now.levels.operands.depth spec.spanned_expr tokens.old.counts tokens.old.rest.now) result tokens.new.counts tokens.new.rest.now }
+    {
+        let behind = tokens.rest;
+        let expr = self.levels.expr(tokens)?.into_inner();
+        Ok(SpannedExpr {
+            expr,
+            text: text_before(behind, tokens.rest),
+        })
+    }
+
+    /// Parses `( query )` (SELECT), where a nesting may still be opened.
+    #[tactic(auto, using(crate::proofs::Bracketed::in_query_is))]
+    pub fn in_query(&self, tokens: &mut Cursor<'_>) -> Result<Boxed<Query>, ParseError>
+        requires exprs { Nests expr self.now.levels.operands.depth (F.pre self.now.levels.operands.inner) (F.post self.now.levels.operands.inner) }
+        requires queries { Nests query self.now.levels.operands.depth (G.pre self.now.levels.operands.query) (G.post self.now.levels.operands.query) }
+        ensures { Gives (reads Name rules self.now.levels.operands.depth part.in_query tokens.old.counts tokens.old.rest.now) result tokens.new.counts tokens.new.rest.now }
+    {
+        tokens.open(
+            self.levels.operands.depth,
+            TokenKind::LeftParen,
+            Role::Opening,
+        )?;
+        let found = self.levels.operands.inner_query(tokens)?;
+        tokens.expect(TokenKind::RightParen, Role::Closing)?;
+        Ok(found)
+    }
+
+    /// Parses `[WHERE expr]` (SELECT).
+    #[tactic(auto, unfolding(sql_grammar::specs::Queries::filter_by))]
+    pub fn filter_by(&self, tokens: &mut Cursor<'_>) -> Result<Option<Expr>, ParseError>
+        requires exprs { Nests expr self.now.levels.operands.depth (F.pre self.now.levels.operands.inner) (F.post self.now.levels.operands.inner) }
+        requires queries { Nests query self.now.levels.operands.depth (G.pre self.now.levels.operands.query) (G.post self.now.levels.operands.query) }
+        ensures { Gives (reads Name rules self.now.levels.operands.depth spec.filter_by tokens.old.counts tokens.old.rest.now) result tokens.new.counts tokens.new.rest.now }
+    {
+        if !tokens.sees(TokenKind::Where) {
+            return Ok(None);
+        }
+        tokens.expect(TokenKind::Where, Role::Outside)?;
+        Ok(Some(self.levels.expr(tokens)?.into_inner()))
+    }
+}

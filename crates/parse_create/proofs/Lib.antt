@@ -1,0 +1,12 @@
+pub mod Thens
+pub mod Clear
+pub mod Straight
+pub mod Bracketed
+pub mod Assignments
+pub mod Constrained
+pub mod Elements
+pub mod Lists
+pub mod Indexed
+pub mod Triggered
+pub mod Pieces
+pub mod Made

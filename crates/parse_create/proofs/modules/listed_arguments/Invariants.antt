@@ -1,0 +1,13 @@
+use Rattle.std.proofs.Common.{◌≡◌, length}
+use Rattle.sql_grammar.specs.Rules.{reads}
+use Rattle.sql_grammar.specs.Grammar.{Name}
+use Rattle.sql_grammar.specs.Bodies.{rules}
+use Rattle.parse_cursor.specs.Gives.{collected}
+use Rattle.parse_create.specs.Arguments.{listed, more_arguments}
+use Rattle.parse_create.proofs.modules.listed_arguments.Given as goal
+
+abbrev pub invariant-loop-tokens : goal.invariant-loop-tokens
+invariant-loop-tokens l = reads Name rules l.depth listed l.fn.tokens.counts l.fn.tokens.rest.now ≡ collected l.found (reads Name rules l.depth more_arguments l.tokens.counts l.tokens.rest.now)
+
+abbrev pub decreases-loop-tokens : goal.decreases-loop-tokens
+decreases-loop-tokens l = length l.tokens.rest.now

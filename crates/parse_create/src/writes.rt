@@ -1,0 +1,207 @@
+// Reading and changing rows: queries, INSERT, UPDATE and DELETE.
+
+ghost use Rattle.std.specs.Prelude.{ℕ, ◌≡◌};
+ghost use Rattle.sql_grammar.specs.Grammar.{Name};
+ghost use Rattle.sql_grammar.specs.Bodies.{rules};
+ghost use Rattle.sql_grammar.specs.Queries as queries;
+ghost use Rattle.sql_grammar.specs.Rules.{reads, first, starts};
+ghost use Rattle.sql_grammar.specs.Writes as spec;
+ghost use Rattle.parse_cursor.specs.Gives.{Gives};
+
+use parse_cursor::{Cursor, ParseError, column_names, name};
+use parse_query::{expr, filter_by, query};
+use sql_grammar::Role;
+use sql_tree::{
+    Assignment, ConflictChoice, Delete, Insert, InsertSource, RowCommand, TokenKind, Update,
+};
+use sqlite_items::Items;
+use std::alloc::Global;
+
+/// What a command that reads or changes rows begins with.
+const STARTS: [TokenKind; 7] = [
+    TokenKind::With,
+    TokenKind::Select,
+    TokenKind::Values,
+    TokenKind::Insert,
+    TokenKind::Replace,
+    TokenKind::Update,
+    TokenKind::Delete,
+];
+
+/// Whether a query comes next.
+#[tactic(auto, using(crate::proofs::Clear::first_query))]
+fn sees_query(tokens: &Cursor<'_>) -> bool
+    ensures { result ≡ starts (first queries.query) tokens.now.rest.now }
+{
+    tokens.sees_any(&[TokenKind::With, TokenKind::Select, TokenKind::Values])
+}
+
+/// `ABORT | IGNORE | REPLACE`
+#[tactic(auto, using(crate::proofs::Straight::choice_words))]
+fn choice_word(tokens: &mut Cursor<'_>) -> Result<ConflictChoice, ParseError>
+    ensures { (d : ℕ) → Gives (reads Name rules d spec.choice_word tokens.old.counts tokens.old.rest.now) result tokens.new.counts tokens.new.rest.now }
+{
+    if tokens.sees(TokenKind::Abort) {
+        tokens.expect(TokenKind::Abort, Role::Outside)?;
+        return Ok(ConflictChoice::Abort);
+    }
+    if tokens.sees(TokenKind::Ignore) {
+        tokens.expect(TokenKind::Ignore, Role::Outside)?;
+        return Ok(ConflictChoice::Ignore);
+    }
+    tokens.expect(TokenKind::Replace, Role::Outside)?;
+    Ok(ConflictChoice::Replace)
+}
+
+/// `[OR choice]` (ON CONFLICT)
+#[tactic(auto, using(crate::proofs::Straight::conflict_choices))]
+fn conflict_choice(tokens: &mut Cursor<'_>) -> Result<ConflictChoice, ParseError>
+    ensures { (d : ℕ) → Gives (reads Name rules d spec.conflict_choice tokens.old.counts tokens.old.rest.now) result tokens.new.counts tokens.new.rest.now }
+{
+    if !tokens.sees(TokenKind::Or) {
+        return Ok(ConflictChoice::Abort);
+    }
+    tokens.expect(TokenKind::Or, Role::Outside)?;
+    choice_word(tokens)
+}
+
+/// `INSERT [OR choice] | REPLACE`
+#[tactic(auto, using(crate::proofs::Straight::inserting_words))]
+fn insert_words(tokens: &mut Cursor<'_>) -> Result<ConflictChoice, ParseError>
+    ensures { (d : ℕ) → Gives (reads Name rules d spec.insert_words tokens.old.counts tokens.old.rest.now) result tokens.new.counts tokens.new.rest.now }
+{
+    if tokens.sees(TokenKind::Insert) {
+        tokens.expect(TokenKind::Insert, Role::Outside)?;
+        return conflict_choice(tokens);
+    }
+    tokens.expect(TokenKind::Replace, Role::Outside)?;
+    Ok(ConflictChoice::Replace)
+}
+
+/// `query | DEFAULT VALUES`
+#[tactic(auto, unfolding(sql_grammar::specs::Writes::insert_source_of))]
+fn insert_source(
+    alloc: Global,
+    tokens: &mut Cursor<'_>,
+    depth: usize,
+) -> Result<InsertSource, ParseError>
+    ensures { Gives (reads Name rules depth spec.insert_source_of tokens.old.counts tokens.old.rest.now) result tokens.new.counts tokens.new.rest.now }
+{
+    if sees_query(tokens) {
+        return Ok(InsertSource::Query(query(alloc, tokens, depth)?));
+    }
+    tokens.expect(TokenKind::Default, Role::Outside)?;
+    tokens.expect(TokenKind::Values, Role::Outside)?;
+    Ok(InsertSource::Defaults)
+}
+
+/// `(INSERT [OR choice] | REPLACE) INTO name [( name {, name} )] (query | DEFAULT VALUES)` (INSERT)
+#[tactic(auto, unfolding(sql_grammar::specs::Writes::insert))]
+fn insert(alloc: Global, tokens: &mut Cursor<'_>, depth: usize) -> Result<Insert, ParseError>
+    ensures { Gives (reads Name rules depth spec.insert tokens.old.counts tokens.old.rest.now) result tokens.new.counts tokens.new.rest.now }
+{
+    let choice = insert_words(tokens)?;
+    tokens.expect(TokenKind::Into, Role::Outside)?;
+    let table = name(tokens)?;
+    let columns = column_names(alloc, tokens, depth)?;
+    let source = insert_source(alloc, tokens, depth)?;
+    Ok(Insert {
+        choice,
+        table,
+        columns,
+        source,
+    })
+}
+
+/// `name = expr`
+#[tactic(auto, unfolding(sql_grammar::specs::Writes::assignment))]
+fn assignment(
+    alloc: Global,
+    tokens: &mut Cursor<'_>,
+    depth: usize,
+) -> Result<Assignment, ParseError>
+    ensures { Gives (reads Name rules depth spec.assignment tokens.old.counts tokens.old.rest.now) result tokens.new.counts tokens.new.rest.now }
+{
+    let column = name(tokens)?;
+    tokens.expect(TokenKind::Equal, Role::Outside)?;
+    let value = expr(alloc, tokens, depth)?;
+    Ok(Assignment { column, value })
+}
+
+/// `assignment {, assignment}`
+#[tactic(auto, using(crate::proofs::Assignments::assignments_steps))]
+fn assignments(
+    alloc: Global,
+    tokens: &mut Cursor<'_>,
+    depth: usize,
+) -> Result<Items<Assignment>, ParseError>
+    ensures { Gives (reads Name rules depth spec.assignments tokens.old.counts tokens.old.rest.now) result tokens.new.counts tokens.new.rest.now }
+{
+    let mut found = Items::new(alloc);
+    found.push(assignment(alloc, tokens, depth)?)?;
+    while tokens.sees(TokenKind::Comma) {
+        tokens.expect(TokenKind::Comma, Role::Outside)?;
+        found.push(assignment(alloc, tokens, depth)?)?;
+    }
+    Ok(found)
+}
+
+/// `UPDATE [OR choice] name SET assignment {, assignment} [WHERE expr]` (UPDATE)
+#[tactic(auto, unfolding(sql_grammar::specs::Writes::update, sql_grammar::specs::Writes::update_parts))]
+fn update(alloc: Global, tokens: &mut Cursor<'_>, depth: usize) -> Result<Update, ParseError>
+    ensures { Gives (reads Name rules depth spec.update tokens.old.counts tokens.old.rest.now) result tokens.new.counts tokens.new.rest.now }
+{
+    tokens.expect(TokenKind::Update, Role::Outside)?;
+    let choice = conflict_choice(tokens)?;
+    let table = name(tokens)?;
+    tokens.expect(TokenKind::Set, Role::Outside)?;
+    let assignments = assignments(alloc, tokens, depth)?;
+    let filter = filter_by(alloc, tokens, depth)?;
+    Ok(Update {
+        choice,
+        table,
+        assignments,
+        filter,
+    })
+}
+
+/// `DELETE FROM name [WHERE expr]` (DELETE)
+#[tactic(auto, unfolding(sql_grammar::specs::Writes::delete, sql_grammar::specs::Writes::delete_parts))]
+fn delete(alloc: Global, tokens: &mut Cursor<'_>, depth: usize) -> Result<Delete, ParseError>
+    ensures { Gives (reads Name rules depth spec.delete tokens.old.counts tokens.old.rest.now) result tokens.new.counts tokens.new.rest.now }
+{
+    tokens.expect(TokenKind::Delete, Role::Outside)?;
+    tokens.expect(TokenKind::From, Role::Outside)?;
+    let table = name(tokens)?;
+    let filter = filter_by(alloc, tokens, depth)?;
+    Ok(Delete { table, filter })
+}
+
+/// Whether a command that reads or changes rows comes next.
+#[tactic(auto, using(crate::proofs::Clear::first_row_command))]
+pub fn sees_row_command(tokens: &Cursor<'_>) -> bool
+    ensures { result ≡ starts (first spec.row_command) tokens.now.rest.now }
+{
+    tokens.sees_any(&STARTS)
+}
+
+/// `query | insert | update | delete`, where so many nestings may still be opened
+#[tactic(auto, using(crate::proofs::Clear::write_firsts), unfolding(sql_grammar::specs::Writes::row_command))]
+pub fn row_command(
+    alloc: Global,
+    tokens: &mut Cursor<'_>,
+    depth: usize,
+) -> Result<RowCommand, ParseError>
+    ensures { Gives (reads Name rules depth spec.row_command tokens.old.counts tokens.old.rest.now) result tokens.new.counts tokens.new.rest.now }
+{
+    if sees_query(tokens) {
+        return Ok(RowCommand::Query(query(alloc, tokens, depth)?));
+    }
+    if tokens.sees(TokenKind::Insert) || tokens.sees(TokenKind::Replace) {
+        return Ok(RowCommand::Insert(insert(alloc, tokens, depth)?));
+    }
+    if tokens.sees(TokenKind::Update) {
+        return Ok(RowCommand::Update(update(alloc, tokens, depth)?));
+    }
+    Ok(RowCommand::Delete(delete(alloc, tokens, depth)?))
+}

@@ -1,5 +1,0 @@
-use Rattle.parse_expr.proofs.Smaller.{joined_shorter}
-use Rattle.parse_expr.proofs.precedence.Levels.concatenation.Goals as goal
-
-pub loop-tokens-smaller : goal.loop-tokens-smaller
-loop-tokens-smaller g c = joined_shorter _ _ _ _ _ _ _ _ _ c.in_ok-expect.ensures c.in_ok-right.ensures

@@ -1,5 +1,0 @@
-use Rattle.parse_expr.proofs.Levels.{test_shorter}
-use Rattle.parse_expr.proofs.precedence.Levels.equality.Goals as goal
-
-pub loop-tokens-smaller : goal.loop-tokens-smaller
-loop-tokens-smaller g c = test_shorter _ _ _ _ _ _ _ c.in_ok-left-2.ensures

@@ -1,0 +1,5 @@
+use Rattle.parse_expr.proofs.Smaller.{joined_shorter}
+use Rattle.parse_expr.proofs.precedence.Levels.more_concatenation.Goals as goal
+
+pub loop-tokens-smaller : goal.loop-tokens-smaller
+loop-tokens-smaller g c = joined_shorter _ _ _ _ _ _ _ _ _ c.in_ok-expect.ensures c.in_ok-right.ensures

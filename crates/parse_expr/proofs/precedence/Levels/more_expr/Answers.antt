@@ -1,0 +1,5 @@
+use Rattle.parse_expr.proofs.Smaller.{or_shorter}
+use Rattle.parse_expr.proofs.precedence.Levels.more_expr.Goals as goal
+
+pub loop-tokens-smaller : goal.loop-tokens-smaller
+loop-tokens-smaller g c = or_shorter _ _ _ _ _ _ _ _ _ c.in_ok-expect.ensures c.in_ok-right.ensures

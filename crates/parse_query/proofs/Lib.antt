@@ -1,0 +1,6 @@
+pub mod Clear
+pub mod Selecting
+pub mod CompoundSteps
+pub mod OrderingSteps
+pub mod Tables
+pub mod Lists
