@@ -1,5 +1,5 @@
 -- What a program's run says, by causes.
-use Rattle.std.proofs.Common.{◌≡◌, ℕ, Result, Option, Ok, Err, sym, subst}
+use Rattle.std.proofs.Common.{ℕ, Option, Ok, Err, sym, subst}
 use Rattle.eng_value.specs.declared.cause.Cause.{Cause}
 use Rattle.eng_value.specs.declared.cause.Cause.TheVariants as cause
 use Rattle.vm_code.specs.Machine.{World, Shared, Ending}

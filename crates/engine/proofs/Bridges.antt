@@ -1,5 +1,5 @@
 -- What statements come to whose tables go by their places is what the definitions say of tables by names.
-use Rattle.std.proofs.Common.{◌≡◌, ℕ, ◌+◌, ◌<◌, Bool, true, false, List, [], ◌∷◌, ◌++◌, ℤ, length, map, drop, Option, Some, None, Result, Ok, Err, refl, sym, ap, ◌∙◌, arith, if◌then◌else◌}
+use Rattle.std.proofs.Common.{◌≡◌, ℕ, ◌<◌, Bool, true, false, List, [], ◌∷◌, ◌++◌, ℤ, length, map, drop, Option, Some, None, Result, Ok, Err, refl, sym, ap, ◌∙◌, arith, if◌then◌else◌}
 use Rattle.std.specs.List.{flat_map}
 use Rattle.std.proofs.Math.Seq.{drop-append_seam}
 use Rattle.eng_value.specs.Causes.{CauseSet}
@@ -16,15 +16,15 @@ use Rattle.sql_meaning.specs.declared.column.Column.{Column}
 use Rattle.sql_meaning.specs.declared.column.TableEntry.{TableEntry}
 use Rattle.sql_meaning.specs.Binding.{◌>>=◌}
 use Rattle.sql_meaning.specs.Expression.{literal_out}
-use Rattle.sql_meaning.specs.Statement.{Query, Put, Outcome, done, query_outcome, items_of, items_at, at_row, environments, put_outcome, put_source, all_put, source_of as source_meant, item_of, no_causes, refusal_of, given_of, create_outcome, with_created, is_new_table, rows_put}
-use Rattle.sql_meaning.specs.World.{State, entry_named, rows_of as rows_under, with_rows}
+use Rattle.sql_meaning.specs.Statement.{Query, Put, done, query_outcome, items_of, items_at, at_row, environments, put_outcome, put_source, all_put, source_of as source_meant, item_of, no_causes, refusal_of, given_of, create_outcome, is_new_table, rows_put}
+use Rattle.sql_meaning.specs.World.{State, entry_named}
 use Rattle.vm_code.specs.Machine.{World as Lists, IsOrdered, Run, rows_of}
-use Rattle.bind_stmt.specs.Binds.{IsFromAt, IsTableAt, IsQueryAt, IsPutAt}
-use Rattle.engine.specs.Held.{named_rows, state_of}
+use Rattle.bind_stmt.specs.Binds.{IsFromAt, IsQueryAt, IsPutAt}
+use Rattle.engine.specs.Held.{state_of}
 use Rattle.engine.specs.Running.{put_count}
 use Rattle.engine.specs.Outcomes.{create_outcome_in, query_outcome_in, put_outcome_in, left_by}
 use Rattle.engine.proofs.Places.{place_named-rows, place_named-with_rows, place_named-within, with_rows-free}
-use Rattle.engine.proofs.Puts.{PutsAll, Puts, puts_rows}
+use Rattle.engine.proofs.Puts.{Puts, puts_rows}
 
 module _ (catalog : List TableEntry) (lists : Lists) (changes : ℕ) (last : ℤ) (long : length lists ≡ length catalog) where
   abbrev state : State

@@ -1,9 +1,8 @@
 -- What a statement's run says, from what its program's run says.
-use Rattle.std.proofs.Common.{◌≡◌, ℕ, ◌-◌, ◌≤◌, List, [], Result, Option, Some, None, Ok, Err, refl, sym, ap, ◌∙◌, subst, arith, length, true}
+use Rattle.std.proofs.Common.{◌≡◌, ℕ, ◌-◌, ◌≤◌, [], Result, Option, Some, None, Ok, Err, refl, sym, ap, ◌∙◌, subst, arith, length, true}
 use Rattle.eng_value.specs.Causes.{CauseSet, has_cause, only}
 use Rattle.eng_value.specs.declared.cause.Cause.{Cause}
 use Rattle.eng_value.specs.declared.cause.Cause.TheVariants as cause
-use Rattle.eng_value.specs.declared.value.Value.{Value}
 use Rattle.eng_value.proofs.CauseLaws.{has_cause-only}
 use Rattle.gen_query.specs.Queries.{ending_by}
 use Rattle.sql_meaning.specs.Statement.{IsNamed, Outcome, refused}
@@ -14,7 +13,7 @@ use Rattle.engine.specs.declared.running.Completed.{Completed}
 use Rattle.engine.specs.Causes.{IsCause, no_memory, used_up, sink_failed, meant}
 use Rattle.engine.specs.Connected.{Carries, CarriesOut}
 use Rattle.engine.specs.Executing.{Refuses, no_memory as free, used_up as spent, sink_failed as sunk, failed, ExecutesAs}
-use Rattle.engine.specs.Taking.{Rows, Adds}
+use Rattle.engine.specs.Taking.{Rows}
 use Rattle.engine.proofs.Takings.{adds_none}
 
 -- ---- a program that does what a statement means

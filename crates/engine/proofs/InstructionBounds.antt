@@ -1,9 +1,9 @@
 -- The programs of statements run within the bound that size and work give.
-use Rattle.std.proofs.Common.{◌≡◌, ℕ, ◌+◌, ◌*◌, ◌≤◌, List, [], ◌∷◌, ℤ, length, map, sum_by, slice_get, Option, Some, None, Result, Ok, Err, refl, sym, ap, ◌∙◌, subst, arith}
+use Rattle.std.proofs.Common.{◌≡◌, ℕ, ◌+◌, ◌*◌, ◌≤◌, List, [], ◌∷◌, ℤ, length, map, sum_by, Option, Some, None, Result, Ok, Err, refl, sym, ap, subst, arith}
 use Rattle.std.proofs.Math.Nat.{mul-le-mul_left}
 use Rattle.std.proofs.lemmas.List.Sums.{sum_by-cons}
 use Rattle.bind_stmt.specs.declared.statement.Bound.TheVariants as bound
-use Rattle.bind_stmt.specs.Binds.{IsBound, IsFromAt, IsTableAt}
+use Rattle.bind_stmt.specs.Binds.{IsBound, IsFromAt}
 use Rattle.bind_stmt.specs.Small.{IsSmall, IsSmallQuery, columns_at}
 use Rattle.eng_value.specs.declared.cause.Cause.{Cause}
 use Rattle.gen_query.proofs.Sizing.{steps-few}
@@ -19,13 +19,13 @@ use Rattle.sql_meaning.specs.declared.column.TableEntry.{TableEntry}
 use Rattle.sql_meaning.specs.Sizes.{all_nodes}
 use Rattle.sql_meaning.specs.Spelled.{name_at}
 use Rattle.sql_meaning.specs.Statement.{Query, conjuncts_of, found_table, from_table, query_in, query_of, results_behind}
-use Rattle.sql_meaning.specs.Work.{instruction_bound, opened, row_count, scan_work, table_size, work_of}
+use Rattle.sql_meaning.specs.Work.{instruction_bound, opened, scan_work, table_size, work_of}
 use Rattle.sql_meaning.specs.World.{State, entry_named, rows_of as rows_under}
 use Rattle.sql_meaning.specs.Shapes.{Built, Creates, Inserts, Selects, Select, size_of_from}
-use Rattle.sql_tree.specs.Sizes.{total, size_of_filter, size_of_result, size_of_row}
+use Rattle.sql_tree.specs.Sizes.{total, size_of_row}
 use Rattle.sql_tree.specs.declared.expr.Expr.{Expr}
 use Rattle.sql_tree.specs.declared.token.Token.{Token}
-use Rattle.vm_code.specs.Machine.{World as Lists, rows_of}
+use Rattle.vm_code.specs.Machine.{World as Lists}
 use Rattle.engine.specs.Held.{state_of}
 use Rattle.engine.specs.Prepared.{IsStatement}
 use Rattle.engine.proofs.Places.{place_named-rows}

@@ -1,11 +1,11 @@
 -- What a text means whose statement was bound: the outcome of what was bound, whose tables go by places.
-use Rattle.std.proofs.Common.{◌≡◌, ◌⊎◌, inl, inr, ℕ, List, [], Bool, true, false, not, ℤ, length, Option, Some, None, Result, Ok, Err, ◌-◌, subst, refl, sym, ap, ◌∙◌}
+use Rattle.std.proofs.Common.{◌≡◌, ◌⊎◌, inl, inr, ℕ, List, [], ℤ, length, Option, Some, Result, Err, ◌-◌, subst, refl, sym, ap, ◌∙◌}
 use Rattle.bind_stmt.specs.declared.statement.Bound.TheVariants as bound
 use Rattle.bind_stmt.specs.Binds.{IsBound, IsRefused, IsRefusal}
 use Rattle.eng_value.specs.Causes.{only}
 use Rattle.eng_value.specs.HostMeanings.{HostMeanings}
 use Rattle.eng_value.specs.declared.cause.Cause.{Cause}
-use Rattle.eng_value.specs.declared.cause.Cause.TheVariants.{Mem, NotYet}
+use Rattle.eng_value.specs.declared.cause.Cause.TheVariants.{Mem}
 use Rattle.eng_value.specs.declared.value.Value.{Value}
 use Rattle.sql_lex.specs.Tokens.{tokens_of}
 use Rattle.sql_meaning.specs.declared.bound.BoundInsert.{BoundInsert}
@@ -16,7 +16,7 @@ use Rattle.sql_meaning.specs.Names.{is_reserved_name}
 use Rattle.sql_meaning.specs.Spelled.{name_at}
 use Rattle.sql_meaning.specs.Statement.{Outcome, Query, refused, carried_out, text_outcome, outcome_of, answer_of, answer_outcome, built_outcome, query_outcome, items_of, create_outcome, put_outcome, put_of, query_of, created_entry, columns_behind}
 use Rattle.sql_meaning.specs.World.{State, entry_named}
-use Rattle.sql_grammar.specs.Answers.{Answer, Tree, Syntax, TooMuch, place}
+use Rattle.sql_grammar.specs.Answers.{Answer, Tree, Syntax, TooMuch}
 use Rattle.sql_meaning.specs.Shapes.{Built, Creates, Inserts, Selects}
 use Rattle.sql_meaning.specs.Work.{built_in}
 use Rattle.sql_tree.specs.declared.statement.Statement.{Statement}

@@ -1,11 +1,10 @@
 -- What the programs of writes leave: the number of tables, and an outcome as the run ends.
-use Rattle.std.proofs.Common.{◌≡◌, ℕ, List, [], ◌∷◌, ◌++◌, ℤ, Bool, true, false, Option, Some, None, length, take, slice_set, unwrap_or, refl, sym, ap, ◌∙◌, arith, MatchOption}
+use Rattle.std.proofs.Common.{◌≡◌, ℕ, List, [], ◌∷◌, ◌++◌, ℤ, Option, Some, None, length, take, unwrap_or, refl, sym, ap, ◌∙◌, arith, MatchOption}
 use Rattle.std.proofs.lemmas.List.{length-append, length-set}
 use Rattle.std.proofs.Math.Seq.{take-append_seam}
 use Rattle.eng_value.specs.Causes.{CauseSet}
 use Rattle.eng_value.specs.StoredRows.{StoredRow, next_rowid}
 use Rattle.eng_value.specs.declared.value.Value.{Value}
-use Rattle.gen_query.specs.Queries.{ending_by}
 use Rattle.gen_write.specs.Writes.{stored_as, row_under, row_put, rows_run, source_run, source_of, put_run, untouched}
 use Rattle.sql_meaning.specs.declared.bound.BoundInsert.{BoundInsert}
 use Rattle.sql_meaning.specs.declared.column.TableEntry.{TableEntry}

@@ -1,5 +1,5 @@
 -- What statements come to whose tables go by their places.
-use Rattle.std.specs.Prelude.{ℕ, List, [], ◌∷◌, ◌++◌, ℤ, length, Option, Some, None, unwrap_or}
+use Rattle.std.specs.Prelude.{ℕ, List, [], ◌∷◌, ◌++◌, ℤ, Some, None, unwrap_or}
 use Rattle.eng_value.specs.declared.value.Value.{Value}
 use Rattle.gen_query.specs.Queries.{items_in}
 use Rattle.gen_write.specs.Writes.{put_run}
@@ -7,7 +7,7 @@ use Rattle.sql_meaning.specs.declared.bound.BoundInsert.{BoundInsert}
 use Rattle.sql_meaning.specs.declared.bound.BoundSelect.{BoundSelect}
 use Rattle.sql_meaning.specs.declared.column.TableEntry.{TableEntry}
 use Rattle.sql_meaning.specs.Statement.{Outcome, done, query_outcome}
-use Rattle.vm_code.specs.Machine.{World as Lists, Run, Shared, Ending, Finished, Failed}
+use Rattle.vm_code.specs.Machine.{World as Lists, Shared, Ending, Finished, Failed}
 use Rattle.engine.specs.Held.{state_of}
 use Rattle.engine.specs.Running.{put_count, last_put}
 

@@ -1,5 +1,5 @@
 -- What a text is prepared as.
-use Rattle.std.specs.Prelude.{◌≡◌, ◌⊎◌, ◌≤◌, ℕ, List, length, Option, Some, None, Result, Ok, Err}
+use Rattle.std.specs.Prelude.{◌≡◌, ◌⊎◌, ◌≤◌, ℕ, List, length, Some, None, Result, Ok, Err}
 use Rattle.bind_stmt.specs.declared.statement.Bound.{Bound}
 use Rattle.bind_stmt.specs.Binds.{IsBound, IsRefused}
 use Rattle.bind_stmt.specs.Small.{IsSmall}

@@ -1,15 +1,14 @@
 -- What stands in brackets reads, in the steps of the code.
-use Rattle.std.proofs.Common.{◌≡◌, ℕ, ◌-◌, ◌<◌, ◌≤◌, arith, length, take, suc, ◌+◌, Bool, if◌then◌else◌, true, false, ◌||◌, List, [], ◌∷◌, ◌++◌, map, Option, append_assoc, append-nil, Some, None, refl, ap, sym, ◌∙◌}
+use Rattle.std.proofs.Common.{◌≡◌, ℕ, ◌-◌, true, false, List, [], ◌∷◌, Some, None, refl, ap, ◌∙◌}
 use Rattle.sql_tree.specs.declared.token.Token.{Token}
-use Rattle.sql_tree.specs.declared.token.TokenKind.{TokenKind}
 use Rattle.sql_tree.specs.declared.token.TokenKind.TheVariants as kind
 use Rattle.sql_tree.specs.declared.expr.Expr.{Expr}
 use Rattle.sql_grammar.specs.declared.counts.Counts.{Counts}
 use Rattle.sql_grammar.specs.declared.counts.Role.TheVariants as role
-use Rattle.sql_grammar.specs.Rules.{Kinds, starts, has, first, is_clear, can_be_empty, reads, one, opening, before, both, pick_read, tok, pure, Parser, Outcome, Done, Stop, ◌>>=◌}
+use Rattle.sql_grammar.specs.Rules.{starts, first, reads, one, opening, Outcome, Done, Stop, ◌>>=◌}
 use Rattle.sql_grammar.specs.Bodies.{rules}
 use Rattle.sql_grammar.proofs.ReadingLaws.{chosen, other}
-use Rattle.sql_grammar.specs.Grammar.{Name, or_none, exprs, subquery, table_arguments, in_brackets}
+use Rattle.sql_grammar.specs.Grammar.{Name, exprs, subquery, table_arguments}
 use Rattle.sql_grammar.specs.Queries.{query}
 use Rattle.sql_grammar.proofs.Whole.{nest_is}
 use Rattle.parse_cursor.proofs.Steps.{or_none_some, or_none_none}

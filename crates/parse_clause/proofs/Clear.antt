@@ -1,14 +1,7 @@
 -- One token of look-ahead tells what to do in the lists of results and of items, and with which kinds an item behind the first begins.
-use Rattle.std.proofs.Common.{◌≡◌, ℕ, ◌-◌, ◌<◌, ◌≤◌, arith, length, take, suc, ◌+◌, Bool, if◌then◌else◌, true, false, ◌||◌, List, [], ◌∷◌, ◌++◌, map, Option, append_assoc, append-nil, Some, None, refl, ap, sym, ◌∙◌}
-use Rattle.sql_tree.specs.declared.token.Token.{Token}
-use Rattle.sql_tree.specs.declared.token.TokenKind.{TokenKind}
-use Rattle.sql_tree.specs.declared.token.TokenKind.TheVariants as kind
-use Rattle.sql_tree.specs.declared.expr.Expr.{Expr}
-use Rattle.sql_grammar.specs.declared.counts.Counts.{Counts}
-use Rattle.sql_grammar.specs.declared.counts.Role.TheVariants as role
-use Rattle.sql_grammar.specs.Rules.{Kinds, starts, has, first, is_clear, can_be_empty, reads, one, opening, before, both, pick_read, tok, pure, Parser, Outcome, Done, Stop, ◌>>=◌}
+use Rattle.std.proofs.Common.{◌≡◌, true, false, refl}
+use Rattle.sql_grammar.specs.Rules.{first, is_clear, can_be_empty}
 use Rattle.sql_grammar.specs.Bodies.{rules}
-use Rattle.sql_grammar.proofs.ReadingLaws.{chosen, other}
 use Rattle.sql_grammar.specs.Grammar.{Name}
 use Rattle.sql_grammar.specs.Queries.{result, joined_item, all_query_rules}
 use Rattle.sql_grammar.specs.Definitions.{all_names}

@@ -1,19 +1,16 @@
 -- What FROM reads, in the steps of the code.
-use Rattle.std.proofs.Common.{◌≡◌, ℕ, ◌-◌, ◌<◌, ◌≤◌, arith, length, take, suc, ◌+◌, Bool, if◌then◌else◌, true, false, ◌||◌, List, [], ◌∷◌, ◌++◌, map, Option, append_assoc, append-nil, Some, None, refl, ap, sym, ◌∙◌}
+use Rattle.std.proofs.Common.{◌≡◌, ℕ, Bool, if◌then◌else◌, true, false, List, [], ◌∷◌, Some, None, refl, ◌∙◌}
 use Rattle.sql_tree.specs.declared.token.Token.{Token}
-use Rattle.sql_tree.specs.declared.token.TokenKind.{TokenKind}
 use Rattle.sql_tree.specs.declared.token.TokenKind.TheVariants as kind
-use Rattle.sql_tree.specs.declared.expr.Expr.{Expr}
 use Rattle.sql_grammar.specs.declared.counts.Counts.{Counts}
 use Rattle.sql_grammar.specs.declared.counts.Role.TheVariants as role
-use Rattle.sql_grammar.specs.Rules.{Kinds, starts, has, first, is_clear, can_be_empty, reads, one, opening, before, both, pick_read, tok, pure, Parser, Outcome, Done, Stop, ◌>>=◌}
+use Rattle.sql_grammar.specs.Rules.{starts, reads, one, tok, Outcome, Done, Stop, ◌>>=◌}
 use Rattle.sql_grammar.specs.Bodies.{rules}
 use Rattle.sql_grammar.proofs.ReadingLaws.{chosen, other}
-use Rattle.sql_tree.specs.declared.query.FromItem.{FromItem, roll-FromItem}
-use Rattle.sql_tree.specs.declared.query.Join.{Join}
+use Rattle.sql_tree.specs.declared.query.FromItem.{roll-FromItem}
 use Rattle.sql_tree.specs.declared.query.JoinConstraint.TheVariants as constraint
 use Rattle.sql_tree.specs.declared.query.Source.TheVariants as source_is
-use Rattle.sql_grammar.specs.Grammar.{Name, names, name, expr, name_list, maybe, after, in_brackets}
+use Rattle.sql_grammar.specs.Grammar.{Name, names, expr, name_list, maybe, after, in_brackets}
 use Rattle.sql_grammar.specs.Queries.{alias, given, left_word, join_side, join_words, plain_join, join, table_source, derived_source, source, join_constraint, first_item, joined_item, items, from}
 use Rattle.parse_cursor.specs.Parts.{in_names, given_word}
 use Rattle.parse_cursor.proofs.Steps.{both_to, three_to, four_to, after_to, after_is, or_none_some, or_none_none}

@@ -1,19 +1,13 @@
 -- What lists read, in the steps of the code.
-use Rattle.std.proofs.Common.{◌≡◌, ℕ, ◌-◌, ◌<◌, ◌≤◌, arith, length, take, suc, ◌+◌, Bool, if◌then◌else◌, true, false, ◌||◌, List, [], ◌∷◌, ◌++◌, map, Option, append_assoc, append-nil, Some, None, refl, ap, sym, ◌∙◌}
+use Rattle.std.proofs.Common.{◌≡◌, ℕ, ◌<◌, length, true, false, List, [], ◌∷◌, ◌++◌, ap, ◌∙◌}
 use Rattle.sql_tree.specs.declared.token.Token.{Token}
-use Rattle.sql_tree.specs.declared.token.TokenKind.{TokenKind}
 use Rattle.sql_tree.specs.declared.token.TokenKind.TheVariants as kind
-use Rattle.sql_tree.specs.declared.expr.Expr.{Expr}
 use Rattle.sql_grammar.specs.declared.counts.Counts.{Counts}
 use Rattle.sql_grammar.specs.declared.counts.Role.TheVariants as role
-use Rattle.sql_grammar.specs.Rules.{Kinds, starts, has, first, is_clear, can_be_empty, reads, one, opening, before, both, pick_read, tok, pure, Parser, Outcome, Done, Stop, ◌>>=◌}
+use Rattle.sql_grammar.specs.Rules.{starts, reads, one, Done, ◌>>=◌}
 use Rattle.sql_grammar.specs.Bodies.{rules}
-use Rattle.sql_grammar.proofs.ReadingLaws.{chosen, other}
-use Rattle.sql_tree.specs.declared.query.CommonTable.{CommonTable}
 use Rattle.sql_tree.specs.declared.query.FromItem.{FromItem}
-use Rattle.sql_tree.specs.declared.query.OrderingTerm.{OrderingTerm}
 use Rattle.sql_tree.specs.declared.query.ResultColumn.{ResultColumn}
-use Rattle.sql_tree.specs.declared.query.SpannedExpr.{SpannedExpr}
 use Rattle.sql_grammar.specs.Grammar.{Name}
 use Rattle.sql_grammar.specs.Queries.{result, results, first_item, joined_item, items}
 use Rattle.sql_grammar.proofs.Clear.{clear, rich}

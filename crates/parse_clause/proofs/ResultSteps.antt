@@ -1,20 +1,18 @@
 -- What the columns of a result read, in the steps of the code.
-use Rattle.std.proofs.Common.{◌≡◌, ℕ, ◌-◌, ◌<◌, ◌≤◌, arith, length, take, suc, ◌+◌, Bool, if◌then◌else◌, true, false, ◌||◌, List, [], ◌∷◌, ◌++◌, map, Option, append_assoc, append-nil, Some, None, refl, ap, sym, ◌∙◌}
+use Rattle.std.proofs.Common.{◌≡◌, ℕ, true, false, List, [], ◌∷◌, Option, refl, ap, ◌∙◌}
 use Rattle.sql_tree.specs.declared.token.Token.{Token}
-use Rattle.sql_tree.specs.declared.token.TokenKind.{TokenKind}
 use Rattle.sql_tree.specs.declared.token.TokenKind.TheVariants as kind
 use Rattle.sql_tree.specs.declared.expr.Expr.{Expr}
 use Rattle.sql_grammar.specs.declared.counts.Counts.{Counts}
 use Rattle.sql_grammar.specs.declared.counts.Role.TheVariants as role
-use Rattle.sql_grammar.specs.Rules.{Kinds, starts, has, first, is_clear, can_be_empty, reads, one, opening, before, both, pick_read, tok, pure, Parser, Outcome, Done, Stop, ◌>>=◌}
+use Rattle.sql_grammar.specs.Rules.{starts, reads, one, before, Outcome, Done, Stop, ◌>>=◌}
 use Rattle.sql_grammar.specs.Bodies.{rules}
 use Rattle.sql_grammar.proofs.ReadingLaws.{chosen, other}
 use Rattle.sql_tree.specs.declared.expr.Expr.TheVariants as tree
-use Rattle.sql_tree.specs.declared.query.ResultColumn.{ResultColumn}
 use Rattle.sql_tree.specs.declared.query.ResultColumn.TheVariants as result_is
-use Rattle.sql_tree.specs.declared.query.SpannedExpr.{SpannedExpr, roll-SpannedExpr}
+use Rattle.sql_tree.specs.declared.query.SpannedExpr.{roll-SpannedExpr}
 use Rattle.sql_tree.specs.declared.token.Span.{Span}
-use Rattle.sql_grammar.specs.Grammar.{Name, names, name, span_of, call, tails, other_expr}
+use Rattle.sql_grammar.specs.Grammar.{Name, names, span_of, call, tails, other_expr}
 use Rattle.sql_grammar.specs.Queries.{alias, spanned, shown, spanned_tails, column_of_table, behind_dot, spanned_call, behind_first_name, named_result, other_result, result}
 use Rattle.parse_cursor.specs.Gives.{apply_one}
 use Rattle.parse_cursor.proofs.Steps.{both_to, three_to, after_is}

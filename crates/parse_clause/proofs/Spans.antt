@@ -1,14 +1,7 @@
 -- The bytes of tokens behind a front.
-use Rattle.std.proofs.Common.{◌≡◌, ℕ, ◌-◌, ◌<◌, ◌≤◌, arith, length, take, suc, ◌+◌, Bool, if◌then◌else◌, true, false, ◌||◌, List, [], ◌∷◌, ◌++◌, map, Option, append_assoc, append-nil, Some, None, refl, ap, sym, ◌∙◌}
+use Rattle.std.proofs.Common.{◌≡◌, ◌-◌, ◌<◌, ◌≤◌, arith, length, take, suc, List, [], ◌∷◌, refl}
 use Rattle.sql_tree.specs.declared.token.Token.{Token}
-use Rattle.sql_tree.specs.declared.token.TokenKind.{TokenKind}
-use Rattle.sql_tree.specs.declared.token.TokenKind.TheVariants as kind
-use Rattle.sql_tree.specs.declared.expr.Expr.{Expr}
-use Rattle.sql_grammar.specs.declared.counts.Counts.{Counts}
-use Rattle.sql_grammar.specs.declared.counts.Role.TheVariants as role
-use Rattle.sql_grammar.specs.Rules.{Kinds, starts, has, first, is_clear, can_be_empty, reads, one, opening, before, both, pick_read, tok, pure, Parser, Outcome, Done, Stop, ◌>>=◌}
-use Rattle.sql_grammar.specs.Bodies.{rules}
-use Rattle.sql_grammar.proofs.ReadingLaws.{chosen, other}
+use Rattle.sql_grammar.specs.Rules.{before}
 use Rattle.sql_tree.specs.declared.token.Span.{Span}
 use Rattle.sql_grammar.specs.Grammar.{span_of}
 use Rattle.parse_clause.specs.Parts.{longer, from_to}

@@ -7,7 +7,7 @@ use Rattle.sql_grammar.specs.Grammar.{Name, names, type_name}
 use Rattle.sql_grammar.specs.Bodies.{rules}
 use Rattle.sql_grammar.specs.Queries.{query}
 use Rattle.sql_grammar.specs.Writes.{assignment, insert, update, row_command}
-use Rattle.sql_grammar.specs.Definitions.{in_expression, primary_key, in_key, column_key, not_null, check, collate, column_constraint, column, key_column, index_column, table_constraint, is_constraint, next_element, next_constraint, more_elements, body_command, argument_piece, inner_piece, module_argument, create_table, create_index, create_view, create_trigger}
+use Rattle.sql_grammar.specs.Definitions.{in_expression, primary_key, in_key, column_key, not_null, check, collate, column_constraint, column, key_column, index_column, table_constraint, is_constraint, next_element, next_constraint, body_command, argument_piece, inner_piece, module_argument, create_table, create_index, create_view, create_trigger}
 use Rattle.sql_grammar.specs.Statements.{all_statement_rules}
 use Rattle.parse_create.specs.Arguments.{argument_token, more_arguments}
 use Rattle.parse_create.specs.Parts.{more_assignments, column_constraints, more_key_columns, more_index_columns, more_commands}

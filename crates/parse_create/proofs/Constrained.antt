@@ -1,5 +1,5 @@
 -- What constraints and their parts read, in the steps of the code.
-use Rattle.std.proofs.Common.{◌≡◌, ℕ, ◌<◌, length, Bool, true, false, List, [], ◌∷◌, ◌++◌, Some, None, refl, ◌∙◌}
+use Rattle.std.proofs.Common.{◌≡◌, ℕ, ◌<◌, length, true, false, List, [], ◌∷◌, ◌++◌, Some, None, refl, ◌∙◌}
 use Rattle.sql_tree.specs.declared.statement.ColumnConstraint.{ColumnConstraint}
 use Rattle.sql_tree.specs.declared.statement.ColumnConstraint.TheVariants as column_rule
 use Rattle.sql_tree.specs.declared.statement.TableConstraint.TheVariants as table_rule
@@ -7,7 +7,7 @@ use Rattle.sql_tree.specs.declared.token.Token.{Token}
 use Rattle.sql_tree.specs.declared.token.TokenKind.TheVariants as kind
 use Rattle.sql_grammar.specs.declared.counts.Counts.{Counts}
 use Rattle.sql_grammar.specs.declared.counts.Role.TheVariants as role
-use Rattle.sql_grammar.specs.Rules.{tok, seq, first, starts, reads, one, Outcome, Done, Stop, ◌>>=◌}
+use Rattle.sql_grammar.specs.Rules.{tok, seq, first, starts, reads, one, Done, ◌>>=◌}
 use Rattle.sql_grammar.specs.Grammar.{Name, after, name, names}
 use Rattle.sql_grammar.specs.Bodies.{rules}
 use Rattle.sql_grammar.specs.Queries.{given}

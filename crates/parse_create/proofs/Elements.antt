@@ -1,14 +1,13 @@
 -- What columns and constraints of a table read, in the steps of the code.
-use Rattle.std.proofs.Common.{◌≡◌, ◌≢◌, ℕ, ◌<◌, length, true, false, if◌then◌else◌, List, [], ◌∷◌, ◌++◌, append_assoc, append-nil, refl, sym, ap, ◌∙◌, arith}
+use Rattle.std.proofs.Common.{◌≡◌, ◌≢◌, ℕ, length, true, false, if◌then◌else◌, List, [], ◌∷◌, ◌++◌, append_assoc, append-nil, refl, sym, ap, ◌∙◌, arith}
 use Rattle.sql_tree.specs.declared.statement.ColumnDefinition.{ColumnDefinition}
 use Rattle.sql_tree.specs.declared.statement.TableConstraint.{TableConstraint}
-use Rattle.sql_tree.specs.declared.statement.TableDefinition.{TableDefinition}
 use Rattle.sql_tree.specs.declared.token.Token.{Token}
 use Rattle.sql_tree.specs.declared.token.TokenKind.TheVariants as kind
 use Rattle.sql_grammar.specs.declared.counts.Counts.{Counts}
 use Rattle.sql_grammar.specs.declared.counts.Role.TheVariants as role
-use Rattle.sql_grammar.specs.Rules.{alt, to, many, until, first, starts, is_clear, reads, one, Parser, Outcome, Done, Stop, ◌>>=◌}
-use Rattle.sql_grammar.specs.Grammar.{Name, Of, names}
+use Rattle.sql_grammar.specs.Rules.{many, first, starts, reads, one, Parser, Outcome, Done, Stop, ◌>>=◌}
+use Rattle.sql_grammar.specs.Grammar.{Name, names}
 use Rattle.sql_grammar.specs.Bodies.{rules}
 use Rattle.sql_grammar.specs.Definitions.{Element, a_column, a_constraint, is_constraint, column, table_constraint, columns_in, constraints_in, next_element, next_constraint, more_elements, all_columns}
 use Rattle.sql_grammar.proofs.ReadingLaws.{chosen, other}

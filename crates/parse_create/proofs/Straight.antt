@@ -2,11 +2,10 @@
 use Rattle.std.proofs.Common.{◌≡◌, ℕ, true, false, List, [], ◌∷◌, ◌∙◌}
 use Rattle.sql_tree.specs.declared.statement.ConflictChoice.TheVariants as choice_is
 use Rattle.sql_tree.specs.declared.token.Token.{Token}
-use Rattle.sql_tree.specs.declared.token.TokenKind.{TokenKind}
 use Rattle.sql_tree.specs.declared.token.TokenKind.TheVariants as kind
 use Rattle.sql_grammar.specs.declared.counts.Counts.{Counts}
 use Rattle.sql_grammar.specs.declared.counts.Role.TheVariants as role
-use Rattle.sql_grammar.specs.Rules.{tok, starts, reads, one, Done, ◌>>=◌}
+use Rattle.sql_grammar.specs.Rules.{starts, reads, one, Done, ◌>>=◌}
 use Rattle.sql_grammar.specs.Grammar.{Name}
 use Rattle.sql_grammar.specs.Bodies.{rules}
 use Rattle.sql_grammar.specs.Writes.{choice_word, conflict_choice, insert_words}

@@ -1,11 +1,11 @@
 -- What lists of names and words that may be missing read, in the steps of the code.
-use Rattle.std.proofs.Common.{◌≡◌, ℕ, ◌-◌, true, false, List, [], ◌∷◌, ◌++◌, ap, ◌∙◌, refl}
+use Rattle.std.proofs.Common.{◌≡◌, ℕ, ◌-◌, true, false, List, [], ◌∷◌, ◌++◌, refl}
 use Rattle.sql_tree.specs.declared.token.Token.{Token}
 use Rattle.sql_tree.specs.declared.token.TokenKind.{TokenKind}
 use Rattle.sql_tree.specs.declared.token.TokenKind.TheVariants as kind
 use Rattle.sql_grammar.specs.declared.counts.Counts.{Counts}
 use Rattle.sql_grammar.specs.declared.counts.Role.TheVariants as role
-use Rattle.sql_grammar.specs.Rules.{tok, starts, is_clear, reads, opening, one, Outcome, Done, ◌>>=◌}
+use Rattle.sql_grammar.specs.Rules.{tok, starts, is_clear, reads, opening, one, Done, ◌>>=◌}
 use Rattle.sql_grammar.specs.Grammar.{Name, name, names, name_list, in_brackets}
 use Rattle.sql_grammar.specs.Bodies.{rules}
 use Rattle.sql_grammar.specs.Queries.{column_names}

@@ -1,6 +1,5 @@
 -- What parsing a text gives for the answer that its tokens have (sql_grammar: Answers).
-use Rattle.std.specs.Prelude.{◌≡◌, ℕ, List, [], ◌∷◌, Result, Ok, Err}
-use Rattle.sql_tree.specs.declared.token.Token.{Token}
+use Rattle.std.specs.Prelude.{◌≡◌, ℕ, Result, Ok, Err}
 use Rattle.sql_grammar.specs.Answers.{Answer, Tree, Syntax, TooMuch, place}
 use Rattle.parse_cursor.specs.declared.texts.Failure.{Failure}
 use Rattle.parse_cursor.specs.declared.texts.Failure.TheVariants.{Memory}

@@ -1,15 +1,12 @@
 -- What compound queries read, in the steps of the code.
-use Rattle.std.proofs.Common.{◌≡◌, ℕ, ◌-◌, ◌<◌, ◌≤◌, arith, length, take, suc, ◌+◌, Bool, if◌then◌else◌, true, false, ◌||◌, List, [], ◌∷◌, ◌++◌, map, Option, append_assoc, append-nil, Some, None, refl, ap, sym, ◌∙◌}
+use Rattle.std.proofs.Common.{◌≡◌, ℕ, ◌<◌, length, Bool, if◌then◌else◌, true, false, List, [], ◌∷◌, ◌++◌, map, append_assoc, append-nil, refl, ap, sym, ◌∙◌}
 use Rattle.sql_tree.specs.declared.token.Token.{Token}
-use Rattle.sql_tree.specs.declared.token.TokenKind.{TokenKind}
 use Rattle.sql_tree.specs.declared.token.TokenKind.TheVariants as kind
-use Rattle.sql_tree.specs.declared.expr.Expr.{Expr}
 use Rattle.sql_grammar.specs.declared.counts.Counts.{Counts}
 use Rattle.sql_grammar.specs.declared.counts.Role.TheVariants as role
-use Rattle.sql_grammar.specs.Rules.{Kinds, starts, has, first, is_clear, can_be_empty, reads, one, opening, before, both, pick_read, tok, pure, Parser, Outcome, Done, Stop, ◌>>=◌}
+use Rattle.sql_grammar.specs.Rules.{starts, reads, one, tok, Outcome, Done, Stop, ◌>>=◌}
 use Rattle.sql_grammar.specs.Bodies.{rules}
 use Rattle.sql_grammar.proofs.ReadingLaws.{chosen, other}
-use Rattle.sql_tree.specs.declared.query.CompoundOp.{CompoundOp}
 use Rattle.sql_tree.specs.declared.query.CompoundOp.TheVariants as compound
 use Rattle.sql_tree.specs.declared.query.CompoundPart.{CompoundPart, roll-CompoundPart}
 use Rattle.sql_tree.specs.declared.query.QueryPart.{QueryPart}
@@ -18,7 +15,6 @@ use Rattle.sql_grammar.specs.Queries.{given, union, compound_op, core, compound_
 use Rattle.sql_grammar.proofs.Clear.{clear, rich}
 use Rattle.sql_grammar.proofs.Whole.{many_is, takes_some}
 use Rattle.parse_cursor.proofs.Steps.{both_to}
-use Rattle.parse_query.specs.declared.compounds.FoundParts.{FoundParts}
 use Rattle.parse_query.specs.declared.compounds.TheConstants.{COMPOUNDS}
 use Rattle.parse_query.specs.Parts.{compound_parts, found_of, found_parts, with_parts}
 use Rattle.parse_query.proofs.Clear.{compound_parts_clear, compound_part_clear, compound_part_solid, first_compound_part}

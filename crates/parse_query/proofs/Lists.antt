@@ -1,25 +1,19 @@
 -- What lists read, in the steps of the code.
-use Rattle.std.proofs.Common.{◌≡◌, ℕ, ◌-◌, ◌<◌, ◌≤◌, arith, length, take, suc, ◌+◌, Bool, if◌then◌else◌, true, false, ◌||◌, List, [], ◌∷◌, ◌++◌, map, Option, append_assoc, append-nil, Some, None, refl, ap, sym, ◌∙◌}
+use Rattle.std.proofs.Common.{◌≡◌, ℕ, true, false, List, [], ◌∷◌, ◌++◌}
 use Rattle.sql_tree.specs.declared.token.Token.{Token}
-use Rattle.sql_tree.specs.declared.token.TokenKind.{TokenKind}
 use Rattle.sql_tree.specs.declared.token.TokenKind.TheVariants as kind
 use Rattle.sql_tree.specs.declared.expr.Expr.{Expr}
 use Rattle.sql_grammar.specs.declared.counts.Counts.{Counts}
 use Rattle.sql_grammar.specs.declared.counts.Role.TheVariants as role
-use Rattle.sql_grammar.specs.Rules.{Kinds, starts, has, first, is_clear, can_be_empty, reads, one, opening, before, both, pick_read, tok, pure, Parser, Outcome, Done, Stop, ◌>>=◌}
+use Rattle.sql_grammar.specs.Rules.{starts, reads, one, Done, ◌>>=◌}
 use Rattle.sql_grammar.specs.Bodies.{rules}
-use Rattle.sql_grammar.proofs.ReadingLaws.{chosen, other}
 use Rattle.sql_tree.specs.declared.query.CommonTable.{CommonTable}
-use Rattle.sql_tree.specs.declared.query.FromItem.{FromItem}
 use Rattle.sql_tree.specs.declared.query.OrderingTerm.{OrderingTerm}
-use Rattle.sql_tree.specs.declared.query.ResultColumn.{ResultColumn}
 use Rattle.sql_tree.specs.declared.query.SpannedExpr.{SpannedExpr}
 use Rattle.sql_grammar.specs.Grammar.{Name}
 use Rattle.sql_grammar.specs.Queries.{spanned_expr, one_row, term, common_table}
-use Rattle.sql_grammar.proofs.Clear.{clear, rich}
-use Rattle.sql_grammar.proofs.Whole.{takes_some}
 use Rattle.parse_cursor.specs.Gives.{collected}
-use Rattle.parse_cursor.proofs.Steps.{both_to, list_is, next_is, last_is, many_step, many_end}
+use Rattle.parse_cursor.proofs.Steps.{list_is, next_is, last_is}
 use Rattle.parse_query.specs.Parts.{spanned_exprs, more_spanned_exprs, all_rows, more_rows, terms, more_terms, all_tables, more_tables}
 use Rattle.parse_query.proofs.Clear.{more_spanned_exprs_clear, more_rows_clear, more_terms_clear, more_tables_clear}
 

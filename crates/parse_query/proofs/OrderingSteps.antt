@@ -1,16 +1,14 @@
 -- What ORDER BY and LIMIT read, in the steps of the code.
-use Rattle.std.proofs.Common.{◌≡◌, ℕ, ◌-◌, ◌<◌, ◌≤◌, arith, length, take, suc, ◌+◌, Bool, if◌then◌else◌, true, false, ◌||◌, List, [], ◌∷◌, ◌++◌, map, Option, append_assoc, append-nil, Some, None, refl, ap, sym, ◌∙◌}
+use Rattle.std.proofs.Common.{◌≡◌, ℕ, Bool, true, false, List, [], ◌∷◌, Some, None, refl, ◌∙◌}
 use Rattle.sql_tree.specs.declared.token.Token.{Token}
-use Rattle.sql_tree.specs.declared.token.TokenKind.{TokenKind}
 use Rattle.sql_tree.specs.declared.token.TokenKind.TheVariants as kind
-use Rattle.sql_tree.specs.declared.expr.Expr.{Expr}
 use Rattle.sql_grammar.specs.declared.counts.Counts.{Counts}
 use Rattle.sql_grammar.specs.declared.counts.Role.TheVariants as role
-use Rattle.sql_grammar.specs.Rules.{Kinds, starts, has, first, is_clear, can_be_empty, reads, one, opening, before, both, pick_read, tok, pure, Parser, Outcome, Done, Stop, ◌>>=◌}
+use Rattle.sql_grammar.specs.Rules.{starts, reads, one, pick_read, Done, ◌>>=◌}
 use Rattle.sql_grammar.specs.Bodies.{rules}
 use Rattle.sql_grammar.proofs.ReadingLaws.{chosen, other}
 use Rattle.sql_tree.specs.declared.query.NullsOrder.TheVariants as nulls_order
-use Rattle.sql_tree.specs.declared.query.OrderingTerm.{OrderingTerm, roll-OrderingTerm}
+use Rattle.sql_tree.specs.declared.query.OrderingTerm.{roll-OrderingTerm}
 use Rattle.sql_grammar.specs.Grammar.{Name, expr, after}
 use Rattle.sql_grammar.specs.Queries.{spanned_expr, direction, first_or_last, nulls, term, order_by, limit_of, second_limit, row_limit, limit, ordering}
 use Rattle.parse_cursor.proofs.Steps.{both_to, three_to, after_two, maybe_some, maybe_none, or_none_some, or_none_none}

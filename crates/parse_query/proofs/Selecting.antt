@@ -1,16 +1,14 @@
 -- What SELECT and VALUES read, in the steps of the code.
-use Rattle.std.proofs.Common.{◌≡◌, ℕ, ◌-◌, ◌<◌, ◌≤◌, arith, length, take, suc, ◌+◌, Bool, if◌then◌else◌, true, false, ◌||◌, List, [], ◌∷◌, ◌++◌, map, Option, append_assoc, append-nil, Some, None, refl, ap, sym, ◌∙◌}
+use Rattle.std.proofs.Common.{◌≡◌, ℕ, ◌-◌, true, false, List, [], ◌∷◌, Some, None, refl, ◌∙◌}
 use Rattle.sql_tree.specs.declared.token.Token.{Token}
-use Rattle.sql_tree.specs.declared.token.TokenKind.{TokenKind}
 use Rattle.sql_tree.specs.declared.token.TokenKind.TheVariants as kind
-use Rattle.sql_tree.specs.declared.expr.Expr.{Expr}
 use Rattle.sql_grammar.specs.declared.counts.Counts.{Counts}
 use Rattle.sql_grammar.specs.declared.counts.Role.TheVariants as role
-use Rattle.sql_grammar.specs.Rules.{Kinds, starts, has, first, is_clear, can_be_empty, reads, one, opening, before, both, pick_read, tok, pure, Parser, Outcome, Done, Stop, ◌>>=◌}
+use Rattle.sql_grammar.specs.Rules.{starts, reads, one, opening, both, Parser, Outcome, Done, Stop, ◌>>=◌}
 use Rattle.sql_grammar.specs.Bodies.{rules}
 use Rattle.sql_grammar.proofs.ReadingLaws.{chosen, other}
 use Rattle.sql_tree.specs.declared.query.QueryPart.TheVariants as part_is
-use Rattle.sql_tree.specs.declared.query.SelectCore.{SelectCore, roll-SelectCore}
+use Rattle.sql_tree.specs.declared.query.SelectCore.{roll-SelectCore}
 use Rattle.sql_grammar.specs.Grammar.{Name, expr, after, exprs, row}
 use Rattle.sql_grammar.specs.Queries.{distinct, results, from, filter_by, group_by, having, select_core, select, values, core, one_row}
 use Rattle.parse_cursor.proofs.Steps.{after_is, after_two, maybe_some, maybe_none, or_none_some, or_none_none, both_to, four_to}

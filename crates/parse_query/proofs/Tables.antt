@@ -1,17 +1,14 @@
 -- What WITH and whole queries read, in the steps of the code.
-use Rattle.std.proofs.Common.{◌≡◌, ℕ, ◌-◌, ◌<◌, ◌≤◌, arith, length, take, suc, ◌+◌, Bool, if◌then◌else◌, true, false, ◌||◌, List, [], ◌∷◌, ◌++◌, map, Option, append_assoc, append-nil, Some, None, refl, ap, sym, ◌∙◌}
+use Rattle.std.proofs.Common.{◌≡◌, ℕ, Bool, true, false, List, [], ◌∷◌, refl, ◌∙◌}
 use Rattle.sql_tree.specs.declared.token.Token.{Token}
-use Rattle.sql_tree.specs.declared.token.TokenKind.{TokenKind}
 use Rattle.sql_tree.specs.declared.token.TokenKind.TheVariants as kind
-use Rattle.sql_tree.specs.declared.expr.Expr.{Expr}
 use Rattle.sql_grammar.specs.declared.counts.Counts.{Counts}
 use Rattle.sql_grammar.specs.declared.counts.Role.TheVariants as role
-use Rattle.sql_grammar.specs.Rules.{Kinds, starts, has, first, is_clear, can_be_empty, reads, one, opening, before, both, pick_read, tok, pure, Parser, Outcome, Done, Stop, ◌>>=◌}
+use Rattle.sql_grammar.specs.Rules.{starts, reads, one, pick_read, tok, Outcome, Done, Stop, ◌>>=◌}
 use Rattle.sql_grammar.specs.Bodies.{rules}
-use Rattle.sql_grammar.proofs.ReadingLaws.{chosen, other}
 use Rattle.sql_tree.specs.declared.query.CommonTable.{CommonTable, roll-CommonTable}
-use Rattle.sql_tree.specs.declared.query.Query.{Query, roll-Query}
-use Rattle.sql_grammar.specs.Grammar.{Name, names, name, after}
+use Rattle.sql_tree.specs.declared.query.Query.{roll-Query}
+use Rattle.sql_grammar.specs.Grammar.{Name, names, after}
 use Rattle.sql_grammar.specs.Queries.{given, column_names, common_table, tables, common_tables, Parts, parts, Ordering, ordering, ends_in_select, ordered_parts, query_of, query}
 use Rattle.parse_cursor.proofs.Steps.{both_to, three_to, after_is, or_none_some, or_none_none}
 use Rattle.parse_query.specs.Parts.{as_query, all_tables, found_of, found_parts, unordered}

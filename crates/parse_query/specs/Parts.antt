@@ -1,5 +1,5 @@
 -- Parts of rules that functions of their own parse.
-use Rattle.std.specs.Prelude.{Bool, List, [], ◌∷◌, ◌++◌, map, Option, None}
+use Rattle.std.specs.Prelude.{Bool, List, [], ◌++◌, map, None}
 use Rattle.sql_tree.specs.declared.expr.Expr.{Expr}
 use Rattle.sql_tree.specs.declared.query.CommonTable.{CommonTable}
 use Rattle.sql_tree.specs.declared.query.CompoundPart.{CompoundPart}

@@ -1,13 +1,13 @@
 -- What DROP and PRAGMA read, in the steps of the code.
-use Rattle.std.proofs.Common.{◌≡◌, ℕ, ◌-◌, Bool, true, false, List, [], ◌∷◌, Some, None, refl, ◌∙◌}
+use Rattle.std.proofs.Common.{◌≡◌, ℕ, ◌-◌, true, false, List, [], ◌∷◌, Some, None, refl, ◌∙◌}
 use Rattle.sql_tree.specs.declared.statement.ObjectKind.TheVariants as object_kind
 use Rattle.sql_tree.specs.declared.token.Token.{Token}
 use Rattle.sql_tree.specs.declared.token.TokenKind.TheVariants as kind
 use Rattle.sql_grammar.specs.declared.counts.Counts.{Counts}
 use Rattle.sql_grammar.specs.declared.counts.Role.TheVariants as role
 use Rattle.sql_grammar.specs.Kinds.{all_words}
-use Rattle.sql_grammar.specs.Rules.{tok, seq, starts, first, reads, opening, one, Done, ◌>>=◌}
-use Rattle.sql_grammar.specs.Grammar.{Name, name, names, word}
+use Rattle.sql_grammar.specs.Rules.{tok, starts, first, reads, opening, one, Done, ◌>>=◌}
+use Rattle.sql_grammar.specs.Grammar.{Name, names, word}
 use Rattle.sql_grammar.specs.Bodies.{rules}
 use Rattle.sql_grammar.specs.Statements.{object_word, if_exists, remove_parts, remove, pragma_value, pragma_parts, pragma}
 use Rattle.sql_grammar.proofs.ReadingLaws.{chosen, other}

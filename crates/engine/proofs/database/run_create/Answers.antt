@@ -1,4 +1,4 @@
-use Rattle.std.proofs.Common.{◌≡◌, ◌-◌, [], ◌∷◌, length, ap, sym, ◌∙◌, refl, arith, None}
+use Rattle.std.proofs.Common.{◌-◌, [], ◌∷◌, length, ap, sym, ◌∙◌, refl, arith}
 use Rattle.std.proofs.lemmas.List.{length-append}
 use Rattle.gen_write.specs.Writes.{create_run, create_steps}
 use Rattle.host_traits.specs.Faults.{Rose}

@@ -1,4 +1,4 @@
-use Rattle.std.proofs.Common.{◌≡◌, ◌-◌, [], length, ap, sym, ◌∙◌, refl, arith, unwrap_or}
+use Rattle.std.proofs.Common.{◌-◌, [], length, ap, sym, ◌∙◌, arith}
 use Rattle.gen_write.specs.Writes.{put_run, put_steps}
 use Rattle.host_traits.specs.Faults.{Rose}
 use Rattle.engine.specs.Held.{state_of}

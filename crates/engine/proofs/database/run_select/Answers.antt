@@ -1,4 +1,4 @@
-use Rattle.std.proofs.Common.{◌≡◌, ◌-◌, [], length, ap, sym, ◌∙◌, refl, arith, None}
+use Rattle.std.proofs.Common.{◌-◌, length, ap, ◌∙◌, refl, arith}
 use Rattle.gen_query.specs.Queries.{query_run, query_steps}
 use Rattle.host_traits.specs.Faults.{Rose}
 use Rattle.engine.specs.Held.{state_of}

@@ -1,4 +1,4 @@
-use Rattle.std.proofs.Common.{◌≡◌, ◌-◌}
+use Rattle.std.proofs.Common.{◌-◌}
 use Rattle.gen_query.specs.Queries.{query_steps}
 use Rattle.gen_write.specs.Writes.{create_steps, put_steps}
 use Rattle.host_traits.specs.Faults.{Rose}

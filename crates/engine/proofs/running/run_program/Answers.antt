@@ -1,4 +1,4 @@
-use Rattle.std.proofs.Common.{◌-◌, [], Ok, Err, refl, ◌∙◌, ap}
+use Rattle.std.proofs.Common.{◌-◌, Ok, Err, refl, ◌∙◌, ap}
 use Rattle.host_traits.specs.Faults.{Rose}
 use Rattle.vm_code.specs.Changes.{before}
 use Rattle.vm_code.specs.Machine.{Setting, State, start}

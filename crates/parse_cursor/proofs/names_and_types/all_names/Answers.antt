@@ -1,4 +1,4 @@
-use Rattle.std.proofs.Common.{◌∷◌, [], refl}
+use Rattle.std.proofs.Common.{refl}
 use Rattle.sql_grammar.specs.Grammar.{name}
 use Rattle.parse_cursor.proofs.Steps.{next_shorter}
 use Rattle.parse_cursor.proofs.names_and_types.all_names.Goals as goal
