@@ -14,7 +14,7 @@ pub enum Literal {
 
 /// An expression over the rows of a FROM, with columns by their places.
 #[cycle(bound)]
-#[derive(Debug, Drop)]
+#[derive(Debug)]
 pub enum BoundExpr {
     Literal(Literal),
     /// A column of an item of the FROM: the item's place, leftmost 0, and the column's place in it.
@@ -39,21 +39,80 @@ pub enum BoundExpr {
     Call(Builtin, Built, Items<BoundExpr>),
 }
 
+impl Drop for BoundExpr {
+    #[cycle(dropping)]
+    fn drop(self) {
+        match self {
+            BoundExpr::Literal(literal) => drop(literal),
+            BoundExpr::Column { .. } => {}
+            BoundExpr::Parameter(_) => {}
+            BoundExpr::Unary(_, a) => drop(a),
+            BoundExpr::Binary(_, a, b) => {
+                drop(a);
+                drop(b);
+            }
+            BoundExpr::LikeEscaped(a, b, c) => {
+                drop(a);
+                drop(b);
+                drop(c);
+            }
+            BoundExpr::Between(_, _, a, b, c) => {
+                drop(a);
+                drop(b);
+                drop(c);
+            }
+            BoundExpr::In(_, a, list) => {
+                drop(a);
+                drop(list);
+            }
+            BoundExpr::Coalesce(list) => drop(list),
+            BoundExpr::Choose(arms, last) => {
+                drop(arms);
+                drop(last);
+            }
+            BoundExpr::Match(first, arms, last) => {
+                drop(first);
+                drop(arms);
+                drop(last);
+            }
+            BoundExpr::Call(_, _, arguments) => drop(arguments),
+        }
+    }
+}
+
 /// `WHEN condition THEN value`
 #[cycle(bound)]
-#[derive(Debug, Drop)]
+#[derive(Debug)]
 pub struct BoundArm {
     pub condition: BoundExpr,
     pub value: BoundExpr,
 }
 
+impl Drop for BoundArm {
+    #[cycle(dropping)]
+    fn drop(self) {
+        let BoundArm { condition, value } = self;
+        drop(condition);
+        drop(value);
+    }
+}
+
 /// `WHEN operand THEN value`, where the operand is compared so.
 #[cycle(bound)]
-#[derive(Debug, Drop)]
+#[derive(Debug)]
 pub struct BoundMatch {
     pub sides: Sides,
     pub operand: BoundExpr,
     pub value: BoundExpr,
+}
+
+impl Drop for BoundMatch {
+    #[cycle(dropping)]
+    fn drop(self) {
+        let BoundMatch { operand, value, .. } = self;
+        drop(operand);
+        drop(value);
+    }
 }
 
 /// A literal of INSERT, with a minus in front or without.

@@ -60,15 +60,21 @@ pub struct SignedNumber {
 }
 
 /// A type as a column or a CAST names it: words, and at most two sizes in parentheses.
-#[derive(Debug, Drop)]
 pub struct TypeName {
     pub words: Items<Token>,
     pub sizes: Items<SignedNumber>,
 }
 
+impl Drop for TypeName {
+    fn drop(self) {
+        let TypeName { words, sizes } = self;
+        drop(words);
+        drop(sizes);
+    }
+}
+
 /// An expression. NOT in front of BETWEEN, LIKE, GLOB and IN is a `Not` around the test. Parentheses leave nothing in the tree.
 #[cycle(syntax)]
-#[derive(Debug, Drop)]
 pub enum Expr {
     /// A number, a text, a blob, NULL, TRUE or FALSE.
     Literal(Token),
@@ -102,10 +108,71 @@ pub enum Expr {
     RaiseAbort(Token),
 }
 
+impl Drop for Expr {
+    #[cycle(dropping)]
+    fn drop(self) {
+        match self {
+            Expr::Literal(_) => {}
+            Expr::Parameter(_) => {}
+            Expr::Column(_) => {}
+            Expr::TableColumn(_, _) => {}
+            Expr::Unary(_, a) => drop(a),
+            Expr::Binary(_, a, b) => {
+                drop(a);
+                drop(b);
+            }
+            Expr::Between(a, b, c) => {
+                drop(a);
+                drop(b);
+                drop(c);
+            }
+            Expr::Like(a, b, c) => {
+                drop(a);
+                drop(b);
+                drop(c);
+            }
+            Expr::In(a, b) => {
+                drop(a);
+                drop(b);
+            }
+            Expr::InQuery(a, b) => {
+                drop(a);
+                drop(b);
+            }
+            Expr::Subquery(a) => drop(a),
+            Expr::Exists(a) => drop(a),
+            Expr::Collate(a, _) => drop(a),
+            Expr::Cast(a, b) => {
+                drop(a);
+                drop(b);
+            }
+            Expr::Call(_, _, a, b) => {
+                drop(a);
+                drop(b);
+            }
+            Expr::Case(a, b, c) => {
+                drop(a);
+                drop(b);
+                drop(c);
+            }
+            Expr::RaiseIgnore => {}
+            Expr::RaiseAbort(_) => {}
+        }
+    }
+}
+
 /// `WHEN condition THEN value`
 #[cycle(syntax)]
-#[derive(Debug, Drop)]
 pub struct Arm {
     pub condition: Expr,
     pub value: Expr,
+}
+
+impl Drop for Arm {
+    #[cycle(dropping)]
+    fn drop(self) {
+        let Arm { condition, value } = self;
+        drop(condition);
+        drop(value);
+    }
 }

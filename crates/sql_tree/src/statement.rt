@@ -4,10 +4,19 @@ use crate::{Expr, Query, Span, Token, TypeName};
 use sqlite_items::Items;
 
 /// A statement, with what EXPLAIN asks of it. Whether a `;` ended it is not told.
-#[derive(Debug, Drop)]
 pub struct Statement {
     pub explain: Option<Explain>,
     pub command: Command,
+}
+
+impl Drop for Statement {
+    fn drop(self) {
+        let Statement {
+            explain: _,
+            command,
+        } = self;
+        drop(command);
+    }
 }
 
 /// What EXPLAIN gives in the place of a statement's rows (EXPLAIN, EXPLAIN QUERY PLAN).
@@ -19,7 +28,6 @@ pub enum Explain {
 }
 
 /// What a statement does.
-#[derive(Debug, Drop)]
 pub enum Command {
     Rows(RowCommand),
     Create(Create),
@@ -28,13 +36,35 @@ pub enum Command {
     Pragma(Pragma),
 }
 
+impl Drop for Command {
+    fn drop(self) {
+        match self {
+            Command::Rows(a) => drop(a),
+            Command::Create(a) => drop(a),
+            Command::Remove(_) => {}
+            Command::Transaction(_) => {}
+            Command::Pragma(_) => {}
+        }
+    }
+}
+
 /// Reading or changing rows: a statement of its own, or one in the body of a trigger.
-#[derive(Debug, Drop)]
 pub enum RowCommand {
     Query(Query),
     Insert(Insert),
     Update(Update),
     Delete(Delete),
+}
+
+impl Drop for RowCommand {
+    fn drop(self) {
+        match self {
+            RowCommand::Query(a) => drop(a),
+            RowCommand::Insert(a) => drop(a),
+            RowCommand::Update(a) => drop(a),
+            RowCommand::Delete(a) => drop(a),
+        }
+    }
 }
 
 /// What a write does where a constraint fails (ON CONFLICT). ABORT is what comes with no word.
@@ -46,7 +76,6 @@ pub enum ConflictChoice {
 }
 
 /// `INSERT INTO table (column, ..) source`; no columns stand for all. REPLACE is INSERT OR REPLACE.
-#[derive(Debug, Drop)]
 pub struct Insert {
     pub choice: ConflictChoice,
     pub table: Token,
@@ -54,8 +83,20 @@ pub struct Insert {
     pub source: InsertSource,
 }
 
+impl Drop for Insert {
+    fn drop(self) {
+        let Insert {
+            choice: _,
+            table: _,
+            columns,
+            source,
+        } = self;
+        drop(columns);
+        drop(source);
+    }
+}
+
 /// What INSERT puts.
-#[derive(Debug, Drop)]
 pub enum InsertSource {
     /// The rows of a query; VALUES is one.
     Query(Query),
@@ -63,8 +104,16 @@ pub enum InsertSource {
     Defaults,
 }
 
+impl Drop for InsertSource {
+    fn drop(self) {
+        match self {
+            InsertSource::Query(a) => drop(a),
+            InsertSource::Defaults => {}
+        }
+    }
+}
+
 /// `UPDATE table SET column = value, .. [WHERE filter]`, of one assignment at least
-#[derive(Debug, Drop)]
 pub struct Update {
     pub choice: ConflictChoice,
     pub table: Token,
@@ -72,22 +121,46 @@ pub struct Update {
     pub filter: Option<Expr>,
 }
 
+impl Drop for Update {
+    fn drop(self) {
+        let Update {
+            choice: _,
+            table: _,
+            assignments,
+            filter,
+        } = self;
+        drop(assignments);
+        drop(filter);
+    }
+}
+
 /// `column = value`
-#[derive(Debug, Drop)]
 pub struct Assignment {
     pub column: Token,
     pub value: Expr,
 }
 
+impl Drop for Assignment {
+    fn drop(self) {
+        let Assignment { column: _, value } = self;
+        drop(value);
+    }
+}
+
 /// `DELETE FROM table [WHERE filter]`
-#[derive(Debug, Drop)]
 pub struct Delete {
     pub table: Token,
     pub filter: Option<Expr>,
 }
 
+impl Drop for Delete {
+    fn drop(self) {
+        let Delete { table: _, filter } = self;
+        drop(filter);
+    }
+}
+
 /// `CREATE .. [IF NOT EXISTS] name ..`, with its text from CREATE to the last token.
-#[derive(Debug, Drop)]
 pub struct Create {
     pub if_not_exists: bool,
     pub name: Token,
@@ -95,8 +168,19 @@ pub struct Create {
     pub text: Span,
 }
 
+impl Drop for Create {
+    fn drop(self) {
+        let Create {
+            if_not_exists: _,
+            name: _,
+            definition,
+            text: _,
+        } = self;
+        drop(definition);
+    }
+}
+
 /// What CREATE makes.
-#[derive(Debug, Drop)]
 pub enum Definition {
     Table(TableDefinition),
     Index(IndexDefinition),
@@ -105,23 +189,55 @@ pub enum Definition {
     VirtualTable(VirtualTableDefinition),
 }
 
+impl Drop for Definition {
+    fn drop(self) {
+        match self {
+            Definition::Table(a) => drop(a),
+            Definition::Index(a) => drop(a),
+            Definition::View(a) => drop(a),
+            Definition::Trigger(a) => drop(a),
+            Definition::VirtualTable(a) => drop(a),
+        }
+    }
+}
+
 /// `(column, .., constraint, ..)`, of one column at least (CREATE TABLE)
-#[derive(Debug, Drop)]
 pub struct TableDefinition {
     pub columns: Items<ColumnDefinition>,
     pub constraints: Items<TableConstraint>,
 }
 
+impl Drop for TableDefinition {
+    fn drop(self) {
+        let TableDefinition {
+            columns,
+            constraints,
+        } = self;
+        drop(columns);
+        drop(constraints);
+    }
+}
+
 /// A column's name, with its type and its constraints if any.
-#[derive(Debug, Drop)]
 pub struct ColumnDefinition {
     pub name: Token,
     pub type_name: Option<TypeName>,
     pub constraints: Items<ColumnConstraint>,
 }
 
+impl Drop for ColumnDefinition {
+    fn drop(self) {
+        let ColumnDefinition {
+            name: _,
+            type_name,
+            constraints,
+        } = self;
+        drop(type_name);
+        drop(constraints);
+    }
+}
+
 /// A constraint behind a column.
-#[derive(Debug, Drop)]
 pub enum ColumnConstraint {
     PrimaryKey,
     NotNull,
@@ -133,12 +249,35 @@ pub enum ColumnConstraint {
     Collate(Token),
 }
 
+impl Drop for ColumnConstraint {
+    fn drop(self) {
+        match self {
+            ColumnConstraint::PrimaryKey => {}
+            ColumnConstraint::NotNull => {}
+            ColumnConstraint::Null => {}
+            ColumnConstraint::Unique => {}
+            ColumnConstraint::Check(a) => drop(a),
+            ColumnConstraint::Default(a) => drop(a),
+            ColumnConstraint::Collate(_) => {}
+        }
+    }
+}
+
 /// A constraint behind the columns. A key has one column at least, and none of it descends.
-#[derive(Debug, Drop)]
 pub enum TableConstraint {
     PrimaryKey(Items<IndexedColumn>),
     Unique(Items<IndexedColumn>),
     Check(Expr),
+}
+
+impl Drop for TableConstraint {
+    fn drop(self) {
+        match self {
+            TableConstraint::PrimaryKey(a) => drop(a),
+            TableConstraint::Unique(a) => drop(a),
+            TableConstraint::Check(a) => drop(a),
+        }
+    }
 }
 
 /// `name [COLLATE collation] [ASC | DESC]`
@@ -150,28 +289,59 @@ pub struct IndexedColumn {
 }
 
 /// `[UNIQUE] INDEX .. ON table (column, ..)`, of one column at least (CREATE INDEX)
-#[derive(Debug, Drop)]
 pub struct IndexDefinition {
     pub unique: bool,
     pub table: Token,
     pub columns: Items<IndexedColumn>,
 }
 
+impl Drop for IndexDefinition {
+    fn drop(self) {
+        let IndexDefinition {
+            unique: _,
+            table: _,
+            columns,
+        } = self;
+        drop(columns);
+    }
+}
+
 /// `VIEW .. [(column, ..)] AS query` (CREATE VIEW)
-#[derive(Debug, Drop)]
 pub struct ViewDefinition {
     pub columns: Items<Token>,
     pub query: Query,
 }
 
+impl Drop for ViewDefinition {
+    fn drop(self) {
+        let ViewDefinition { columns, query } = self;
+        drop(columns);
+        drop(query);
+    }
+}
+
 /// `TRIGGER .. time event ON table [WHEN condition] BEGIN command; .. END`, of one command at least (CREATE TRIGGER)
-#[derive(Debug, Drop)]
 pub struct TriggerDefinition {
     pub time: TriggerTime,
     pub event: TriggerEvent,
     pub table: Token,
     pub condition: Option<Expr>,
     pub body: Items<RowCommand>,
+}
+
+impl Drop for TriggerDefinition {
+    fn drop(self) {
+        let TriggerDefinition {
+            time: _,
+            event,
+            table: _,
+            condition,
+            body,
+        } = self;
+        drop(event);
+        drop(condition);
+        drop(body);
+    }
 }
 
 /// When a trigger fires. BEFORE is what comes with no word.
@@ -183,7 +353,6 @@ pub enum TriggerTime {
 }
 
 /// What a trigger fires at.
-#[derive(Debug, Drop)]
 pub enum TriggerEvent {
     Delete,
     Insert,
@@ -191,12 +360,31 @@ pub enum TriggerEvent {
     Update(Items<Token>),
 }
 
+impl Drop for TriggerEvent {
+    fn drop(self) {
+        match self {
+            TriggerEvent::Delete => {}
+            TriggerEvent::Insert => {}
+            TriggerEvent::Update(a) => drop(a),
+        }
+    }
+}
+
 /// `VIRTUAL TABLE .. USING module (argument, ..)` (CREATE VIRTUAL TABLE)
-#[derive(Debug, Drop)]
 pub struct VirtualTableDefinition {
     pub module_name: Token,
     /// The text of each argument, from its first token to its last one; none where it has no token.
     pub arguments: Items<Option<Span>>,
+}
+
+impl Drop for VirtualTableDefinition {
+    fn drop(self) {
+        let VirtualTableDefinition {
+            module_name: _,
+            arguments,
+        } = self;
+        drop(arguments);
+    }
 }
 
 /// `DROP kind [IF EXISTS] name`
