@@ -1,38 +1,29 @@
 -- What lists of names and words that may be missing read, in the steps of the code.
-use Rattle.std.proofs.Common.{◌≡◌, ℕ, ◌-◌, true, false, List, [], ◌∷◌, ◌++◌, refl}
+use Rattle.std.proofs.Common.{refl, ◌≡◌, ℕ, ◌-◌, true, false, List, [], ◌∷◌}
 use Rattle.sql_tree.specs.declared.token.Token.{Token}
 use Rattle.sql_tree.specs.declared.token.TokenKind.{TokenKind}
 use Rattle.sql_tree.specs.declared.token.TokenKind.TheVariants as kind
 use Rattle.sql_grammar.specs.declared.counts.Counts.{Counts}
 use Rattle.sql_grammar.specs.declared.counts.Role.TheVariants as role
 use Rattle.sql_grammar.specs.Rules.{tok, starts, is_clear, reads, opening, one, Done, ◌>>=◌}
-use Rattle.sql_grammar.specs.Grammar.{Name, name, names, name_list, in_brackets}
+use Rattle.sql_grammar.specs.Grammar.{Name, name, name_list, in_brackets}
 use Rattle.sql_grammar.specs.Bodies.{rules}
 use Rattle.sql_grammar.specs.Queries.{column_names}
 use Rattle.sql_grammar.specs.Definitions.{all_names}
 use Rattle.sql_grammar.proofs.Whole.{nest_is}
-use Rattle.parse_cursor.specs.Gives.{collected}
-use Rattle.parse_cursor.specs.Parts.{next_names, in_names, given_word}
-use Rattle.parse_cursor.proofs.Steps.{list_is, next_is, last_is, or_none_some, or_none_none, given_yes, given_no}
+use Rattle.parse_cursor.specs.Items.{items}
+use Rattle.parse_cursor.specs.Parts.{in_names, given_word}
+use Rattle.parse_cursor.proofs.Steps.{or_none_some, or_none_none, given_yes, given_no}
 
-pub next_names_clear : is_clear Name rules next_names ≡ true
-unfolding next_names
-next_names_clear = refl
+pub all_names_are : (d : ℕ) (c : Counts) (ts : List Token) → reads Name rules d all_names c ts ≡ reads Name rules 0 (items name) c ts
+unfolding all_names items
+all_names_are d c ts = refl
 
-pub all_names_is : (d : ℕ) (c : Counts) (ts : List Token) → reads Name rules d all_names c ts ≡ (one role.Quiet names c ts >>= λ a e rest. collected (a ∷ []) (reads Name rules d next_names e rest))
-unfolding all_names next_names
-all_names_is d c ts = list_is name d c ts
+pub all_names_clear : is_clear Name rules (items name) ≡ true
+unfolding items
+all_names_clear = refl
 
-pub next_names_next : (found : List Token) (d : ℕ) (c : Counts) (ts : List Token) → starts (kind.Comma ∷ []) ts ≡ true
-    → collected found (reads Name rules d next_names c ts) ≡ (one role.Outside (kind.Comma ∷ []) c ts >>= λ t e rest. one role.Quiet names e rest >>= λ a f end. collected (found ++ a ∷ []) (reads Name rules d next_names f end))
-unfolding next_names
-next_names_next found d c ts here = next_is name found d c ts next_names_clear here
-
-pub next_names_end : (found : List Token) (d : ℕ) (c : Counts) (ts : List Token) → starts (kind.Comma ∷ []) ts ≡ false → collected found (reads Name rules d next_names c ts) ≡ Done found c ts
-unfolding next_names
-next_names_end found d c ts none = last_is name found d c ts next_names_clear none
-
-pub ruleset all_names_steps = (all_names_is, next_names_next, next_names_end)
+pub ruleset all_names_steps = (all_names_are, all_names_clear)
 
 pub in_names_is : (d : ℕ) (c : Counts) (ts : List Token) → reads Name rules d in_names c ts ≡ (opening d role.Opening (kind.LeftParen ∷ []) c ts >>= λ t e rest. reads Name rules (d - 1) all_names e rest >>= λ a f mid. one role.Closing (kind.RightParen ∷ []) f mid >>= λ z g end. Done a g end)
 unfolding in_names

@@ -1,17 +1,17 @@
 -- What the names of types and their parts read, in the steps of the code.
-use Rattle.std.proofs.Common.{◌≡◌, ℕ, ◌-◌, true, false, List, [], ◌∷◌, Some, refl, ap, ◌∙◌, None, ◌++◌}
+use Rattle.std.proofs.Common.{◌≡◌, ℕ, ◌-◌, true, false, List, [], ◌∷◌, Some, refl, ap, ◌∙◌, None}
 use Rattle.sql_tree.specs.declared.token.Token.{Token}
 use Rattle.sql_tree.specs.declared.token.TokenKind.TheVariants as kind
 use Rattle.sql_grammar.specs.declared.counts.Counts.{Counts}
 use Rattle.sql_grammar.specs.declared.counts.Role.TheVariants as role
 use Rattle.sql_grammar.specs.Rules.{starts, is_clear, reads, nest, opening, one, Outcome, Done, Stop, ◌>>=◌, tok}
-use Rattle.sql_grammar.specs.Grammar.{Name, sizes, or_none, two_sizes, type_sizes, maybe, after, name, names, one_or_two, signed, type_words, type_name}
+use Rattle.sql_grammar.specs.Grammar.{Name, sizes, or_none, two_sizes, type_sizes, maybe, after, name, one_or_two, signed, type_words, type_name}
 use Rattle.sql_grammar.specs.Bodies.{rules}
 use Rattle.sql_grammar.proofs.ReadingLaws.{other, chosen}
 use Rattle.sql_grammar.proofs.Whole.{nest_is}
-use Rattle.parse_cursor.specs.Gives.{collected}
-use Rattle.parse_cursor.specs.Parts.{sign, second_size, more_names}
-use Rattle.parse_cursor.proofs.Steps.{both_to, maybe_some, maybe_none, many_step, many_end, one_shorter}
+use Rattle.parse_cursor.specs.Items.{run}
+use Rattle.parse_cursor.specs.Parts.{sign, second_size}
+use Rattle.parse_cursor.proofs.Steps.{both_to, maybe_some, maybe_none}
 
 -- ---- sizes
 
@@ -57,23 +57,15 @@ pub ruleset type_sizes_steps = (type_sizes_some, type_sizes_none)
 
 -- ---- words
 
-pub more_names_clear : is_clear Name rules more_names ≡ true
-unfolding more_names
-more_names_clear = refl
+pub type_words_are : (d : ℕ) (c : Counts) (ts : List Token) → reads Name rules d type_words c ts ≡ reads Name rules 0 (run name) c ts
+unfolding type_words run
+type_words_are d c ts = refl
 
-pub type_words_is : (d : ℕ) (c : Counts) (ts : List Token) → reads Name rules d type_words c ts ≡ (one role.Quiet names c ts >>= λ a e rest. collected (a ∷ []) (reads Name rules d more_names e rest))
-unfolding type_words more_names
-type_words_is d c ts = both_to (one role.Quiet names) (reads Name rules d more_names) (λ p. p.0 ∷ p.1) c ts
+pub run_names_clear : is_clear Name rules (run name) ≡ true
+unfolding run
+run_names_clear = refl
 
-pub more_names_step : (found : List Token) (d : ℕ) (c : Counts) (ts : List Token) → starts names ts ≡ true → collected found (reads Name rules d more_names c ts) ≡ (one role.Quiet names c ts >>= λ a e rest. collected (found ++ a ∷ []) (reads Name rules d more_names e rest))
-unfolding more_names
-more_names_step found d c ts here = many_step name d found c ts more_names_clear here
-
-pub more_names_end : (found : List Token) (d : ℕ) (c : Counts) (ts : List Token) → starts names ts ≡ false → collected found (reads Name rules d more_names c ts) ≡ Done found c ts
-unfolding more_names
-more_names_end found d c ts none = many_end name d found c ts more_names_clear none
-
-pub ruleset type_words_steps = (type_words_is, more_names_step, more_names_end, one_shorter)
+pub ruleset type_words_steps = (type_words_are, run_names_clear)
 
 pub type_name_is : (d : ℕ) (c : Counts) (ts : List Token) → reads Name rules d type_name c ts ≡ (reads Name rules d type_words c ts >>= λ a e rest. reads Name rules d type_sizes e rest >>= λ b f end. Done (record { words = a; sizes = b }) f end)
 unfolding type_name

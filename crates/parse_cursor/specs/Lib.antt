@@ -1,3 +1,4 @@
+pub mod Items
 pub mod Gives
 pub mod Parts
 pub mod Whole

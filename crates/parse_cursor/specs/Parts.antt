@@ -5,8 +5,8 @@ use Rattle.sql_tree.specs.declared.token.TokenKind.{TokenKind}
 use Rattle.sql_tree.specs.declared.token.TokenKind.TheVariants as kind
 use Rattle.sql_tree.specs.declared.expr.SignedNumber.{SignedNumber}
 use Rattle.sql_grammar.specs.declared.counts.Role.TheVariants as role
-use Rattle.sql_grammar.specs.Rules.{tok, many}
-use Rattle.sql_grammar.specs.Grammar.{Of, maybe, after, in_brackets, name, name_list, signed}
+use Rattle.sql_grammar.specs.Rules.{tok}
+use Rattle.sql_grammar.specs.Grammar.{Of, maybe, after, in_brackets, name_list, signed}
 use Rattle.sql_grammar.specs.Queries.{given}
 
 -- [+ | -]
@@ -16,14 +16,6 @@ sign = maybe (tok role.Outside (kind.Plus ∷ kind.Minus ∷ []))
 -- ["," signed]
 unfoldable pub second_size : Of (Option SignedNumber)
 second_size = maybe (after role.Outside kind.Comma signed)
-
--- the names of a type behind the first
-unfoldable pub more_names : Of (List Token)
-more_names = many name
-
--- {"," name}
-unfoldable pub next_names : Of (List Token)
-next_names = many (after role.Outside kind.Comma name)
 
 -- "(" name {"," name} ")"
 unfoldable pub in_names : Of (List Token)

@@ -11,12 +11,14 @@
 
 mod cursor;
 mod error;
+mod lists;
 mod names_and_types;
 mod texts;
 mod words;
 
 pub use cursor::Cursor;
 pub use error::ParseError;
+pub use lists::{Element, list, several};
 pub use names_and_types::{all_names, column_names, in_names, name, sees_name, signed, type_name};
 pub use texts::{Failure, failure_at, place, text_before};
 pub use words::given_word;

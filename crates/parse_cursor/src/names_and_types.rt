@@ -13,6 +13,7 @@ ghost use Rattle.parse_cursor.specs.Parts as part;
 
 use crate::cursor::Cursor;
 use crate::error::ParseError;
+use crate::lists::{Element, list, several};
 use sql_grammar::Role;
 use sql_tree::{SignedNumber, Token, TokenKind, TypeName};
 use sqlite_items::Items;
@@ -69,6 +70,21 @@ pub fn name(tokens: &mut Cursor<'_>) -> Result<Token, ParseError>
     ensures { Gives (one role.Quiet spec.names tokens.old.counts tokens.old.rest.now) result tokens.new.counts tokens.new.rest.now }
 {
     tokens.expect_any(&NAMES, Role::Quiet)
+}
+
+/// Names, in lists.
+struct Names;
+
+impl Element<Token> for Names {
+    ghost is_ready = { λ it. Unit {0} };
+
+    ghost rule = { λ it. spec.name };
+
+    ghost depth = { λ it. 0 };
+
+    fn read(&self, tokens: &mut Cursor<'_>) -> Result<Token, ParseError> {
+        name(tokens)
+    }
 }
 
 /// `[+ | -]`
@@ -152,12 +168,7 @@ fn type_sizes(
 fn type_words(alloc: Global, tokens: &mut Cursor<'_>) -> Result<Items<Token>, ParseError>
     ensures { (d : ℕ) → Gives (reads Name rules d spec.type_words tokens.old.counts tokens.old.rest.now) result tokens.new.counts tokens.new.rest.now }
 {
-    let mut words = Items::new(alloc);
-    words.push(name(tokens)?)?;
-    while sees_name(tokens) {
-        words.push(name(tokens)?)?;
-    }
-    Ok(words)
+    several(alloc, tokens, &NAMES, &Names)
 }
 
 /// `name {name} [( signed [, signed] )]`, where so many nestings may still be opened
@@ -179,13 +190,7 @@ pub fn type_name(
 pub fn all_names(alloc: Global, tokens: &mut Cursor<'_>) -> Result<Items<Token>, ParseError>
     ensures { (d : ℕ) → Gives (reads Name rules d all_names tokens.old.counts tokens.old.rest.now) result tokens.new.counts tokens.new.rest.now }
 {
-    let mut found = Items::new(alloc);
-    found.push(name(tokens)?)?;
-    while tokens.sees(TokenKind::Comma) {
-        tokens.expect(TokenKind::Comma, Role::Outside)?;
-        found.push(name(tokens)?)?;
-    }
-    Ok(found)
+    list(alloc, tokens, &Names)
 }
 
 /// `( name {, name} )`, where so many nestings may still be opened

@@ -1,27 +1,9 @@
 -- One token of look-ahead tells what to do in each rule, and with which kinds each begins.
 use Rattle.std.proofs.Common.{◌≡◌, true, false, [], ◌∷◌, refl}
 use Rattle.sql_tree.specs.declared.token.TokenKind.TheVariants as kind
-use Rattle.sql_grammar.specs.Rules.{is_clear, can_be_empty, first}
-use Rattle.sql_grammar.specs.Grammar.{Name, names, literal_kinds, literal, parameter, call, of_table, named, enclosed, existing, casting, choosing, exprs, arm, arms, some_arguments, all_rules}
-use Rattle.sql_grammar.specs.Bodies.{rules}
+use Rattle.sql_grammar.specs.Rules.{can_be_empty, first}
+use Rattle.sql_grammar.specs.Grammar.{names, literal_kinds, literal, parameter, call, of_table, named, enclosed, existing, casting, choosing, exprs, arm, arms, some_arguments, all_rules}
 use Rattle.sql_grammar.specs.Queries.{query, all_query_rules}
-use Rattle.parse_operand.specs.Parts.{more_arms, more_exprs}
-
-pub arm_clear : is_clear Name rules arm ≡ true
-unfolding all_query_rules
-arm_clear = refl
-
-pub more_arms_clear : is_clear Name rules more_arms ≡ true
-unfolding all_query_rules more_arms
-more_arms_clear = refl
-
-pub more_exprs_clear : is_clear Name rules more_exprs ≡ true
-unfolding all_query_rules more_exprs
-more_exprs_clear = refl
-
-pub arm_solid : can_be_empty arm ≡ false
-unfolding all_rules
-arm_solid = refl
 
 pub arms_solid : can_be_empty arms ≡ false
 unfolding all_rules

@@ -51,11 +51,3 @@ listed_members = to or_none (maybe exprs)
 -- "(" IGNORE | ABORT "," text ")"
 unfoldable pub in_raise : Of Expr
 in_raise = in_parentheses raise
-
--- {arm}
-unfoldable pub more_arms : Of (List Arm)
-more_arms = many arm
-
--- {"," expr}
-unfoldable pub more_exprs : Of (List Expr)
-more_exprs = many (after role.Outside kind.Comma expr)

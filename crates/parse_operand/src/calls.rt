@@ -10,7 +10,7 @@ ghost use Rattle.parse_operand.specs.Nests.{Nests};
 ghost use Rattle.parse_operand.specs.Parts as part;
 
 use crate::operands::Operands;
-use parse_cursor::{Cursor, ParseError};
+use parse_cursor::{Cursor, ParseError, list};
 use sql_grammar::Role;
 use sql_tree::{Arguments, Expr, Token, TokenKind};
 use sqlite_items::{Boxed, Items};
@@ -96,13 +96,7 @@ impl<F: Fn(Global, &mut Cursor<'_>, usize) -> Result<Boxed<Expr>, ParseError>, G
         requires open { 0 < self.now.depth }
         ensures { Gives (reads Name rules (self.now.depth - 1) spec.exprs tokens.old.counts tokens.old.rest.now) result tokens.new.counts tokens.new.rest.now }
     {
-        let mut found = Items::new(self.alloc);
-        found.push(self.inner(tokens)?.into_inner())?;
-        while tokens.sees(TokenKind::Comma) {
-            tokens.expect(TokenKind::Comma, Role::Outside)?;
-            found.push(self.inner(tokens)?.into_inner())?;
-        }
-        Ok(found)
+        list(self.alloc, tokens, self)
     }
 
     /// `* | [DISTINCT] expr {, expr}`

@@ -9,20 +9,22 @@ ghost use Rattle.parse_cursor.specs.Gives.{Gives};
 ghost use Rattle.parse_operand.specs.Nests.{Nests};
 
 use crate::operands::Operands;
-use parse_cursor::{Cursor, ParseError};
+use parse_cursor::{Cursor, Element, ParseError, several};
 use sql_grammar::Role;
 use sql_tree::{Arm, Expr, TokenKind};
 use sqlite_items::{Boxed, Items};
 use std::alloc::Global;
 
-impl<F: Fn(Global, &mut Cursor<'_>, usize) -> Result<Boxed<Expr>, ParseError>, G> Operands<F, G> {
-    /// `WHEN expr THEN expr`
+/// `WHEN expr THEN expr`, in lists.
+impl<F: Fn(Global, &mut Cursor<'_>, usize) -> Result<Boxed<Expr>, ParseError>, G> Element<Arm> for Operands<F, G> {
+    ghost is_ready = { λ it. Nests spec.expr it.depth (F.pre it.inner) (F.post it.inner) × (0 < it.depth) };
+
+    ghost rule = { λ it. spec.arm };
+
+    ghost depth = { λ it. it.depth - 1 };
+
     #[tactic(auto, unfolding(sql_grammar::specs::Grammar::arm))]
-    pub(crate) fn arm(&self, tokens: &mut Cursor<'_>) -> Result<Arm, ParseError>
-        requires exprs { Nests spec.expr self.now.depth (F.pre self.now.inner) (F.post self.now.inner) }
-        requires open { 0 < self.now.depth }
-        ensures { Gives (reads Name rules (self.now.depth - 1) spec.arm tokens.old.counts tokens.old.rest.now) result tokens.new.counts tokens.new.rest.now }
-    {
+    fn read(&self, tokens: &mut Cursor<'_>) -> Result<Arm, ParseError> {
         tokens.expect(TokenKind::When, Role::Quiet)?;
         let condition = self.inner(tokens)?;
         tokens.expect(TokenKind::Then, Role::Quiet)?;
@@ -32,7 +34,9 @@ impl<F: Fn(Global, &mut Cursor<'_>, usize) -> Result<Boxed<Expr>, ParseError>, G
             value: value.into_inner(),
         })
     }
+}
 
+impl<F: Fn(Global, &mut Cursor<'_>, usize) -> Result<Boxed<Expr>, ParseError>, G> Operands<F, G> {
     /// `arm {arm}`
     #[tactic(auto, using(crate::proofs::Lists::arms_steps))]
     pub(crate) fn arms(&self, tokens: &mut Cursor<'_>) -> Result<Items<Arm>, ParseError>
@@ -40,12 +44,7 @@ impl<F: Fn(Global, &mut Cursor<'_>, usize) -> Result<Boxed<Expr>, ParseError>, G
         requires open { 0 < self.now.depth }
         ensures { Gives (reads Name rules (self.now.depth - 1) spec.arms tokens.old.counts tokens.old.rest.now) result tokens.new.counts tokens.new.rest.now }
     {
-        let mut found = Items::new(self.alloc);
-        found.push(self.arm(tokens)?)?;
-        while tokens.sees(TokenKind::When) {
-            found.push(self.arm(tokens)?)?;
-        }
-        Ok(found)
+        several(self.alloc, tokens, &[TokenKind::When], self)
     }
 
     /// `[ELSE expr]`

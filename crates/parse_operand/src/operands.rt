@@ -9,7 +9,7 @@ ghost use Rattle.sql_grammar.specs.Queries.{query};
 ghost use Rattle.parse_cursor.specs.Gives.{Gives};
 ghost use Rattle.parse_operand.specs.Nests.{Nests};
 
-use parse_cursor::{Cursor, ParseError};
+use parse_cursor::{Cursor, Element, ParseError};
 use sql_tree::{Expr, Query};
 use sqlite_items::Boxed;
 use std::alloc::Global;
@@ -45,5 +45,18 @@ impl<F, G: Fn(Global, &mut Cursor<'_>, usize) -> Result<Boxed<Query>, ParseError
         ensures { Gives (reads Name rules (self.now.depth - 1) query tokens.old.counts tokens.old.rest.now) result tokens.new.counts tokens.new.rest.now }
     {
         (self.query)(self.alloc, tokens, self.depth - 1)
+    }
+}
+
+/// Expressions, in lists.
+impl<F: Fn(Global, &mut Cursor<'_>, usize) -> Result<Boxed<Expr>, ParseError>, G> Element<Expr> for Operands<F, G> {
+    ghost is_ready = { λ it. Nests spec.expr it.depth (F.pre it.inner) (F.post it.inner) × (0 < it.depth) };
+
+    ghost rule = { λ it. spec.expr };
+
+    ghost depth = { λ it. it.depth - 1 };
+
+    fn read(&self, tokens: &mut Cursor<'_>) -> Result<Expr, ParseError> {
+        Ok(self.inner(tokens)?.into_inner())
     }
 }

@@ -44,7 +44,7 @@ impl Drop for BoundExpr {
     fn drop(self) {
         match self {
             BoundExpr::Literal(literal) => drop(literal),
-            BoundExpr::Column { .. } => {}
+            BoundExpr::Column { item: _, column: _ } => {}
             BoundExpr::Parameter(_) => {}
             BoundExpr::Unary(_, a) => drop(a),
             BoundExpr::Binary(_, a, b) => {
@@ -109,7 +109,11 @@ pub struct BoundMatch {
 impl Drop for BoundMatch {
     #[cycle(dropping)]
     fn drop(self) {
-        let BoundMatch { operand, value, .. } = self;
+        let BoundMatch {
+            sides: _,
+            operand,
+            value,
+        } = self;
         drop(operand);
         drop(value);
     }
