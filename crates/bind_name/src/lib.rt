@@ -18,6 +18,3 @@ pub use names::{is_same, name};
 pub use numerals::is_least_magnitude;
 pub use slices::slice_of;
 pub use types::affinity_of_type;
-
-#[cfg(test)]
-mod tests;

@@ -10,8 +10,6 @@
 mod emitting;
 mod literals;
 mod parts;
-#[cfg(test)]
-mod tests;
 
 pub use emitting::emit;
 pub use literals::emit_literal;

@@ -11,8 +11,6 @@ mod compiling;
 mod laws;
 mod scanning;
 mod sifting;
-#[cfg(test)]
-mod tests;
 
 pub use compiling::compile;
 pub use laws::a_query_takes_few_steps;

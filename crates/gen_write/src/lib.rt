@@ -10,8 +10,6 @@ mod creating;
 mod inserting;
 mod refusing;
 mod rows;
-#[cfg(test)]
-mod tests;
 
 pub use creating::compile_create;
 pub use inserting::compile_insert;

@@ -11,8 +11,6 @@ mod builder;
 mod change;
 mod op;
 mod program;
-#[cfg(test)]
-mod tests;
 
 pub use builder::Builder;
 pub use change::Change;

@@ -25,8 +25,3 @@ pub use event::{Budget, Event};
 pub use hosts::Hosts;
 pub use machine::Machine;
 pub use tables::Tables;
-
-#[cfg(test)]
-mod tests;
-#[cfg(test)]
-mod tests_values;

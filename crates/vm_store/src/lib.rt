@@ -14,6 +14,3 @@ pub use cursor::{Cursor, Place, Spot};
 pub use frame::{Frame, Frames};
 pub use jumps::{is_accepted, is_bad, is_known, is_null, is_rejected};
 pub use registers::Registers;
-
-#[cfg(test)]
-mod tests;

@@ -1,6 +1,0 @@
-// Tokens with what they stand for by hand.
-mod affinities;
-mod literals;
-mod names;
-
-use super::*;
