@@ -24,6 +24,3 @@ pub use laws::{
     each_text_has_an_answer, factored_rules_derive_the_same, no_text_has_two_trees,
     no_tree_is_larger_than_its_text, reading_gives_the_answer,
 };
-
-#[cfg(test)]
-mod tests;

@@ -27,16 +27,3 @@ pub use cutting::{blank_width, statement_end};
 pub use keywords::KEYWORDS;
 pub use laws::{a_blank_stays, an_end_stays, the_end_is_the_first};
 pub use lexer::tokens;
-
-#[cfg(test)]
-mod tests;
-#[cfg(test)]
-mod tests_cutting;
-#[cfg(test)]
-mod tests_numbers;
-#[cfg(test)]
-mod tests_quotes;
-#[cfg(test)]
-mod tests_signs;
-#[cfg(test)]
-mod tests_words;
