@@ -1,5 +1,5 @@
 -- One token of look-ahead tells what to do in each rule, and with which kinds each begins.
-use Rattle.std.proofs.Common.{◌≡◌, true, false, [], ◌∷◌, refl}
+use Rattle.std.proofs.Common.{◌≡◌, false, [], ◌∷◌, refl}
 use Rattle.sql_tree.specs.declared.token.TokenKind.TheVariants as kind
 use Rattle.sql_grammar.specs.Rules.{can_be_empty, first}
 use Rattle.sql_grammar.specs.Grammar.{names, literal_kinds, literal, parameter, call, of_table, named, enclosed, existing, casting, choosing, exprs, arm, arms, some_arguments, all_rules}

@@ -1,14 +1,11 @@
 -- Parts of rules that functions of their own parse.
 use Rattle.std.specs.Prelude.{List}
-use Rattle.sql_tree.specs.declared.token.TokenKind.TheVariants as kind
 use Rattle.sql_tree.specs.declared.expr.Arguments.{Arguments}
-use Rattle.sql_tree.specs.declared.expr.Arm.{Arm}
 use Rattle.sql_tree.specs.declared.expr.Expr.{Expr}
 use Rattle.sql_tree.specs.declared.expr.TypeName.{TypeName}
 use Rattle.sql_tree.specs.declared.query.Query.{Query}
-use Rattle.sql_grammar.specs.declared.counts.Role.TheVariants as role
-use Rattle.sql_grammar.specs.Rules.{many, to}
-use Rattle.sql_grammar.specs.Grammar.{Of, after, maybe, or_none, in_parentheses, parenthesized, subquery, arguments, condition, cast, members, raise, arm, expr, exprs}
+use Rattle.sql_grammar.specs.Rules.{to}
+use Rattle.sql_grammar.specs.Grammar.{Of, maybe, or_none, in_parentheses, parenthesized, subquery, arguments, condition, cast, members, raise, exprs}
 use Rattle.sql_grammar.specs.Bodies.{rules}
 
 -- "(" ["*" | [DISTINCT] expr {"," expr}] ")"

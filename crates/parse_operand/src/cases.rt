@@ -16,7 +16,8 @@ use sqlite_items::{Boxed, Items};
 use std::alloc::Global;
 
 /// `WHEN expr THEN expr`, in lists.
-impl<F: Fn(Global, &mut Cursor<'_>, usize) -> Result<Boxed<Expr>, ParseError>, G> Element<Arm> for Operands<F, G> {
+impl<F: Fn(Global, &mut Cursor<'_>, usize) -> Result<Boxed<Expr>, ParseError>, G> Element<Arm>
+    for Operands<F, G> {
     ghost is_ready = { λ it. Nests spec.expr it.depth (F.pre it.inner) (F.post it.inner) × (0 < it.depth) };
 
     ghost rule = { λ it. spec.arm };

@@ -49,7 +49,8 @@ impl<F, G: Fn(Global, &mut Cursor<'_>, usize) -> Result<Boxed<Query>, ParseError
 }
 
 /// Expressions, in lists.
-impl<F: Fn(Global, &mut Cursor<'_>, usize) -> Result<Boxed<Expr>, ParseError>, G> Element<Expr> for Operands<F, G> {
+impl<F: Fn(Global, &mut Cursor<'_>, usize) -> Result<Boxed<Expr>, ParseError>, G> Element<Expr>
+    for Operands<F, G> {
     ghost is_ready = { λ it. Nests spec.expr it.depth (F.pre it.inner) (F.post it.inner) × (0 < it.depth) };
 
     ghost rule = { λ it. spec.expr };

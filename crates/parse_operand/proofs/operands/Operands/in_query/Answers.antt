@@ -1,0 +1,15 @@
+use Rattle.parse_operand.proofs.Bracketed.{in_query_is}
+use Rattle.std.proofs.Common.{arith}
+use Rattle.parse_operand.proofs.operands.Operands.in_query.Goals as goal
+
+pub returns-in_err-open : goal.returns-in_err-open
+returns-in_err-open g c = grind (arith, in_query_is)
+
+pub returns-in_err-found : goal.returns-in_err-found
+returns-in_err-found g c = grind (arith, in_query_is)
+
+pub returns-in_err-expect : goal.returns-in_err-expect
+returns-in_err-expect g c = grind (arith, in_query_is)
+
+pub returns : goal.returns
+returns g c = grind (arith, in_query_is)
