@@ -1,5 +1,7 @@
 -- What the operators read of their operands.
 use Rattle.std.specs.Prelude.{pos}
+use Rattle.eng_operator.specs.declared.spelling.BothTexts.{BothTexts}
+use Rattle.eng_operator.specs.declared.spelling.BothTexts.TheVariants as both
 use Rattle.eng_operator.specs.declared.spelling.OperandText.{OperandText}
 use Rattle.eng_operator.specs.declared.spelling.OperandText.TheVariants as operand
 use Rattle.eng_operator.specs.declared.spelling.Spelling.{Spelling}
@@ -20,6 +22,11 @@ value_of (spelling.Made text) = Text text
 abbrev pub out_of : OperandText → Out
 out_of (operand.Good text) = Good (value_of text)
 out_of (operand.Bad causes) = Bad causes
+
+-- what an operator on texts gives for two
+abbrev pub applied : (Value → Value → Out) → BothTexts → Out
+applied f (both.Good a b) = f (value_of a) (value_of b)
+applied f (both.Bad causes) = Bad causes
 
 -- a character as its number
 abbrev pub escape_out : Escape → Out

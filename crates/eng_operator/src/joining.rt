@@ -4,7 +4,7 @@ ghost use Rattle.eng_operator.specs.Spellings.{value_of};
 ghost use Rattle.eng_value.specs.Operators.{concatenation_of, joined, made};
 ghost use Rattle.eng_value.specs.declared.value.Value.TheVariants as sql;
 
-use crate::spelling::{OperandText, Spelling};
+use crate::spelling::{BothTexts, Spelling};
 use eng_value::{Cause, MAX_VALUE_BYTES, Out, Text, Value};
 use std::alloc::{AllocError, Global};
 
@@ -15,11 +15,9 @@ use std::alloc::{AllocError, Global};
 pub fn concatenation(alloc: Global, a: &Out, b: &Out) -> Result<Out, AllocError>
     ensures { IfOk result (λ out. out ≡ concatenation_of a.now b.now) }
 {
-    match (OperandText::of(alloc, a)?, OperandText::of(alloc, b)?) {
-        (OperandText::Good(a), OperandText::Good(b)) => joined(alloc, &a, &b),
-        (OperandText::Good(_), OperandText::Bad(causes)) => Ok(Out::Bad(causes)),
-        (OperandText::Bad(causes), OperandText::Good(_)) => Ok(Out::Bad(causes)),
-        (OperandText::Bad(c), OperandText::Bad(d)) => Ok(Out::Bad(c.union(&d)?)),
+    match BothTexts::of(alloc, a, b)? {
+        BothTexts::Good(a, b) => joined(alloc, &a, &b),
+        BothTexts::Bad(causes) => Ok(Out::Bad(causes)),
     }
 }
 

@@ -8,7 +8,7 @@ ghost use Rattle.eng_value.specs.declared.out.Out.TheVariants.{Good};
 ghost use Rattle.eng_value.specs.declared.value.Value.TheVariants as sql;
 
 use crate::escapes::Escape;
-use crate::spelling::{OperandText, Spelling};
+use crate::spelling::{BothTexts, OperandText, Spelling};
 use eng_value::{Causes, Out, Value};
 use std::alloc::{AllocError, Global};
 
@@ -18,14 +18,9 @@ use std::alloc::{AllocError, Global};
 pub fn like(alloc: Global, text: &Out, pattern: &Out) -> Result<Out, AllocError>
     ensures { IfOk result (λ out. out ≡ like_of text.now pattern.now) }
 {
-    match (
-        OperandText::of(alloc, text)?,
-        OperandText::of(alloc, pattern)?,
-    ) {
-        (OperandText::Good(t), OperandText::Good(p)) => Ok(Out::Good(liked(&t, &p))),
-        (OperandText::Good(_), OperandText::Bad(causes)) => Ok(Out::Bad(causes)),
-        (OperandText::Bad(causes), OperandText::Good(_)) => Ok(Out::Bad(causes)),
-        (OperandText::Bad(c), OperandText::Bad(d)) => Ok(Out::Bad(c.union(&d)?)),
+    match BothTexts::of(alloc, text, pattern)? {
+        BothTexts::Good(text, pattern) => Ok(Out::Good(liked(&text, &pattern))),
+        BothTexts::Bad(causes) => Ok(Out::Bad(causes)),
     }
 }
 
@@ -34,14 +29,9 @@ pub fn like(alloc: Global, text: &Out, pattern: &Out) -> Result<Out, AllocError>
 pub fn glob(alloc: Global, text: &Out, pattern: &Out) -> Result<Out, AllocError>
     ensures { IfOk result (λ out. out ≡ glob_of text.now pattern.now) }
 {
-    match (
-        OperandText::of(alloc, text)?,
-        OperandText::of(alloc, pattern)?,
-    ) {
-        (OperandText::Good(t), OperandText::Good(p)) => Ok(Out::Good(globbed(&t, &p))),
-        (OperandText::Good(_), OperandText::Bad(causes)) => Ok(Out::Bad(causes)),
-        (OperandText::Bad(causes), OperandText::Good(_)) => Ok(Out::Bad(causes)),
-        (OperandText::Bad(c), OperandText::Bad(d)) => Ok(Out::Bad(c.union(&d)?)),
+    match BothTexts::of(alloc, text, pattern)? {
+        BothTexts::Good(text, pattern) => Ok(Out::Good(globbed(&text, &pattern))),
+        BothTexts::Bad(causes) => Ok(Out::Bad(causes)),
     }
 }
 

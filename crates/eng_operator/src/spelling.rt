@@ -1,8 +1,10 @@
 // How an operator reads the text of an operand.
 ghost use Rattle.std.specs.Prelude.{◌≡◌, IfOk, MatchOption};
-ghost use Rattle.eng_operator.specs.Spellings.{out_of, value_of};
+ghost use Rattle.eng_operator.specs.Spellings.{applied, out_of, value_of};
 ghost use Rattle.eng_value.specs.Casts.{to_text};
-ghost use Rattle.eng_value.specs.Outs.{turned};
+ghost use Rattle.eng_value.specs.Outs.{on_both, turned};
+ghost use Rattle.eng_value.specs.declared.out.Out.{Out};
+ghost use Rattle.eng_value.specs.declared.value.Value.{Value};
 ghost use Rattle.eng_value.specs.declared.value.Value.TheVariants as sql;
 
 use eng_value::{Blob, Cause, Causes, Out, Text, Value};
@@ -10,7 +12,6 @@ use std::alloc::{AllocError, Global};
 use std::str;
 
 /// The text of a value: lent by the value that holds it, or made for this operator alone.
-#[derive(Drop)]
 pub(crate) enum Spelling<'v> {
     Null,
     Lent(&'v str),
@@ -22,6 +23,27 @@ pub(crate) enum Spelling<'v> {
 pub(crate) enum OperandText<'v> {
     Good(Spelling<'v>),
     Bad(Causes),
+}
+
+/// The texts of two operands, or the causes of all that are bad.
+#[derive(Drop)]
+pub(crate) enum BothTexts<'v> {
+    Good(Spelling<'v>, Spelling<'v>),
+    Bad(Causes),
+}
+
+impl<'v> BothTexts<'v> {
+    /// As CAST to TEXT makes them.
+    pub(crate) fn of(alloc: Global, a: &'v Out, b: &'v Out) -> Result<BothTexts<'v>, AllocError>
+        ensures { IfOk result (λ both. (f : Value → Value → Out) → applied f both ≡ on_both f (turned to_text a.now) (turned to_text b.now)) }
+    {
+        match (OperandText::of(alloc, a)?, OperandText::of(alloc, b)?) {
+            (OperandText::Good(a), OperandText::Good(b)) => Ok(BothTexts::Good(a, b)),
+            (OperandText::Good(_), OperandText::Bad(causes)) => Ok(BothTexts::Bad(causes)),
+            (OperandText::Bad(causes), OperandText::Good(_)) => Ok(BothTexts::Bad(causes)),
+            (OperandText::Bad(c), OperandText::Bad(d)) => Ok(BothTexts::Bad(c.union(&d)?)),
+        }
+    }
 }
 
 impl<'v> OperandText<'v> {
@@ -67,6 +89,17 @@ impl<'v> Spelling<'v> {
             Spelling::Null => None,
             Spelling::Lent(text) => Some(text),
             Spelling::Made(text) => Some(text.as_str()),
+        }
+    }
+}
+
+// By hand, so that what drops a spelling calls this, and no proof goes through its variants again.
+impl Drop for Spelling<'_> {
+    fn drop(self) {
+        match self {
+            Spelling::Null => {}
+            Spelling::Lent(_) => {}
+            Spelling::Made(text) => drop(text),
         }
     }
 }

@@ -1,6 +1,6 @@
 // The operators on truths.
 ghost use Rattle.std.specs.Prelude.{◌≡◌, IfOk};
-ghost use Rattle.eng_value.specs.Truths.{and_of, choice_of, is_truth_of, not_of, or_of};
+ghost use Rattle.eng_value.specs.Truths.{and_of, choice_of, chosen, is_truth_of, not_of, or_of};
 
 use eng_value::{Out, Truth, Value};
 use std::alloc::{AllocError, Global};
@@ -37,10 +37,16 @@ pub fn not(alloc: Global, a: &Out) -> Result<Out, AllocError>
 pub fn choice(alloc: Global, condition: &Out, first: Out, second: Out) -> Result<Out, AllocError>
     ensures { IfOk result (λ out. out ≡ choice_of condition.now first second) }
 {
-    match Truth::of(alloc, condition)? {
-        Truth::True => Ok(first),
-        Truth::False | Truth::Unknown => Ok(second),
-        Truth::Failed(causes) => Ok(Out::Bad(causes)),
+    Ok(chosen(Truth::of(alloc, condition)?, first, second))
+}
+
+fn chosen(truth: Truth, first: Out, second: Out) -> Out
+    ensures { result ≡ chosen truth first second }
+{
+    match truth {
+        Truth::True => first,
+        Truth::False | Truth::Unknown => second,
+        Truth::Failed(causes) => Out::Bad(causes),
     }
 }
 

@@ -59,7 +59,7 @@ impl LimitKind {
 }
 
 /// Why a statement is refused. Each cause has a result code (Result and Error Codes) and a text.
-#[derive(Debug, Drop)]
+#[derive(Debug)]
 pub enum Cause {
     /// The statement holds a construct that is not built yet.
     NotYet,
@@ -203,6 +203,31 @@ impl Clone for Cause {
             Cause::Misuse(name) => Ok(Cause::Misuse(name.clone()?)),
             Cause::Limit(kind) => Ok(Cause::Limit(*kind)),
             Cause::Syntax(at) => Ok(Cause::Syntax(*at)),
+        }
+    }
+}
+
+// By hand, so that what drops a cause calls this, and no proof goes through its variants again.
+impl Drop for Cause {
+    fn drop(self) {
+        match self {
+            Cause::NotYet => {}
+            Cause::Mem => {}
+            Cause::Interrupted(_) => {}
+            Cause::SinkFault => {}
+            Cause::Real => {}
+            Cause::Overflow => {}
+            Cause::NotText => {}
+            Cause::Escape => {}
+            Cause::TooBig => {}
+            Cause::Full(table) => drop(table),
+            Cause::Unknown(_, name) => drop(name),
+            Cause::Exists(_, name) => drop(name),
+            Cause::Reserved(name) => drop(name),
+            Cause::Arity(name) => drop(name),
+            Cause::Misuse(name) => drop(name),
+            Cause::Limit(_) => {}
+            Cause::Syntax(_) => {}
         }
     }
 }

@@ -6,9 +6,10 @@ ghost use Rattle.eng_value.specs.Causes.{only, has_cause};
 use crate::Cause;
 use std::alloc::{AllocError, Global};
 use std::marker::Model;
+use std::mem;
 
 /// The causes of something bad, at least one. Contracts see their set: a refusal names any one of them.
-#[derive(Debug, Drop)]
+#[derive(Debug)]
 pub struct Causes {
     first: Cause,
     others: Vec<Cause>,
@@ -59,8 +60,8 @@ impl Causes {
     pub fn into_first(self) -> Cause
         ensures { has_cause self result ≡ true }
     {
-        let Causes { first, others: _ } = self;
-        first
+        let mut causes = self;
+        mem::replace(&mut causes.first, Cause::NotYet)
     }
 }
 
@@ -72,5 +73,14 @@ impl Clone for Causes {
             first: self.first.clone()?,
             others: self.others.clone()?,
         })
+    }
+}
+
+// By hand, as that of a cause.
+impl Drop for Causes {
+    fn drop(self) {
+        let Causes { first, others } = self;
+        drop(first);
+        drop(others);
     }
 }
