@@ -26,6 +26,3 @@ pub use expressions::{bind, bind_conjuncts};
 pub use laws::sizes_are_linear;
 pub use part::{BoundPart, Form};
 pub use scope::Scope;
-
-#[cfg(test)]
-mod tests;

@@ -13,6 +13,3 @@ mod statement;
 mod tables;
 
 pub use statement::{Bound, bind};
-
-#[cfg(test)]
-mod tests;
