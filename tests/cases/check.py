@@ -9,7 +9,7 @@ A file is blocks, parted by empty lines:
     # A comment in front of a case says what it shows.
     % words --budget 5          the words of the command line
     % status 3                  the exit status; without it 1 where a line begins with `Error `, else 0
-    % escaped                   \\xNN is a byte, \\n, \\t and \\\\ are themselves, in all the lines below
+    % escaped                   \\xNN is a byte, \\n, \\t and \\\\ are themselves, \\*9{x} is nine times x, in all the lines below
     % no newline                the script's last line has none
     CREATE TABLE t(a);
     SELECT a FROM t;
@@ -25,17 +25,19 @@ A file is blocks, parted by empty lines:
 
     % each
     SELECT 1 ORDER; => Error 1: syntax error at byte 14
-                                each line is a script of its own, and the one line that it must write; nothing for none
+                                each line is a script of its own, and the one line that it must write; nothing for none. Where lines are
+                                escaped, \\n parts several of them
 
 A value of a line may not end in white space; write it by an escape. The last line is 'N cases, N failed'; the status is 1 where one
 failed.
 """
 import pathlib
 import re
+import shlex
 import subprocess
 import sys
 
-ESCAPE = re.compile(rb"\\(x[0-9a-fA-F]{2}|[nt\\])")
+ESCAPE = re.compile(rb"\\(x[0-9a-fA-F]{2}|[nt\\]|\*(\d+)\{([^}]*)\})")
 
 
 def unescaped(text):
@@ -43,6 +45,8 @@ def unescaped(text):
 
     def byte_of(found):
         word = found[1]
+        if word[:1] == b"*":
+            return unescaped(found[3]) * int(found[2])
         return bytes([int(word[1:], 16)]) if word[:1] == b"x" else {b"n": b"\n", b"t": b"\t", b"\\": b"\\"}[word]
 
     return ESCAPE.sub(byte_of, text)
@@ -86,11 +90,12 @@ def scripts_of(where, block):
     if not body:
         return
     is_escaped = "escaped" in options
-    words, status = options.get("words", "").split(), options.get("status")
+    words, status = shlex.split(options.get("words", "")), options.get("status")
+    end = b"" if "no newline" in options else b"\n"
     if "each" in options:
         for line in body:
             script, wanted = pair_of(where, line, is_escaped)
-            yield script + b"\n", [wanted] if wanted else [], words, status
+            yield script + end, [wanted] if wanted else [], words, status
         return
     if "select" in options:
         pairs = [pair_of(where, line, is_escaped) for line in body]
@@ -101,7 +106,7 @@ def scripts_of(where, block):
     if b"----" not in body:
         sys.exit("%s: a case without `----`" % where)
     cut = body.index(b"----")
-    script = b"\n".join(lines_to_bytes(body[:cut], is_escaped)) + (b"" if "no newline" in options else b"\n")
+    script = b"\n".join(lines_to_bytes(body[:cut], is_escaped)) + end
     yield script, lines_to_bytes(body[cut + 1 :], is_escaped), words, status
 
 
@@ -109,14 +114,14 @@ def failure(program, script, lines, words, status):
     """What is wrong with a run, or None."""
     wanted = b"".join(line + b"\n" for line in lines)
     if status is None:
-        status = int(any(line.startswith(b"Error ") for line in lines))
+        status = int(b"\nError " in b"\n" + wanted)
     try:
         done = subprocess.run([program] + words, input=script, stdout=subprocess.PIPE, timeout=60)
     except subprocess.TimeoutExpired:
         return "no end in 60 seconds"
     if done.stdout == wanted and done.returncode == int(status):
         return None
-    got = done.stdout.split(b"\n")
+    got, lines = done.stdout.split(b"\n"), wanted.split(b"\n")
     first = next((n for n, line in enumerate(lines) if n >= len(got) or got[n] != line), len(lines))
     there = got[first][:300] if first < len(got) else None
     due = lines[first][:300] if first < len(lines) else None
