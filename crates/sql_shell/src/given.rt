@@ -20,7 +20,7 @@ pub(crate) fn refused(rows: Rows, why: Cause) -> Result<Given, Stop>
     ensures other { IfOk result (λ g. why ≢ Cause.Mem) }
     ensures memory { IfErr result (λ stop. stop ≡ Stop.Memory) }
 {
-    match why {
+    match &why {
         Cause::Mem => Err(Stop::Memory),
         _ => Ok(Given {
             rows,
