@@ -3,7 +3,8 @@ use Rattle.std.specs.Prelude.{◌≡◌, ◌≢◌, Result, Ok, Err, List, ◌++
 use Rattle.sql_tree.specs.declared.token.Token.{Token}
 use Rattle.sql_tree.specs.declared.expr.Expr.{Expr}
 use Rattle.sql_grammar.specs.declared.counts.Counts.{Counts}
-use Rattle.sql_grammar.specs.Rules.{Outcome, ◌>>=◌, Done, Stop, Why, Wrong, Over}
+use Rattle.sql_grammar.specs.declared.counts.Role.{Role}
+use Rattle.sql_grammar.specs.Rules.{Kinds, Outcome, ◌>>=◌, Done, Stop, Why, Wrong, Over, one}
 use Rattle.sql_grammar.specs.Grammar.{applied}
 use Rattle.parse_cursor.specs.declared.error.ParseError.{ParseError}
 use Rattle.parse_cursor.specs.declared.error.ParseError.TheVariants.{Memory, Syntax, TooMuch}
@@ -29,3 +30,7 @@ apply_to left o = o >>= λ fs c end. Done (applied left fs) c end
 -- what is found, of what stands to the left
 abbrev pub apply_one : {A : Type 0} → A → Outcome (A → Expr) → Outcome Expr
 apply_one left o = o >>= λ f c rest. Done (f left) c rest
+
+-- what was found, behind a closing token
+abbrev pub closed : {A : Type 0} → A → Role → Kinds → Counts → List Token → Outcome A
+closed found m ks c ts = one m ks c ts >>= λ t e rest. Done found e rest

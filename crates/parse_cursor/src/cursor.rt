@@ -2,7 +2,7 @@
 
 ghost use Rattle.std.specs.Prelude.{◌≡◌, ◌<◌, ◌∷◌, [], IfOk};
 ghost use Rattle.sql_grammar.specs.Rules.{has, one, opening, starts};
-ghost use Rattle.parse_cursor.specs.Gives.{Gives};
+ghost use Rattle.parse_cursor.specs.Gives.{Gives, closed};
 
 use crate::error::ParseError;
 use sql_grammar::{Counts, Limit, Role, count};
@@ -75,6 +75,14 @@ impl<'a> Cursor<'a> {
             return Err(ParseError::TooMuch(Limit::Nestings));
         }
         Err(ParseError::Syntax)
+    }
+
+    /// What was found, if the token behind it is of this kind and passes no limit.
+    pub fn close<T: Drop>(&mut self, found: T, kind: TokenKind, role: Role) -> Result<T, ParseError>
+        ensures { Gives (closed found role (kind ∷ []) self.old.counts self.old.rest.now) result self.new.counts self.new.rest.now }
+    {
+        self.expect(kind, role)?;
+        Ok(found)
     }
 }
 

@@ -9,6 +9,7 @@
 //! src/cursor.rt.
 #![tactic(auto)]
 
+mod boxes;
 mod cursor;
 mod error;
 mod lists;
@@ -16,6 +17,7 @@ mod names_and_types;
 mod texts;
 mod words;
 
+pub use boxes::boxed;
 pub use cursor::Cursor;
 pub use error::ParseError;
 pub use lists::{Element, list, several};

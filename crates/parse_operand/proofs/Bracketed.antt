@@ -6,13 +6,12 @@ use Rattle.sql_tree.specs.declared.expr.Expr.{Expr}
 use Rattle.sql_grammar.specs.declared.counts.Counts.{Counts}
 use Rattle.sql_grammar.specs.declared.counts.Role.TheVariants as role
 use Rattle.sql_grammar.specs.Rules.{reads, opening, one, Outcome, Done, Stop, ◌>>=◌}
-use Rattle.sql_grammar.specs.Grammar.{Name, parenthesized, subquery, arguments, condition, cast, choice, members, raise, enclosed, choosing, expr, case, raise_what}
+use Rattle.sql_grammar.specs.Grammar.{Name, parenthesized, subquery, arguments, condition, cast, choice, members, raise, enclosed, choosing, case, raise_what}
 use Rattle.sql_grammar.specs.Bodies.{rules}
 use Rattle.sql_grammar.specs.Queries.{query}
 use Rattle.sql_grammar.proofs.Whole.{nest_is}
 use Rattle.parse_cursor.specs.Gives.{apply_one}
-use Rattle.parse_operand.specs.Parts.{in_query, inside_parentheses, in_arguments, inside_arguments, in_condition, in_cast, inside_cast, in_members, inside_members, in_raise}
-use Rattle.parse_cursor.proofs.Steps.{after_is}
+use Rattle.parse_operand.specs.Parts.{in_query, inside_parentheses, in_arguments, inside_arguments, in_condition, in_cast, inside_cast, in_members, inside_members, in_raise, behind}
 
 pub enclosed_is : (d : ℕ) (c : Counts) (ts : List Token) → reads Name rules d enclosed c ts ≡ (opening d role.Inward (kind.LeftParen ∷ []) c ts >>= λ t e rest. reads Name rules (d - 1) inside_parentheses e rest >>= λ a f mid. one role.Outward (kind.RightParen ∷ []) f mid >>= λ z g end. Done a g end)
 unfolding enclosed inside_parentheses
@@ -53,13 +52,6 @@ pub in_raise_is : (d : ℕ) (c : Counts) (ts : List Token) → reads Name rules 
 unfolding in_raise
 in_raise_is d c ts = nest_is Name rules role.Inward (kind.LeftParen ∷ []) raise role.Outward (kind.RightParen ∷ []) d c ts
 
-pub in_condition_is : (d : ℕ) (c : Counts) (ts : List Token) → reads Name rules d in_condition c ts ≡ (opening d role.Inward (kind.LeftParen ∷ []) c ts >>= λ t e rest. one role.Quiet (kind.Where ∷ []) e rest >>= λ w f mid. reads Name rules (d - 1) expr f mid >>= λ a g far. one role.Outward (kind.RightParen ∷ []) g far >>= λ z h end. Done a h end)
-unfolding in_condition
-in_condition_is d c ts = nest_is Name rules role.Inward (kind.LeftParen ∷ []) condition role.Outward (kind.RightParen ∷ []) d c ts ∙ word (opening d role.Inward (kind.LeftParen ∷ []) c ts) where
-  where_word : (o : Outcome Token) → ((o >>= λ w f mid. reads Name rules (d - 1) expr f mid) >>= λ a g far. one role.Outward (kind.RightParen ∷ []) g far >>= λ z h end. Done a h end) ≡ (o >>= λ w f mid. reads Name rules (d - 1) expr f mid >>= λ a g far. one role.Outward (kind.RightParen ∷ []) g far >>= λ z h end. Done a h end)
-  where_word (Done w f mid) = refl
-  where_word (Stop w mid) = refl
-
-  word : (o : Outcome Token) → (o >>= λ t e rest. reads Name rules (d - 1) (rules _ condition) e rest >>= λ a f mid. one role.Outward (kind.RightParen ∷ []) f mid >>= λ z g end. Done a g end) ≡ (o >>= λ t e rest. one role.Quiet (kind.Where ∷ []) e rest >>= λ w f mid. reads Name rules (d - 1) expr f mid >>= λ a g far. one role.Outward (kind.RightParen ∷ []) g far >>= λ z h end. Done a h end)
-  word (Done t e rest) = ap (λ o. o >>= λ a f mid. one role.Outward (kind.RightParen ∷ []) f mid >>= λ z g end. Done a g end) (after_is role.Quiet kind.Where expr (d - 1) e rest) ∙ where_word (one role.Quiet (kind.Where ∷ []) e rest)
-  word (Stop w rest) = refl
+pub in_condition_is : (d : ℕ) (c : Counts) (ts : List Token) → reads Name rules d in_condition c ts ≡ (opening d role.Inward (kind.LeftParen ∷ []) c ts >>= λ t e rest. reads Name rules (d - 1) (behind kind.Where) e rest >>= λ a f mid. one role.Outward (kind.RightParen ∷ []) f mid >>= λ z g end. Done a g end)
+unfolding in_condition behind
+in_condition_is d c ts = nest_is Name rules role.Inward (kind.LeftParen ∷ []) condition role.Outward (kind.RightParen ∷ []) d c ts

@@ -1,19 +1,22 @@
 -- What may stand between brackets or be missing, in the steps of the code.
-use Rattle.std.proofs.Common.{◌≡◌, ℕ, true, false, List, [], Option, Some, refl, ap, ◌∙◌}
+use Rattle.std.proofs.Common.{◌≡◌, ℕ, true, false, List, [], ◌∷◌, Option, Some, None, refl, ap, ◌∙◌}
 use Rattle.sql_tree.specs.declared.token.Token.{Token}
+use Rattle.sql_tree.specs.declared.token.TokenKind.TheVariants as kind
 use Rattle.sql_tree.specs.declared.expr.Arguments.{Arguments}
 use Rattle.sql_tree.specs.declared.expr.Arguments.TheVariants as arguments_are
+use Rattle.sql_tree.specs.declared.expr.Arm.{roll-Arm}
 use Rattle.sql_tree.specs.declared.expr.Expr.{Expr}
 use Rattle.sql_tree.specs.declared.expr.Expr.TheVariants as tree
 use Rattle.sql_grammar.specs.declared.counts.Counts.{Counts}
-use Rattle.sql_grammar.specs.Rules.{starts, first, reads, Outcome, Done, Stop, ◌>>=◌}
-use Rattle.sql_grammar.specs.Grammar.{Name, maybe, or_none, or_no_arguments, expr, exprs, some_arguments}
+use Rattle.sql_grammar.specs.Rules.{seq, starts, first, reads, Outcome, Done, Stop, ◌>>=◌}
+use Rattle.sql_grammar.specs.Grammar.{Name, maybe, or_none, or_no_arguments, expr, exprs, some_arguments, arm, arms, otherwise, case}
 use Rattle.sql_grammar.specs.Bodies.{rules}
 use Rattle.sql_grammar.specs.Queries.{query}
 use Rattle.sql_grammar.proofs.ReadingLaws.{chosen, other}
 use Rattle.parse_cursor.specs.Gives.{apply_one}
-use Rattle.parse_cursor.proofs.Steps.{or_none_some, or_none_none, apply_done}
-use Rattle.parse_operand.specs.Parts.{inside_arguments, inside_parentheses, inside_members, listed_members}
+use Rattle.parse_cursor.proofs.Steps.{both_to, or_none_some, or_none_none, apply_done}
+use Rattle.parse_operand.specs.Parts.{inside_arguments, inside_parentheses, inside_members, listed_members, behind, branches}
+use Rattle.parse_operand.proofs.Clear.{first_branches}
 
 -- ---- a query, or else
 
@@ -67,3 +70,33 @@ unfolding inside_arguments
 arguments_none d c ts none = ap (λ o. o >>= λ x e rest. Done (or_no_arguments x) e rest) (other _ _ _ none)
 
 pub ruleset arguments_steps = (arguments_some, arguments_none)
+
+-- ---- CASE
+
+pub arm_is : (d : ℕ) (c : Counts) (ts : List Token) → reads Name rules d arm c ts ≡ (reads Name rules d (behind kind.When) c ts >>= λ a e rest. reads Name rules d (behind kind.Then) e rest >>= λ b f end. Done (roll-Arm (record { condition = a; value = b })) f end)
+unfolding arm behind
+arm_is d c ts = both_to (reads Name rules d (behind kind.When)) (reads Name rules d (behind kind.Then)) (λ p. roll-Arm (record { condition = p.0; value = p.1 })) c ts
+
+pub otherwise_some : (d : ℕ) (c : Counts) (ts : List Token) → starts (kind.Else ∷ []) ts ≡ true → reads Name rules d otherwise c ts ≡ (reads Name rules d (behind kind.Else) c ts >>= λ a e rest. Done (Some a) e rest)
+unfolding otherwise behind
+otherwise_some d c ts here = chosen _ _ _ here
+
+pub otherwise_none : (d : ℕ) (c : Counts) (ts : List Token) → starts (kind.Else ∷ []) ts ≡ false → reads Name rules d otherwise c ts ≡ Done None c ts
+unfolding otherwise
+otherwise_none d c ts none = other _ _ _ none
+
+pub ruleset otherwise_steps = (otherwise_some, otherwise_none)
+
+pub branches_are : (operand : Option Expr) (d : ℕ) (c : Counts) (ts : List Token) → reads Name rules d (branches operand) c ts ≡ (reads Name rules d arms c ts >>= λ a e rest. reads Name rules d otherwise e rest >>= λ b f end. Done (tree.Case operand a b) f end)
+unfolding branches
+branches_are operand d c ts = both_to (reads Name rules d arms) (reads Name rules d otherwise) (λ p. tree.Case operand p.0 p.1) c ts
+
+pub case_bare : (d : ℕ) (c : Counts) (ts : List Token) → starts (kind.When ∷ []) ts ≡ true → reads Name rules d case c ts ≡ reads Name rules d (branches None) c ts
+unfolding case branches
+case_bare d c ts here = chosen _ _ _ (ap (λ ks. starts ks ts) first_branches ∙ here)
+
+pub case_of : (d : ℕ) (c : Counts) (ts : List Token) → starts (kind.When ∷ []) ts ≡ false → reads Name rules d case c ts ≡ (reads Name rules d expr c ts >>= λ x e rest. reads Name rules d (branches (Some x)) e rest)
+unfolding case branches
+case_of d c ts none = other _ _ _ (ap (λ ks. starts ks ts) first_branches ∙ none) ∙ both_to (reads Name rules d expr) (reads Name rules d (seq arms otherwise)) (λ p. tree.Case (Some p.0) p.1.0 p.1.1) c ts
+
+pub ruleset case_steps = (case_bare, case_of)

@@ -1,18 +1,25 @@
 -- What rules with no loop read, in the steps of the code.
 use Rattle.std.proofs.Common.{◌≡◌, ℕ, Bool, true, false, ◌||◌, List, [], ◌∷◌, Some, None, refl, ◌∙◌}
 use Rattle.sql_tree.specs.declared.token.Token.{Token}
+use Rattle.sql_tree.specs.declared.token.TokenKind.{TokenKind}
 use Rattle.sql_tree.specs.declared.token.TokenKind.TheVariants as kind
 use Rattle.sql_tree.specs.declared.expr.Expr.TheVariants as tree
 use Rattle.sql_grammar.specs.declared.counts.Counts.{Counts}
 use Rattle.sql_grammar.specs.declared.counts.Role.TheVariants as role
 use Rattle.sql_grammar.specs.Rules.{starts, first, tok, reads, one, Outcome, Done, Stop, ◌>>=◌}
-use Rattle.sql_grammar.specs.Grammar.{Name, after, name, names, in_parentheses, cast, literal_kinds, literal, parameter, filter, call, of_table, behind_name, named, casting, existing, raising, exprs, some_arguments, raise_what}
+use Rattle.sql_grammar.specs.Grammar.{Name, after, name, names, in_parentheses, cast, expr, literal_kinds, literal, parameter, filter, call, of_table, behind_name, named, casting, existing, raising, exprs, some_arguments, raise_what}
 use Rattle.sql_grammar.specs.Bodies.{rules}
 use Rattle.sql_grammar.proofs.ReadingLaws.{chosen, other}
 use Rattle.parse_cursor.specs.Gives.{apply_one}
-use Rattle.parse_operand.specs.Parts.{in_arguments, in_condition, in_cast, in_query, in_raise}
+use Rattle.parse_operand.specs.Parts.{in_arguments, in_condition, in_cast, in_query, in_raise, behind}
 use Rattle.parse_operand.proofs.Clear.{first_exprs, first_some_arguments}
 use Rattle.parse_cursor.proofs.Steps.{both_to, after_to, after_is, maybe_some, maybe_none, apply_after, apply_both}
+
+-- ---- a word, and an expression
+
+pub behind_is : (k : TokenKind) (d : ℕ) (c : Counts) (ts : List Token) → reads Name rules d (behind k) c ts ≡ (one role.Quiet (k ∷ []) c ts >>= λ t e rest. reads Name rules d expr e rest)
+unfolding behind
+behind_is k d c ts = after_is role.Quiet k expr d c ts
 
 -- ---- primaries
 

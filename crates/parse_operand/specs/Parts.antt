@@ -1,11 +1,14 @@
 -- Parts of rules that functions of their own parse.
-use Rattle.std.specs.Prelude.{List}
+use Rattle.std.specs.Prelude.{List, Option}
+use Rattle.sql_tree.specs.declared.token.TokenKind.{TokenKind}
 use Rattle.sql_tree.specs.declared.expr.Arguments.{Arguments}
 use Rattle.sql_tree.specs.declared.expr.Expr.{Expr}
+use Rattle.sql_tree.specs.declared.expr.Expr.TheVariants as tree
 use Rattle.sql_tree.specs.declared.expr.TypeName.{TypeName}
 use Rattle.sql_tree.specs.declared.query.Query.{Query}
-use Rattle.sql_grammar.specs.Rules.{to}
-use Rattle.sql_grammar.specs.Grammar.{Of, maybe, or_none, in_parentheses, parenthesized, subquery, arguments, condition, cast, members, raise, exprs}
+use Rattle.sql_grammar.specs.declared.counts.Role.TheVariants as role
+use Rattle.sql_grammar.specs.Rules.{seq, to}
+use Rattle.sql_grammar.specs.Grammar.{Of, after, maybe, or_none, in_parentheses, parenthesized, subquery, arguments, condition, cast, members, raise, expr, exprs, arms, otherwise}
 use Rattle.sql_grammar.specs.Bodies.{rules}
 
 -- "(" ["*" | [DISTINCT] expr {"," expr}] ")"
@@ -48,3 +51,11 @@ listed_members = to or_none (maybe exprs)
 -- "(" IGNORE | ABORT "," text ")"
 unfoldable pub in_raise : Of Expr
 in_raise = in_parentheses raise
+
+-- word expr
+unfoldable pub behind : TokenKind → Of Expr
+behind k = after role.Quiet k expr
+
+-- arm {arm} [ELSE expr], behind its operand
+unfoldable pub branches : Option Expr → Of Expr
+branches operand = to (λ p. tree.Case operand p.0 p.1) (seq arms otherwise)

@@ -10,7 +10,7 @@ ghost use Rattle.parse_operand.specs.Nests.{Nests};
 ghost use Rattle.parse_operand.specs.Parts as part;
 
 use crate::operands::Operands;
-use parse_cursor::{Cursor, ParseError, list};
+use parse_cursor::{Cursor, ParseError, boxed, list};
 use sql_grammar::Role;
 use sql_tree::{Arguments, Expr, Token, TokenKind};
 use sqlite_items::{Boxed, Items};
@@ -148,8 +148,7 @@ impl<F: Fn(Global, &mut Cursor<'_>, usize) -> Result<Boxed<Expr>, ParseError>, G
     {
         tokens.open(self.depth, TokenKind::LeftParen, Role::Inward)?;
         let found = self.inside_arguments(tokens)?;
-        tokens.expect(TokenKind::RightParen, Role::Outward)?;
-        Ok(found)
+        tokens.close(found, TokenKind::RightParen, Role::Outward)
     }
 
     /// `( WHERE expr )`
@@ -159,10 +158,8 @@ impl<F: Fn(Global, &mut Cursor<'_>, usize) -> Result<Boxed<Expr>, ParseError>, G
         ensures { Gives (reads Name rules self.now.depth part.in_condition tokens.old.counts tokens.old.rest.now) result tokens.new.counts tokens.new.rest.now }
     {
         tokens.open(self.depth, TokenKind::LeftParen, Role::Inward)?;
-        tokens.expect(TokenKind::Where, Role::Quiet)?;
-        let found = self.inner(tokens)?;
-        tokens.expect(TokenKind::RightParen, Role::Outward)?;
-        Ok(found)
+        let found = self.behind(tokens, TokenKind::Where)?;
+        tokens.close(found, TokenKind::RightParen, Role::Outward)
     }
 
     /// `[FILTER ( WHERE expr )]`
@@ -187,6 +184,6 @@ impl<F: Fn(Global, &mut Cursor<'_>, usize) -> Result<Boxed<Expr>, ParseError>, G
     {
         let (how, arguments) = self.in_arguments(tokens)?;
         let filter = self.filter(tokens)?;
-        Ok(Boxed::new(self.alloc, Expr::Call(function, how, arguments, filter))?)
+        boxed(self.alloc, Expr::Call(function, how, arguments, filter))
     }
 }

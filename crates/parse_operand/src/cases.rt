@@ -7,9 +7,10 @@ ghost use Rattle.sql_grammar.specs.Grammar.{Name};
 ghost use Rattle.sql_grammar.specs.Bodies.{rules};
 ghost use Rattle.parse_cursor.specs.Gives.{Gives};
 ghost use Rattle.parse_operand.specs.Nests.{Nests};
+ghost use Rattle.parse_operand.specs.Parts as part;
 
 use crate::operands::Operands;
-use parse_cursor::{Cursor, Element, ParseError, several};
+use parse_cursor::{Cursor, Element, ParseError, boxed, several};
 use sql_grammar::Role;
 use sql_tree::{Arm, Expr, TokenKind};
 use sqlite_items::{Boxed, Items};
@@ -24,12 +25,10 @@ impl<F: Fn(Global, &mut Cursor<'_>, usize) -> Result<Boxed<Expr>, ParseError>, G
 
     ghost depth = { λ it. it.depth - 1 };
 
-    #[tactic(auto, unfolding(sql_grammar::specs::Grammar::arm))]
+    #[tactic(auto, using(crate::proofs::Inside::arm_is))]
     fn read(&self, tokens: &mut Cursor<'_>) -> Result<Arm, ParseError> {
-        tokens.expect(TokenKind::When, Role::Quiet)?;
-        let condition = self.inner(tokens)?;
-        tokens.expect(TokenKind::Then, Role::Quiet)?;
-        let value = self.inner(tokens)?;
+        let condition = self.behind(tokens, TokenKind::When)?;
+        let value = self.behind(tokens, TokenKind::Then)?;
         Ok(Arm {
             condition: condition.into_inner(),
             value: value.into_inner(),
@@ -49,7 +48,7 @@ impl<F: Fn(Global, &mut Cursor<'_>, usize) -> Result<Boxed<Expr>, ParseError>, G
     }
 
     /// `[ELSE expr]`
-    #[tactic(auto, unfolding(sql_grammar::specs::Grammar::otherwise))]
+    #[tactic(auto, using(crate::proofs::Inside::otherwise_steps))]
     pub(crate) fn otherwise(
         &self,
         tokens: &mut Cursor<'_>,
@@ -59,28 +58,39 @@ impl<F: Fn(Global, &mut Cursor<'_>, usize) -> Result<Boxed<Expr>, ParseError>, G
         ensures { Gives (reads Name rules (self.now.depth - 1) spec.otherwise tokens.old.counts tokens.old.rest.now) result tokens.new.counts tokens.new.rest.now }
     {
         if tokens.sees(TokenKind::Else) {
-            tokens.expect(TokenKind::Else, Role::Quiet)?;
-            Ok(Some(self.inner(tokens)?))
+            Ok(Some(self.behind(tokens, TokenKind::Else)?))
         } else {
             Ok(None)
         }
     }
 
+    /// `arm {arm} [ELSE expr]` behind the operand, if there is one
+    #[tactic(auto, using(crate::proofs::Inside::branches_are))]
+    pub(crate) fn branches(
+        &self,
+        tokens: &mut Cursor<'_>,
+        operand: Option<Boxed<Expr>>,
+    ) -> Result<Boxed<Expr>, ParseError>
+        requires exprs { Nests spec.expr self.now.depth (F.pre self.now.inner) (F.post self.now.inner) }
+        requires open { 0 < self.now.depth }
+        ensures { Gives (reads Name rules (self.now.depth - 1) (part.branches operand) tokens.old.counts tokens.old.rest.now) result tokens.new.counts tokens.new.rest.now }
+    {
+        let arms = self.arms(tokens)?;
+        let other = self.otherwise(tokens)?;
+        boxed(self.alloc, Expr::Case(operand, arms, other))
+    }
+
     /// `[expr] arm {arm} [ELSE expr]`
-    #[tactic(auto, using(crate::proofs::Clear::case_firsts), unfolding(sql_grammar::specs::Grammar::case))]
+    #[tactic(auto, using(crate::proofs::Inside::case_steps))]
     pub(crate) fn case(&self, tokens: &mut Cursor<'_>) -> Result<Boxed<Expr>, ParseError>
         requires exprs { Nests spec.expr self.now.depth (F.pre self.now.inner) (F.post self.now.inner) }
         requires open { 0 < self.now.depth }
         ensures { Gives (reads Name rules (self.now.depth - 1) spec.case tokens.old.counts tokens.old.rest.now) result tokens.new.counts tokens.new.rest.now }
     {
         if tokens.sees(TokenKind::When) {
-            let arms = self.arms(tokens)?;
-            let other = self.otherwise(tokens)?;
-            return Ok(Boxed::new(self.alloc, Expr::Case(None, arms, other))?);
+            return self.branches(tokens, None);
         }
         let operand = self.inner(tokens)?;
-        let arms = self.arms(tokens)?;
-        let other = self.otherwise(tokens)?;
-        Ok(Boxed::new(self.alloc, Expr::Case(Some(operand), arms, other))?)
+        self.branches(tokens, Some(operand))
     }
 }

@@ -8,9 +8,11 @@ ghost use Rattle.sql_grammar.specs.Bodies.{rules};
 ghost use Rattle.sql_grammar.specs.Queries.{query};
 ghost use Rattle.parse_cursor.specs.Gives.{Gives};
 ghost use Rattle.parse_operand.specs.Nests.{Nests};
+ghost use Rattle.parse_operand.specs.Parts as part;
 
 use parse_cursor::{Cursor, Element, ParseError};
-use sql_tree::{Expr, Query};
+use sql_grammar::Role;
+use sql_tree::{Expr, Query, TokenKind};
 use sqlite_items::Boxed;
 use std::alloc::Global;
 
@@ -34,6 +36,21 @@ impl<F: Fn(Global, &mut Cursor<'_>, usize) -> Result<Boxed<Expr>, ParseError>, G
         ensures { Gives (reads Name rules (self.now.depth - 1) spec.expr tokens.old.counts tokens.old.rest.now) result tokens.new.counts tokens.new.rest.now }
     {
         (self.inner)(self.alloc, tokens, self.depth - 1)
+    }
+
+    /// `word expr`, behind an opening token
+    #[tactic(auto, using(crate::proofs::Straight::behind_is))]
+    pub(crate) fn behind(
+        &self,
+        tokens: &mut Cursor<'_>,
+        word: TokenKind,
+    ) -> Result<Boxed<Expr>, ParseError>
+        requires exprs { Nests spec.expr self.now.depth (F.pre self.now.inner) (F.post self.now.inner) }
+        requires open { 0 < self.now.depth }
+        ensures { Gives (reads Name rules (self.now.depth - 1) (part.behind word) tokens.old.counts tokens.old.rest.now) result tokens.new.counts tokens.new.rest.now }
+    {
+        tokens.expect(word, Role::Quiet)?;
+        self.inner(tokens)
     }
 }
 

@@ -11,7 +11,7 @@ ghost use Rattle.parse_operand.specs.Nests.{Nests};
 ghost use Rattle.parse_operand.specs.Parts as part;
 
 use crate::operands::Operands;
-use parse_cursor::{Cursor, ParseError, name, sees_name, type_name};
+use parse_cursor::{Cursor, ParseError, boxed, name, sees_name, type_name};
 use sql_grammar::Role;
 use sql_tree::{Expr, Query, Token, TokenKind, TypeName};
 use sqlite_items::Boxed;
@@ -32,7 +32,7 @@ fn literal(alloc: Global, tokens: &mut Cursor<'_>) -> Result<Boxed<Expr>, ParseE
     ensures { (d : ℕ) → Gives (reads Name rules d spec.literal tokens.old.counts tokens.old.rest.now) result tokens.new.counts tokens.new.rest.now }
 {
     let token = tokens.expect_any(&LITERALS, Role::Quiet)?;
-    Ok(Boxed::new(alloc, Expr::Literal(token))?)
+    boxed(alloc, Expr::Literal(token))
 }
 
 #[tactic(auto, using(crate::proofs::Straight::parameter_is))]
@@ -40,7 +40,7 @@ fn parameter(alloc: Global, tokens: &mut Cursor<'_>) -> Result<Boxed<Expr>, Pars
     ensures { (d : ℕ) → Gives (reads Name rules d spec.parameter tokens.old.counts tokens.old.rest.now) result tokens.new.counts tokens.new.rest.now }
 {
     let token = tokens.expect(TokenKind::Parameter, Role::Quiet)?;
-    Ok(Boxed::new(alloc, Expr::Parameter(token))?)
+    boxed(alloc, Expr::Parameter(token))
 }
 
 /// `. name` behind the name of a table
@@ -50,7 +50,7 @@ fn of_table(alloc: Global, tokens: &mut Cursor<'_>, table: Token) -> Result<Boxe
 {
     tokens.expect(TokenKind::Dot, Role::Quiet)?;
     let column = name(tokens)?;
-    Ok(Boxed::new(alloc, Expr::TableColumn(table, column))?)
+    boxed(alloc, Expr::TableColumn(table, column))
 }
 
 /// `IGNORE | ABORT , text`
@@ -60,12 +60,12 @@ fn raise_what(alloc: Global, tokens: &mut Cursor<'_>) -> Result<Boxed<Expr>, Par
 {
     if tokens.sees(TokenKind::Ignore) {
         tokens.expect(TokenKind::Ignore, Role::Quiet)?;
-        return Ok(Boxed::new(alloc, Expr::RaiseIgnore)?);
+        return boxed(alloc, Expr::RaiseIgnore);
     }
     tokens.expect(TokenKind::Abort, Role::Quiet)?;
     tokens.expect(TokenKind::Comma, Role::Quiet)?;
     let why = tokens.expect(TokenKind::Text, Role::Quiet)?;
-    Ok(Boxed::new(alloc, Expr::RaiseAbort(why))?)
+    boxed(alloc, Expr::RaiseAbort(why))
 }
 
 impl<F: Fn(Global, &mut Cursor<'_>, usize) -> Result<Boxed<Expr>, ParseError>, G> Operands<F, G> {
@@ -84,7 +84,7 @@ impl<F: Fn(Global, &mut Cursor<'_>, usize) -> Result<Boxed<Expr>, ParseError>, G
         } else if tokens.sees(TokenKind::LeftParen) {
             self.call(tokens, word)
         } else {
-            Ok(Boxed::new(self.alloc, Expr::Column(word))?)
+            boxed(self.alloc, Expr::Column(word))
         }
     }
 
@@ -125,8 +125,7 @@ impl<F: Fn(Global, &mut Cursor<'_>, usize) -> Result<Boxed<Expr>, ParseError>, G
     {
         tokens.open(self.depth, TokenKind::LeftParen, Role::Inward)?;
         let parts = self.inside_cast(tokens)?;
-        tokens.expect(TokenKind::RightParen, Role::Outward)?;
-        Ok(parts)
+        tokens.close(parts, TokenKind::RightParen, Role::Outward)
     }
 
     /// `CAST ( expr AS type )`
@@ -137,7 +136,7 @@ impl<F: Fn(Global, &mut Cursor<'_>, usize) -> Result<Boxed<Expr>, ParseError>, G
     {
         tokens.expect(TokenKind::Cast, Role::Quiet)?;
         let (operand, to) = self.in_cast(tokens)?;
-        Ok(Boxed::new(self.alloc, Expr::Cast(operand, to))?)
+        boxed(self.alloc, Expr::Cast(operand, to))
     }
 
     /// `CASE .. END`
@@ -148,8 +147,7 @@ impl<F: Fn(Global, &mut Cursor<'_>, usize) -> Result<Boxed<Expr>, ParseError>, G
     {
         tokens.open(self.depth, TokenKind::Case, Role::Inward)?;
         let found = self.case(tokens)?;
-        tokens.expect(TokenKind::End, Role::Outward)?;
-        Ok(found)
+        tokens.close(found, TokenKind::End, Role::Outward)
     }
 
     /// `( IGNORE | ABORT , text )`
@@ -160,8 +158,7 @@ impl<F: Fn(Global, &mut Cursor<'_>, usize) -> Result<Boxed<Expr>, ParseError>, G
     {
         tokens.open(self.depth, TokenKind::LeftParen, Role::Inward)?;
         let found = raise_what(self.alloc, tokens)?;
-        tokens.expect(TokenKind::RightParen, Role::Outward)?;
-        Ok(found)
+        tokens.close(found, TokenKind::RightParen, Role::Outward)
     }
 
     /// `RAISE ( IGNORE | ABORT , text )`

@@ -12,7 +12,7 @@ ghost use Rattle.parse_operand.specs.Parts as part;
 
 use crate::calls::sees_expr;
 use crate::operands::Operands;
-use parse_cursor::{Cursor, ParseError};
+use parse_cursor::{Cursor, ParseError, boxed};
 use sql_grammar::Role;
 use sql_tree::{Expr, Query, TokenKind};
 use sqlite_items::{Boxed, Items};
@@ -46,7 +46,7 @@ impl<
     {
         if sees_query(tokens) {
             let query = self.inner_query(tokens)?;
-            return Ok(Boxed::new(self.alloc, Expr::Subquery(query))?);
+            return boxed(self.alloc, Expr::Subquery(query));
         }
         self.inner(tokens)
     }
@@ -60,8 +60,7 @@ impl<
     {
         tokens.open(self.depth, TokenKind::LeftParen, Role::Inward)?;
         let found = self.inside_parentheses(tokens)?;
-        tokens.expect(TokenKind::RightParen, Role::Outward)?;
-        Ok(found)
+        tokens.close(found, TokenKind::RightParen, Role::Outward)
     }
 
     /// `( query )`
@@ -72,8 +71,7 @@ impl<
     {
         tokens.open(self.depth, TokenKind::LeftParen, Role::Inward)?;
         let found = self.inner_query(tokens)?;
-        tokens.expect(TokenKind::RightParen, Role::Outward)?;
-        Ok(found)
+        tokens.close(found, TokenKind::RightParen, Role::Outward)
     }
 
     /// `EXISTS ( query )`
@@ -84,7 +82,7 @@ impl<
     {
         tokens.expect(TokenKind::Exists, Role::Quiet)?;
         let query = self.in_query(tokens)?;
-        Ok(Boxed::new(self.alloc, Expr::Exists(query))?)
+        boxed(self.alloc, Expr::Exists(query))
     }
 
     /// `[expr {, expr}]`
@@ -115,10 +113,10 @@ impl<
     {
         if sees_query(tokens) {
             let query = self.inner_query(tokens)?;
-            return Ok(Boxed::new(self.alloc, Expr::InQuery(left, query))?);
+            return boxed(self.alloc, Expr::InQuery(left, query));
         }
         let members = self.listed_members(tokens)?;
-        Ok(Boxed::new(self.alloc, Expr::In(left, members))?)
+        boxed(self.alloc, Expr::In(left, members))
     }
 
     /// `( query | [expr {, expr}] )`, the members behind IN
@@ -134,7 +132,6 @@ impl<
     {
         tokens.open(self.depth, TokenKind::LeftParen, Role::Inward)?;
         let found = self.inside_members(tokens, left)?;
-        tokens.expect(TokenKind::RightParen, Role::Outward)?;
-        Ok(found)
+        tokens.close(found, TokenKind::RightParen, Role::Outward)
     }
 }

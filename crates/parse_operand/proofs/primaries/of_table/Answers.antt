@@ -8,8 +8,5 @@ returns-in_err-expect c = grind (arith, of_table_is)
 pub returns-in_err-column : goal.returns-in_err-column
 returns-in_err-column c = grind (arith, of_table_is)
 
-pub returns-in_err-new : goal.returns-in_err-new
-returns-in_err-new c = grind (arith, of_table_is)
-
 pub returns : goal.returns
 returns c = grind (arith, of_table_is)

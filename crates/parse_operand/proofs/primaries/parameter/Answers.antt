@@ -5,8 +5,5 @@ use Rattle.parse_operand.proofs.primaries.parameter.Goals as goal
 pub returns-in_err-token : goal.returns-in_err-token
 returns-in_err-token c = grind (arith, parameter_is)
 
-pub returns-in_err-new : goal.returns-in_err-new
-returns-in_err-new c = grind (arith, parameter_is)
-
 pub returns : goal.returns
 returns c = grind (arith, parameter_is)

@@ -5,9 +5,6 @@ use Rattle.parse_operand.proofs.primaries.raise_what.Goals as goal
 pub returns-in_err-expect : goal.returns-in_err-expect
 returns-in_err-expect c = grind (arith, raise_whats)
 
-pub returns-in_err-new : goal.returns-in_err-new
-returns-in_err-new c = grind (arith, raise_whats)
-
 pub returns-then-sees : goal.returns-then-sees
 returns-then-sees c = grind (arith, raise_whats)
 
@@ -19,9 +16,6 @@ returns-in_err-expect-3 c = grind (arith, raise_whats)
 
 pub returns-in_err-why : goal.returns-in_err-why
 returns-in_err-why c = grind (arith, raise_whats)
-
-pub returns-in_err-new-2 : goal.returns-in_err-new-2
-returns-in_err-new-2 c = grind (arith, raise_whats)
 
 pub returns : goal.returns
 returns c = grind (arith, raise_whats)

@@ -3,10 +3,6 @@ use Rattle.sql_grammar.specs.Grammar.{behind_name}
 use Rattle.std.proofs.Common.{arith}
 use Rattle.parse_operand.proofs.operands.Operands.behind_name.Goals as goal
 
-pub returns-in_err-new : goal.returns-in_err-new
-unfolding behind_name
-returns-in_err-new g c = grind (arith, behind_name_firsts)
-
 pub returns-then-sees : goal.returns-then-sees
 unfolding behind_name
 returns-then-sees g c = grind (arith, behind_name_firsts)
@@ -15,6 +11,6 @@ pub returns-then-sees-2 : goal.returns-then-sees-2
 unfolding behind_name
 returns-then-sees-2 g c = grind (arith, behind_name_firsts)
 
-pub returns-in_ok-new : goal.returns-in_ok-new
+pub returns-else-sees-2 : goal.returns-else-sees-2
 unfolding behind_name
-returns-in_ok-new g c = grind (arith, behind_name_firsts)
+returns-else-sees-2 g c = grind (arith, behind_name_firsts)

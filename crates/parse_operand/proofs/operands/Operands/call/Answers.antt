@@ -8,8 +8,5 @@ returns-in_err-how g c = grind (arith, call_is)
 pub returns-in_err-filter : goal.returns-in_err-filter
 returns-in_err-filter g c = grind (arith, call_is)
 
-pub returns-in_err-new : goal.returns-in_err-new
-returns-in_err-new g c = grind (arith, call_is)
-
 pub returns : goal.returns
 returns g c = grind (arith, call_is)

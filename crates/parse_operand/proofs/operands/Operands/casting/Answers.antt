@@ -8,8 +8,5 @@ returns-in_err-expect g c = grind (arith, casting_is)
 pub returns-in_err-operand : goal.returns-in_err-operand
 returns-in_err-operand g c = grind (arith, casting_is)
 
-pub returns-in_err-new : goal.returns-in_err-new
-returns-in_err-new g c = grind (arith, casting_is)
-
 pub returns : goal.returns
 returns g c = grind (arith, casting_is)

@@ -8,8 +8,5 @@ returns-in_err-open g c = grind (arith, enclosed_is)
 pub returns-in_err-found : goal.returns-in_err-found
 returns-in_err-found g c = grind (arith, enclosed_is)
 
-pub returns-in_err-expect : goal.returns-in_err-expect
-returns-in_err-expect g c = grind (arith, enclosed_is)
-
 pub returns : goal.returns
 returns g c = grind (arith, enclosed_is)

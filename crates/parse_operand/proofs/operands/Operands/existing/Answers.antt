@@ -8,8 +8,5 @@ returns-in_err-expect g c = grind (arith, existing_is)
 pub returns-in_err-query : goal.returns-in_err-query
 returns-in_err-query g c = grind (arith, existing_is)
 
-pub returns-in_err-new : goal.returns-in_err-new
-returns-in_err-new g c = grind (arith, existing_is)
-
 pub returns : goal.returns
 returns g c = grind (arith, existing_is)

@@ -8,8 +8,5 @@ returns-in_err-open g c = grind (arith, in_cast_is)
 pub returns-in_err-parts : goal.returns-in_err-parts
 returns-in_err-parts g c = grind (arith, in_cast_is)
 
-pub returns-in_err-expect : goal.returns-in_err-expect
-returns-in_err-expect g c = grind (arith, in_cast_is)
-
 pub returns : goal.returns
 returns g c = grind (arith, in_cast_is)

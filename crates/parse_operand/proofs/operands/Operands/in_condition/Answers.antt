@@ -5,14 +5,8 @@ use Rattle.parse_operand.proofs.operands.Operands.in_condition.Goals as goal
 pub returns-in_err-open : goal.returns-in_err-open
 returns-in_err-open g c = grind (arith, in_condition_is)
 
-pub returns-in_err-expect : goal.returns-in_err-expect
-returns-in_err-expect g c = grind (arith, in_condition_is)
-
 pub returns-in_err-found : goal.returns-in_err-found
 returns-in_err-found g c = grind (arith, in_condition_is)
-
-pub returns-in_err-expect-2 : goal.returns-in_err-expect-2
-returns-in_err-expect-2 g c = grind (arith, in_condition_is)
 
 pub returns : goal.returns
 returns g c = grind (arith, in_condition_is)

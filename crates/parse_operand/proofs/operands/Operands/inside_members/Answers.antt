@@ -5,17 +5,11 @@ use Rattle.parse_operand.proofs.operands.Operands.inside_members.Goals as goal
 pub returns-in_err-query : goal.returns-in_err-query
 returns-in_err-query g c = grind (arith, members_steps)
 
-pub returns-in_err-new : goal.returns-in_err-new
-returns-in_err-new g c = grind (arith, members_steps)
-
 pub returns-then-sees_query : goal.returns-then-sees_query
 returns-then-sees_query g c = grind (arith, members_steps)
 
 pub returns-in_err-members : goal.returns-in_err-members
 returns-in_err-members g c = grind (arith, members_steps)
-
-pub returns-in_err-new-2 : goal.returns-in_err-new-2
-returns-in_err-new-2 g c = grind (arith, members_steps)
 
 pub returns : goal.returns
 returns g c = grind (arith, members_steps)

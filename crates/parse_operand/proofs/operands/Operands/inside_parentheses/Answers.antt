@@ -5,9 +5,6 @@ use Rattle.parse_operand.proofs.operands.Operands.inside_parentheses.Goals as go
 pub returns-in_err-query : goal.returns-in_err-query
 returns-in_err-query g c = grind (arith, parentheses_steps)
 
-pub returns-in_err-new : goal.returns-in_err-new
-returns-in_err-new g c = grind (arith, parentheses_steps)
-
 pub returns-then-sees_query : goal.returns-then-sees_query
 returns-then-sees_query g c = grind (arith, parentheses_steps)
 

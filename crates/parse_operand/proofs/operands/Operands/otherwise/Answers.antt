@@ -1,19 +1,12 @@
-use Rattle.sql_grammar.specs.Grammar.{otherwise}
+use Rattle.parse_operand.proofs.Inside.{otherwise_steps}
 use Rattle.std.proofs.Common.{arith}
 use Rattle.parse_operand.proofs.operands.Operands.otherwise.Goals as goal
 
-pub returns-in_err-expect : goal.returns-in_err-expect
-unfolding otherwise
-returns-in_err-expect g c = grind arith
+pub returns-in_err-behind : goal.returns-in_err-behind
+returns-in_err-behind g c = grind (arith, otherwise_steps)
 
-pub returns-in_err-inner : goal.returns-in_err-inner
-unfolding otherwise
-returns-in_err-inner g c = grind arith
-
-pub returns-in_ok-inner : goal.returns-in_ok-inner
-unfolding otherwise
-returns-in_ok-inner g c = grind arith
+pub returns-in_ok-behind : goal.returns-in_ok-behind
+returns-in_ok-behind g c = grind (arith, otherwise_steps)
 
 pub returns-else-sees : goal.returns-else-sees
-unfolding otherwise
-returns-else-sees g c = grind arith
+returns-else-sees g c = grind (arith, otherwise_steps)

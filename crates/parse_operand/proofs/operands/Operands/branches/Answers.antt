@@ -1,0 +1,12 @@
+use Rattle.parse_operand.proofs.Inside.{branches_are}
+use Rattle.std.proofs.Common.{arith}
+use Rattle.parse_operand.proofs.operands.Operands.branches.Goals as goal
+
+pub returns-in_err-arms : goal.returns-in_err-arms
+returns-in_err-arms g c = grind (arith, branches_are)
+
+pub returns-in_err-other : goal.returns-in_err-other
+returns-in_err-other g c = grind (arith, branches_are)
+
+pub returns : goal.returns
+returns g c = grind (arith, branches_are)
