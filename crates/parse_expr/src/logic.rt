@@ -1,12 +1,13 @@
 // NOT, AND and OR.
 
-ghost use Rattle.std.specs.Prelude.{ℕ, ◌≡◌, IfOk};
+ghost use Rattle.std.specs.Prelude.{ℕ, ◌≡◌, IfOk, IfErr};
 ghost use Rattle.sql_grammar.specs.Rules.{reads};
 ghost use Rattle.sql_grammar.specs.Grammar as spec;
 ghost use Rattle.sql_grammar.specs.Grammar.{Name};
 ghost use Rattle.sql_grammar.specs.Bodies.{rules};
 ghost use Rattle.sql_grammar.specs.Queries.{query};
 ghost use Rattle.parse_cursor.specs.Gives.{Gives, apply_to};
+ghost use Rattle.parse_cursor.specs.declared.error.ParseError.TheVariants as error;
 ghost use Rattle.parse_operand.specs.Nests.{Nests};
 
 use crate::operators::{binary, unary};
@@ -15,7 +16,7 @@ use parse_cursor::{Cursor, ParseError};
 use sql_grammar::Role;
 use sql_tree::{BinaryOp, Expr, Query, Token, TokenKind, UnaryOp};
 use sqlite_items::{Boxed, Items};
-use std::alloc::{AllocError, Global};
+use std::alloc::Global;
 
 /// `{NOT}`
 #[tactic(auto, using(crate::proofs::Lists::nots_steps))]
@@ -35,8 +36,9 @@ fn with_nots(
     alloc: Global,
     mut nots: Items<Token>,
     mut operand: Boxed<Expr>,
-) -> Result<Boxed<Expr>, AllocError>
-    ensures { IfOk result (λ e. e ≡ spec.with_nots nots operand) }
+) -> Result<Boxed<Expr>, ParseError>
+    ensures tree { IfOk result (λ e. e ≡ spec.with_nots nots operand) }
+    ensures memory { IfErr result (λ e. e ≡ error.Memory) }
 {
     while let Some(_) = nots.pop() {
         operand = unary(alloc, UnaryOp::Not, operand)?;
@@ -57,7 +59,7 @@ impl<
     {
         let nots = nots(self.operands.alloc, tokens)?;
         let operand = self.equality(tokens)?;
-        Ok(with_nots(self.operands.alloc, nots, operand)?)
+        with_nots(self.operands.alloc, nots, operand)
     }
 
     /// `negation {AND negation}`

@@ -1,20 +1,21 @@
 // Operators, from the tightest on (SQL Language Expressions, Operators, and Parse-Affecting Attributes).
 
-ghost use Rattle.std.specs.Prelude.{ℕ, ◌≡◌, IfOk};
+ghost use Rattle.std.specs.Prelude.{ℕ, ◌≡◌, IfOk, IfErr};
 ghost use Rattle.sql_grammar.specs.Rules.{reads};
 ghost use Rattle.sql_grammar.specs.Grammar as spec;
 ghost use Rattle.sql_grammar.specs.Grammar.{Name};
 ghost use Rattle.sql_grammar.specs.Bodies.{rules};
 ghost use Rattle.sql_grammar.specs.Queries.{query};
 ghost use Rattle.parse_cursor.specs.Gives.{Gives, apply_one, apply_to};
+ghost use Rattle.parse_cursor.specs.declared.error.ParseError.TheVariants as error;
 ghost use Rattle.parse_operand.specs.Nests.{Nests};
 
 use crate::precedence::Levels;
-use parse_cursor::{Cursor, ParseError, name};
+use parse_cursor::{Cursor, ParseError, boxed, name};
 use sql_grammar::Role;
 use sql_tree::{BinaryOp, Expr, Query, Token, TokenKind, UnaryOp};
 use sqlite_items::{Boxed, Items};
-use std::alloc::{AllocError, Global};
+use std::alloc::Global;
 
 const SIGNS: [TokenKind; 3] = [TokenKind::Minus, TokenKind::Plus, TokenKind::Tilde];
 
@@ -40,10 +41,11 @@ pub(crate) fn unary(
     alloc: Global,
     op: UnaryOp,
     operand: Boxed<Expr>,
-) -> Result<Boxed<Expr>, AllocError>
-    ensures { IfOk result (λ e. e ≡ Expr.Unary op operand) }
+) -> Result<Boxed<Expr>, ParseError>
+    ensures tree { IfOk result (λ e. e ≡ Expr.Unary op operand) }
+    ensures memory { IfErr result (λ e. e ≡ error.Memory) }
 {
-    Boxed::new(alloc, Expr::Unary(op, operand))
+    boxed(alloc, Expr::Unary(op, operand))
 }
 
 pub(crate) fn binary(
@@ -51,10 +53,11 @@ pub(crate) fn binary(
     op: BinaryOp,
     left: Boxed<Expr>,
     right: Boxed<Expr>,
-) -> Result<Boxed<Expr>, AllocError>
-    ensures { IfOk result (λ e. e ≡ Expr.Binary op left right) }
+) -> Result<Boxed<Expr>, ParseError>
+    ensures tree { IfOk result (λ e. e ≡ Expr.Binary op left right) }
+    ensures memory { IfErr result (λ e. e ≡ error.Memory) }
 {
-    Boxed::new(alloc, Expr::Binary(op, left, right))
+    boxed(alloc, Expr::Binary(op, left, right))
 }
 
 /// `{- | + | ~}`
@@ -75,8 +78,9 @@ fn with_signs(
     alloc: Global,
     mut signs: Items<Token>,
     mut operand: Boxed<Expr>,
-) -> Result<Boxed<Expr>, AllocError>
-    ensures { IfOk result (λ e. e ≡ spec.with_signs signs operand) }
+) -> Result<Boxed<Expr>, ParseError>
+    ensures tree { IfOk result (λ e. e ≡ spec.with_signs signs operand) }
+    ensures memory { IfErr result (λ e. e ≡ error.Memory) }
 {
     while let Some(sign) = signs.pop() {
         operand = unary(alloc, sign_op(sign.kind), operand)?;
@@ -95,7 +99,7 @@ fn collation(
 {
     tokens.expect(TokenKind::Collate, Role::Operator)?;
     let by = name(tokens)?;
-    Ok(Boxed::new(alloc, Expr::Collate(operand, by))?)
+    boxed(alloc, Expr::Collate(operand, by))
 }
 
 /// `{COLLATE name}` behind an operand
@@ -126,7 +130,7 @@ impl<
     {
         let signs = signs(self.operands.alloc, tokens)?;
         let operand = self.operands.primary(tokens)?;
-        Ok(with_signs(self.operands.alloc, signs, operand)?)
+        with_signs(self.operands.alloc, signs, operand)
     }
 
     /// `signed {COLLATE name}`

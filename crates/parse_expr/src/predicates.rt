@@ -12,11 +12,11 @@ ghost use Rattle.parse_expr.specs.Parts as part;
 
 use crate::operators::{binary, unary};
 use crate::precedence::Levels;
-use parse_cursor::{Cursor, ParseError};
+use parse_cursor::{Cursor, ParseError, boxed};
 use sql_grammar::Role;
 use sql_tree::{BinaryOp, Expr, Query, Token, TokenKind, UnaryOp};
 use sqlite_items::{Boxed, Items};
-use std::alloc::{AllocError, Global};
+use std::alloc::Global;
 
 const EQUALITIES: [TokenKind; 4] = [
     TokenKind::Equal,
@@ -86,7 +86,7 @@ fn null_test(
     ensures { (d : ℕ) → Gives (apply_one left (reads Name rules d spec.null_test tokens.old.counts tokens.old.rest.now)) result tokens.new.counts tokens.new.rest.now }
 {
     let word = tokens.expect_any(&NULL_TESTS, Role::Operator)?;
-    Ok(unary(alloc, null_op(word.kind), left)?)
+    unary(alloc, null_op(word.kind), left)
 }
 
 impl<
@@ -107,7 +107,7 @@ impl<
         let sign = tokens.expect_any(&EQUALITIES, Role::Operator)?;
         let op = equality_op(sign.kind);
         let right = self.relation(tokens)?;
-        Ok(binary(self.operands.alloc, op, left, right)?)
+        binary(self.operands.alloc, op, left, right)
     }
 
     /// `IS [NOT] [DISTINCT FROM] relation`
@@ -126,7 +126,7 @@ impl<
         let distinct = distinct_from(tokens)?;
         let op = is_op(not, distinct);
         let right = self.relation(tokens)?;
-        Ok(binary(self.operands.alloc, op, left, right)?)
+        binary(self.operands.alloc, op, left, right)
     }
 
     /// `BETWEEN relation AND relation`
@@ -145,7 +145,7 @@ impl<
         let low = self.relation(tokens)?;
         tokens.expect(TokenKind::And, Role::Quiet)?;
         let high = self.relation(tokens)?;
-        Ok(Boxed::new(self.operands.alloc, Expr::Between(left, low, high))?)
+        boxed(self.operands.alloc, Expr::Between(left, low, high))
     }
 
     /// `[ESCAPE relation]`
@@ -178,7 +178,7 @@ impl<
         tokens.expect(TokenKind::Like, role)?;
         let pattern = self.relation(tokens)?;
         match self.escape(tokens) {
-            Ok(escape) => Ok(Boxed::new(self.operands.alloc, Expr::Like(left, pattern, escape))?),
+            Ok(escape) => boxed(self.operands.alloc, Expr::Like(left, pattern, escape)),
             Err(error) => Err(error),
         }
     }
@@ -197,7 +197,7 @@ impl<
     {
         tokens.expect(TokenKind::Glob, role)?;
         let pattern = self.relation(tokens)?;
-        Ok(binary(self.operands.alloc, BinaryOp::Glob, left, pattern)?)
+        binary(self.operands.alloc, BinaryOp::Glob, left, pattern)
     }
 
     /// `IN ( query | [expr {, expr}] )`
@@ -252,10 +252,10 @@ impl<
     {
         if tokens.sees_any(&POSITIVES) {
             let test = self.positive_test(tokens, left, Role::Quiet)?;
-            return Ok(unary(self.operands.alloc, UnaryOp::Not, test)?);
+            return unary(self.operands.alloc, UnaryOp::Not, test);
         }
         tokens.expect(TokenKind::Null, Role::Quiet)?;
-        Ok(unary(self.operands.alloc, UnaryOp::NotNull, left)?)
+        unary(self.operands.alloc, UnaryOp::NotNull, left)
     }
 
     /// `NOT`, and what stands behind it

@@ -1,5 +1,5 @@
-use Rattle.parse_operand.proofs.Straight.{of_table_is}
 use Rattle.std.proofs.Common.{arith}
+use Rattle.parse_operand.proofs.Straight.{of_table_is}
 use Rattle.parse_operand.proofs.primaries.of_table.Goals as goal
 
 pub returns-in_err-expect : goal.returns-in_err-expect

@@ -1,5 +1,5 @@
-use Rattle.parse_operand.proofs.Straight.{raise_whats}
 use Rattle.std.proofs.Common.{arith}
+use Rattle.parse_operand.proofs.Straight.{raise_whats}
 use Rattle.parse_operand.proofs.primaries.raise_what.Goals as goal
 
 pub returns-in_err-expect : goal.returns-in_err-expect

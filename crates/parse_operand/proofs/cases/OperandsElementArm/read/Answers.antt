@@ -1,5 +1,5 @@
-use Rattle.parse_operand.proofs.Inside.{arm_is}
 use Rattle.std.proofs.Common.{arith}
+use Rattle.parse_operand.proofs.Inside.{arm_is}
 use Rattle.parse_operand.proofs.cases.OperandsElementArm.read.Goals as goal
 
 pub returns-in_err-condition : goal.returns-in_err-condition

@@ -1,5 +1,5 @@
-use Rattle.parse_operand.proofs.Lists.{arms_steps}
 use Rattle.std.proofs.Common.{arith}
+use Rattle.parse_operand.proofs.Lists.{arms_steps}
 use Rattle.parse_operand.proofs.operands.Operands.arms.Goals as goal
 
 pub returns : goal.returns

@@ -1,5 +1,5 @@
-use Rattle.parse_operand.proofs.Straight.{behind_is}
 use Rattle.std.proofs.Common.{arith}
+use Rattle.parse_operand.proofs.Straight.{behind_is}
 use Rattle.parse_operand.proofs.operands.Operands.behind.Goals as goal
 
 pub returns-in_err-expect : goal.returns-in_err-expect

@@ -1,6 +1,6 @@
+use Rattle.std.proofs.Common.{arith}
 use Rattle.parse_operand.proofs.Clear.{behind_name_firsts}
 use Rattle.sql_grammar.specs.Grammar.{behind_name}
-use Rattle.std.proofs.Common.{arith}
 use Rattle.parse_operand.proofs.operands.Operands.behind_name.Goals as goal
 
 pub returns-then-sees : goal.returns-then-sees

@@ -1,5 +1,5 @@
-use Rattle.parse_operand.proofs.Inside.{branches_are}
 use Rattle.std.proofs.Common.{arith}
+use Rattle.parse_operand.proofs.Inside.{branches_are}
 use Rattle.parse_operand.proofs.operands.Operands.branches.Goals as goal
 
 pub returns-in_err-arms : goal.returns-in_err-arms

@@ -1,5 +1,5 @@
-use Rattle.parse_operand.proofs.Straight.{call_is}
 use Rattle.std.proofs.Common.{arith}
+use Rattle.parse_operand.proofs.Straight.{call_is}
 use Rattle.parse_operand.proofs.operands.Operands.call.Goals as goal
 
 pub returns-in_err-how : goal.returns-in_err-how

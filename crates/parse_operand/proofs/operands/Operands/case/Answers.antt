@@ -1,5 +1,5 @@
-use Rattle.parse_operand.proofs.Inside.{case_steps}
 use Rattle.std.proofs.Common.{arith}
+use Rattle.parse_operand.proofs.Inside.{case_steps}
 use Rattle.parse_operand.proofs.operands.Operands.case.Goals as goal
 
 pub returns-then-sees : goal.returns-then-sees

@@ -1,5 +1,5 @@
-use Rattle.parse_operand.proofs.Lists.{exprs_steps}
 use Rattle.std.proofs.Common.{arith}
+use Rattle.parse_operand.proofs.Lists.{exprs_steps}
 use Rattle.parse_operand.proofs.operands.Operands.exprs.Goals as goal
 
 pub returns : goal.returns

@@ -1,5 +1,5 @@
-use Rattle.parse_operand.proofs.Straight.{filters}
 use Rattle.std.proofs.Common.{arith}
+use Rattle.parse_operand.proofs.Straight.{filters}
 use Rattle.parse_operand.proofs.operands.Operands.filter.Goals as goal
 
 pub returns-in_err-expect : goal.returns-in_err-expect

@@ -1,5 +1,5 @@
-use Rattle.parse_operand.proofs.Bracketed.{in_members_is}
 use Rattle.std.proofs.Common.{arith}
+use Rattle.parse_operand.proofs.Bracketed.{in_members_is}
 use Rattle.parse_operand.proofs.operands.Operands.in_members.Goals as goal
 
 pub returns-in_err-open : goal.returns-in_err-open

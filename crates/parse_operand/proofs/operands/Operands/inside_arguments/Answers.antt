@@ -1,5 +1,5 @@
-use Rattle.parse_operand.proofs.Inside.{arguments_steps}
 use Rattle.std.proofs.Common.{arith}
+use Rattle.parse_operand.proofs.Inside.{arguments_steps}
 use Rattle.parse_operand.proofs.operands.Operands.inside_arguments.Goals as goal
 
 pub returns-then-sees_arguments : goal.returns-then-sees_arguments

@@ -1,5 +1,5 @@
-use Rattle.parse_operand.specs.Parts.{inside_cast}
 use Rattle.std.proofs.Common.{arith}
+use Rattle.parse_operand.specs.Parts.{inside_cast}
 use Rattle.parse_operand.proofs.operands.Operands.inside_cast.Goals as goal
 
 pub returns-in_err-operand : goal.returns-in_err-operand

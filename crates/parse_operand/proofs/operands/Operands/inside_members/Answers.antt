@@ -1,5 +1,5 @@
-use Rattle.parse_operand.proofs.Inside.{members_steps}
 use Rattle.std.proofs.Common.{arith}
+use Rattle.parse_operand.proofs.Inside.{members_steps}
 use Rattle.parse_operand.proofs.operands.Operands.inside_members.Goals as goal
 
 pub returns-in_err-query : goal.returns-in_err-query

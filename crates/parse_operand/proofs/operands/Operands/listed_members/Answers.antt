@@ -1,5 +1,5 @@
-use Rattle.parse_operand.proofs.Inside.{listed_steps}
 use Rattle.std.proofs.Common.{arith}
+use Rattle.parse_operand.proofs.Inside.{listed_steps}
 use Rattle.parse_operand.proofs.operands.Operands.listed_members.Goals as goal
 
 pub returns-then-sees_expr : goal.returns-then-sees_expr

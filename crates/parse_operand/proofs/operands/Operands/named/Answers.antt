@@ -1,5 +1,5 @@
-use Rattle.parse_operand.proofs.Straight.{named_is}
 use Rattle.std.proofs.Common.{arith}
+use Rattle.parse_operand.proofs.Straight.{named_is}
 use Rattle.parse_operand.proofs.operands.Operands.named.Goals as goal
 
 pub returns-in_err-word : goal.returns-in_err-word

@@ -1,5 +1,5 @@
-use Rattle.parse_operand.proofs.Inside.{otherwise_steps}
 use Rattle.std.proofs.Common.{arith}
+use Rattle.parse_operand.proofs.Inside.{otherwise_steps}
 use Rattle.parse_operand.proofs.operands.Operands.otherwise.Goals as goal
 
 pub returns-in_err-behind : goal.returns-in_err-behind

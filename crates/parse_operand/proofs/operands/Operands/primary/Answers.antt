@@ -1,6 +1,6 @@
+use Rattle.std.proofs.Common.{arith}
 use Rattle.parse_operand.proofs.Clear.{primary_firsts}
 use Rattle.sql_grammar.specs.Grammar.{primary}
-use Rattle.std.proofs.Common.{arith}
 use Rattle.parse_operand.proofs.operands.Operands.primary.Goals as goal
 
 pub returns-then-sees_any : goal.returns-then-sees_any

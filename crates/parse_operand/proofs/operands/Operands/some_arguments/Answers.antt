@@ -1,5 +1,5 @@
-use Rattle.sql_grammar.specs.Grammar.{some_arguments}
 use Rattle.std.proofs.Common.{arith}
+use Rattle.sql_grammar.specs.Grammar.{some_arguments}
 use Rattle.parse_operand.proofs.operands.Operands.some_arguments.Goals as goal
 
 pub returns-in_err-expect : goal.returns-in_err-expect
