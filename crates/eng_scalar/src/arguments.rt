@@ -13,13 +13,23 @@ use std::borrow::CowStr;
 use std::str;
 
 /// An argument where a text is wanted.
-#[derive(Drop)]
 pub(crate) enum Argument<'a> {
     Null,
     /// The text that it is cast to.
     Text(CowStr<'a>),
     /// A blob that is not UTF-8.
     NotText,
+}
+
+// By hand, so that what drops an argument calls this, and no proof goes through its variants again.
+impl Drop for Argument<'_> {
+    fn drop(self) {
+        match self {
+            Argument::Null => {}
+            Argument::Text(text) => drop(text),
+            Argument::NotText => {}
+        }
+    }
 }
 
 /// An argument as CAST to TEXT has it (SQL Language Expressions, section 9). Only an integer is copied.

@@ -40,9 +40,9 @@ fn char_of_number(n: i64) -> char
 pub(crate) fn unicode(alloc: Global, value: &Value) -> Result<Out, AllocError>
     ensures { IfOk result (λ out. out ≡ unicode_of value.now) }
 {
-    match text_of(alloc, value)? {
+    match &text_of(alloc, value)? {
         Argument::Null => Ok(Out::Good(Value::Null)),
-        Argument::Text(text) => Ok(Out::Good(first_char(&text))),
+        Argument::Text(text) => Ok(Out::Good(first_char(text))),
         Argument::NotText => Ok(Out::bad(alloc, Cause::NotText)),
     }
 }
@@ -69,9 +69,9 @@ pub(crate) fn length(alloc: Global, value: &Value) -> Result<Out, AllocError>
 fn length_of_text(alloc: Global, value: &Value) -> Result<Out, AllocError>
     ensures { IfOk result (λ out. out ≡ on_text (λ t. Good (sql.Integer (pos (length (chars t))))) value.now) }
 {
-    match text_of(alloc, value)? {
+    match &text_of(alloc, value)? {
         Argument::Null => Ok(Out::Good(Value::Null)),
-        Argument::Text(text) => Ok(Out::Good(Value::Integer(count_of_chars(&text)))),
+        Argument::Text(text) => Ok(Out::Good(Value::Integer(count_of_chars(text)))),
         Argument::NotText => Ok(Out::bad(alloc, Cause::NotText)),
     }
 }
@@ -86,9 +86,9 @@ fn count_of_chars(text: &str) -> i64
 pub(crate) fn lower(alloc: Global, value: &Value) -> Result<Out, AllocError>
     ensures { IfOk result (λ out. out ≡ lower_of value.now) }
 {
-    match text_of(alloc, value)? {
+    match &text_of(alloc, value)? {
         Argument::Null => Ok(Out::Good(Value::Null)),
-        Argument::Text(text) => Ok(Out::Good(Value::Text(Text::new(fold(alloc, &text)?)))),
+        Argument::Text(text) => Ok(Out::Good(Value::Text(Text::new(fold(alloc, text)?)))),
         Argument::NotText => Ok(Out::bad(alloc, Cause::NotText)),
     }
 }
@@ -97,7 +97,7 @@ pub(crate) fn lower(alloc: Global, value: &Value) -> Result<Out, AllocError>
 pub(crate) fn upper(alloc: Global, value: &Value) -> Result<Out, AllocError>
     ensures { IfOk result (λ out. out ≡ upper_of value.now) }
 {
-    match text_of(alloc, value)? {
+    match &text_of(alloc, value)? {
         Argument::Null => Ok(Out::Good(Value::Null)),
         Argument::Text(text) => {
             Ok(Out::Good(Value::Text(Text::new(text.as_str().to_ascii_uppercase(alloc)?))))

@@ -34,9 +34,9 @@ fn substr_by(
 {
     match value {
         Value::Blob(blob) => part_of_blob(alloc, blob.as_slice(), start, wanted),
-        _ => match text_of(alloc, value)? {
+        _ => match &text_of(alloc, value)? {
             Argument::Null => Ok(Out::Good(Value::Null)),
-            Argument::Text(text) => part_of_text(alloc, &text, start, wanted),
+            Argument::Text(text) => part_of_text(alloc, text, start, wanted),
             Argument::NotText => Ok(Out::bad(alloc, Cause::NotText)),
         },
     }

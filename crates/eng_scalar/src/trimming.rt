@@ -31,9 +31,9 @@ pub(crate) fn trim(alloc: Global, which: Builtin, args: &[Value]) -> Result<Out,
 fn trim_spaces(alloc: Global, which: Builtin, value: &Value) -> Result<Out, AllocError>
     ensures { IfOk result (λ out. out ≡ on_text (λ t. Good (text_of_chars (trim_by which (codes " ") (chars t)))) value.now) }
 {
-    match text_of(alloc, value)? {
+    match &text_of(alloc, value)? {
         Argument::Null => Ok(Out::Good(Value::Null)),
-        Argument::Text(text) => trim_text(alloc, which, &text, " "),
+        Argument::Text(text) => trim_text(alloc, which, text, " "),
         Argument::NotText => Ok(Out::bad(alloc, Cause::NotText)),
     }
 }
