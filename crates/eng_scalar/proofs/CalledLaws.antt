@@ -1,6 +1,6 @@
 -- What a function reads of its arguments.
 use Rattle.std.proofs.Common.{◌≡◌, ◌∙◌, ℕ, List, [], ◌∷◌, false, map, Option, Some, None, refl, sym, ap}
-use Rattle.std.proofs.Common.{true, Bool, ◌||◌}
+use Rattle.std.proofs.Common.{◌||◌}
 use Rattle.std.proofs.Math.Bool.{or-false}
 use Rattle.std.specs.Cmp.Lexicographic.{slice_cmp, nat_list_cmp_total}
 use Rattle.std.specs.FinSet as set

@@ -1,20 +1,18 @@
 -- The functions by what their arguments came to.
-use Rattle.std.specs.Prelude.{◌≡◌, ℕ, Bool, true, false, Option, Some, None, List, [], ◌∷◌, pos, codes, refl}
+use Rattle.std.specs.Prelude.{◌≡◌, Bool, true, false, Option, Some, None, List, [], ◌∷◌, codes, refl}
 use Rattle.std.specs.FinSet as set
 use Rattle.eng_key.specs.Values.{value_key}
 use Rattle.eng_value.specs.Applied.{function_by}
 use Rattle.eng_value.specs.Causes.{CauseSet}
 use Rattle.eng_value.specs.Functions.{call_of}
-use Rattle.eng_value.specs.Outs.{bad}
 use Rattle.eng_value.specs.declared.built.Built.{Built}
 use Rattle.eng_value.specs.declared.built.Built.TheVariants as built
 use Rattle.eng_value.specs.declared.builtin.Builtin.{Builtin}
 use Rattle.eng_value.specs.declared.builtin.Builtin.TheVariants as builtin
-use Rattle.eng_value.specs.declared.cause.Cause.TheVariants as cause
 use Rattle.eng_value.specs.declared.out.Out.{Out}
 use Rattle.eng_value.specs.declared.out.Out.TheVariants.{Good, Bad}
 use Rattle.eng_value.specs.declared.value.Value.{Value}
-use Rattle.eng_value.specs.declared.value.Value.TheVariants.{Null, Integer, Text}
+use Rattle.eng_value.specs.declared.value.Value.TheVariants.{Null, Text}
 
 -- by the keys that order values
 abbrev pub function_of : Builtin → Built → List Out → Out

@@ -1,12 +1,11 @@
 -- Operators and functions by what they are told apart by. An operand is what it came to: a value, or a set of causes.
-use Rattle.std.specs.Prelude.{◌≡◌, ℕ, List, [], ◌∷◌, ◌++◌, false, not, ℤ, pos, map, fold, codes, refl}
+use Rattle.std.specs.Prelude.{◌≡◌, ℕ, List, [], ◌∷◌, false, not, ℤ, pos, map, fold, refl}
 use Rattle.std.specs.FinSet as set
 use Rattle.eng_value.specs.Causes.{CauseSet}
 use Rattle.eng_value.specs.declared.affinity.Affinity.TheVariants as affinity
 use Rattle.eng_value.specs.declared.built.Built.{Built}
 use Rattle.eng_value.specs.declared.built.Built.TheVariants as built
 use Rattle.eng_value.specs.declared.builtin.Builtin.{Builtin}
-use Rattle.eng_value.specs.declared.builtin.Builtin.TheVariants as builtin
 use Rattle.eng_value.specs.declared.cause.Cause.TheVariants as cause
 use Rattle.eng_value.specs.declared.compare_op.CompareOp.TheVariants as compares
 use Rattle.eng_value.specs.declared.operators.BinaryOperator.{BinaryOperator}
@@ -17,7 +16,7 @@ use Rattle.eng_value.specs.declared.operators.UnaryOperator.TheVariants as unary
 use Rattle.eng_value.specs.declared.out.Out.{Out}
 use Rattle.eng_value.specs.declared.out.Out.TheVariants.{Good, Bad}
 use Rattle.eng_value.specs.declared.value.Value.{Value}
-use Rattle.eng_value.specs.declared.value.Value.TheVariants.{Null, Integer, Text, Blob}
+use Rattle.eng_value.specs.declared.value.Value.TheVariants.{Null, Integer}
 use Rattle.eng_value.specs.Casts.{cast, beside}
 use Rattle.eng_value.specs.Comparisons.{comparison_of, is_of, like_of, glob_of}
 use Rattle.eng_value.specs.Functions.{call_of, is_null}
