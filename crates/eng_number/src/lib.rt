@@ -9,6 +9,3 @@ mod numbers;
 mod scanning;
 
 pub use numbers::{TextKind, integer_prefix, number_prefix, text_kind};
-
-#[cfg(test)]
-mod tests;
