@@ -25,6 +25,3 @@ pub use laws::{
 };
 pub use patterns::{glob, like};
 pub use replacing::replace;
-
-#[cfg(test)]
-mod tests;
