@@ -27,6 +27,3 @@ pub use matching::{glob, like, like_escaped};
 pub use numbers::{arithmetic, negative};
 pub use plain::{binary_of_integers, binary_of_texts};
 pub use truths::{and, choice, not, or, truth_is};
-
-#[cfg(test)]
-mod tests;
