@@ -24,10 +24,3 @@ mod trimming;
 
 pub use applying::function;
 pub use calling::call;
-
-#[cfg(test)]
-mod function_tests;
-#[cfg(test)]
-mod part_tests;
-#[cfg(test)]
-mod tests;
