@@ -49,8 +49,3 @@ pub use stored_row::StoredRow;
 pub use text::Text;
 pub use truth::Truth;
 pub use value::Value;
-
-#[cfg(test)]
-mod tests;
-#[cfg(test)]
-mod tests_values;
