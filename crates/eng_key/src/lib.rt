@@ -15,8 +15,3 @@ pub use laws::{
 };
 pub use rowid::{rowid_key, rowid_of_key};
 pub use values::value_key;
-
-#[cfg(test)]
-mod tests;
-#[cfg(test)]
-mod tests_values;

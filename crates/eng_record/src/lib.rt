@@ -17,6 +17,3 @@ pub use columns::{Lent, column, lent_column};
 pub use reading::decode;
 pub use record_error::RecordErr;
 pub use writing::encode;
-
-#[cfg(test)]
-mod tests;

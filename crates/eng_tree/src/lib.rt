@@ -13,6 +13,3 @@ pub mod undoing;
 
 pub use bytes::Bytes;
 pub use tree::Tree;
-
-#[cfg(test)]
-mod tests;
