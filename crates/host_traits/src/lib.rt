@@ -15,6 +15,3 @@ pub use memory::{MemorySink, MemorySource};
 pub use sink::{Sink, WriteAnswer};
 pub use source::{ReadAnswer, Source};
 pub use std_streams::{StreamSink, StreamSource};
-
-#[cfg(test)]
-mod tests;
