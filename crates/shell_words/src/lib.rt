@@ -103,6 +103,3 @@ pub fn read_options(alloc: Global, words: &[String]) -> Result<Options, WordsErr
         bail: bail_in(&matches),
     })
 }
-
-#[cfg(test)]
-mod tests;
