@@ -17,6 +17,3 @@ mod select;
 mod with;
 
 pub use parsing::{MAX_OPEN, expr, filter_by, parse_expression, query};
-
-#[cfg(test)]
-mod tests;

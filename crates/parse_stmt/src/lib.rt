@@ -14,6 +14,3 @@ mod transactions;
 
 pub use parse_cursor::Failure;
 pub use parsing::{parse, statement};
-
-#[cfg(test)]
-mod tests;
