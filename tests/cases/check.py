@@ -9,7 +9,8 @@ A file is blocks, parted by empty lines:
     # A comment in front of a case says what it shows.
     % words --budget 5          the words of the command line
     % status 3                  the exit status; without it 1 where a line begins with `Error `, else 0
-    % escaped                   \\xNN is a byte, \\n, \\t and \\\\ are themselves, \\*9{x} is nine times x, in all the lines below
+    % escaped                   \\xNN is a byte, \\n, \\t and \\\\ are themselves, in all the lines below
+    % repeated                  {1000:+ a } is `+ a ` so often, in all the lines below
     % no newline                the script's last line has none
     CREATE TABLE t(a);
     SELECT a FROM t;
@@ -37,7 +38,8 @@ import shlex
 import subprocess
 import sys
 
-ESCAPE = re.compile(rb"\\(x[0-9a-fA-F]{2}|[nt\\]|\*(\d+)\{([^}]*)\})")
+ESCAPE = re.compile(rb"\\(x[0-9a-fA-F]{2}|[nt\\])")
+REPEATED = re.compile(rb"\{(\d+):([^}]*)\}")
 
 
 def unescaped(text):
@@ -45,8 +47,6 @@ def unescaped(text):
 
     def byte_of(found):
         word = found[1]
-        if word[:1] == b"*":
-            return unescaped(found[3]) * int(found[2])
         return bytes([int(word[1:], 16)]) if word[:1] == b"x" else {b"n": b"\n", b"t": b"\t", b"\\": b"\\"}[word]
 
     return ESCAPE.sub(byte_of, text)
@@ -89,6 +89,8 @@ def scripts_of(where, block):
     body = block[at:]
     if not body:
         return
+    if "repeated" in options:
+        body = [REPEATED.sub(lambda found: found[2] * int(found[1]), line) for line in body]
     is_escaped = "escaped" in options
     words, status = shlex.split(options.get("words", "")), options.get("status")
     end = b"" if "no newline" in options else b"\n"
