@@ -1,24 +1,20 @@
-// Expressions and queries, which stand in one another's brackets, and a text of tokens as one expression.
+// Expressions and queries, which stand in one another's brackets.
 
 ghost use Rattle.std.specs.Prelude.{◌≡◌};
-ghost use Rattle.sql_tree.specs.declared.expr.Expr.{Expr};
-ghost use Rattle.sql_grammar.specs.Answers.{Answer};
-ghost use Rattle.sql_grammar.specs.Expressions.{AnswersAs};
 ghost use Rattle.sql_grammar.specs.Grammar as grammar;
 ghost use Rattle.sql_grammar.specs.Grammar.{Name};
 ghost use Rattle.sql_grammar.specs.Queries as spec;
 ghost use Rattle.sql_grammar.specs.Bodies.{rules};
 ghost use Rattle.sql_grammar.specs.Rules.{reads};
 ghost use Rattle.parse_cursor.specs.Gives.{Gives};
-ghost use Rattle.parse_cursor.specs.Whole.{Shows};
 
 use crate::queries::Queries;
 use parse_clause::Clauses;
-use parse_cursor::{Cursor, Failure, ParseError, failure_at, place};
+use parse_cursor::{Cursor, ParseError};
 use parse_expr::Levels;
 use parse_operand::Operands;
-use sql_grammar::{Counts, MAX_NESTINGS};
-use sql_tree::{Expr, Query, Token};
+use sql_grammar::MAX_NESTINGS;
+use sql_tree::{Expr, Query};
 use sqlite_items::Boxed;
 use std::alloc::Global;
 
@@ -97,28 +93,4 @@ fn boxed_query(
         levels: Levels { operands },
     };
     Queries { clauses }.query(tokens)
-}
-
-/// Parses the tokens of a text of so many bytes as one expression (SQL Language Expressions): its tree, or the first token that cannot
-/// stand there or passes a limit. Each list of tokens has one answer (`sql_grammar::each_text_has_an_answer`,
-/// `reading_gives_the_answer`).
-pub fn parse_expression(alloc: Global, tokens: &[Token], len: usize) -> Result<Expr, Failure>
-    ensures { (x : Answer Expr) → AnswersAs tokens.now x → Shows len x result }
-{
-    let mut cursor = Cursor {
-        rest: tokens,
-        counts: Counts::start(),
-    };
-    let read = expr(alloc, &mut cursor, MAX_OPEN);
-    let at = place(cursor.rest, len);
-    match read {
-        Ok(tree) => {
-            if cursor.rest.len() == 0 {
-                Ok(tree)
-            } else {
-                Err(Failure::Syntax(at))
-            }
-        }
-        Err(error) => Err(failure_at(error, at)),
-    }
 }
