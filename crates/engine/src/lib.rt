@@ -16,14 +16,3 @@ pub use answers::{Done, Refusal};
 pub use connection::Connection;
 pub use row_sink::{RowSink, Took};
 pub use vm_core::Hosts;
-
-#[cfg(test)]
-mod test_sinks;
-#[cfg(test)]
-mod tests_connection;
-#[cfg(test)]
-mod tests_database;
-#[cfg(test)]
-mod tests_preparing;
-#[cfg(test)]
-mod tests_running;

@@ -22,6 +22,3 @@ mod writing;
 
 pub use engine::Hosts;
 pub use top::run;
-
-#[cfg(test)]
-mod tests;

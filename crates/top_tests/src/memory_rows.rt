@@ -1,8 +1,8 @@
-// A sink in memory for tests.
+// A sink of rows in memory.
 ghost use Rattle.std.specs.Prelude.{◌≡◌, [], ◌∷◌, ◌++◌, Some, OnOk, OnErr};
 
-use crate::row_sink::{RowSink, Took};
 use eng_value::{Row, Rows};
+use engine::{RowSink, Took};
 use std::alloc::{AllocError, Global};
 
 /// A sink that keeps the rows that it takes. Of its calls, counted from 0, some fail and some find no memory.
@@ -18,10 +18,7 @@ pub(crate) struct MemoryRows {
 
 impl MemoryRows {
     /// No row yet. The calls of the numbers in `failing` fail, and those in `starved` find no memory.
-    pub(crate) fn new(alloc: Global, failing: Vec<u64>, starved: Vec<u64>) -> MemoryRows
-        ensures taken { ⟦<MemoryRows as RowSink>⟧.taken result ≡ Some [] }
-        ensures no_fault { ⟦<MemoryRows as RowSink>⟧.fault_count result ≡ 0 }
-    {
+    pub(crate) fn new(alloc: Global, failing: Vec<u64>, starved: Vec<u64>) -> MemoryRows {
         MemoryRows {
             alloc,
             rows: Rows::empty(alloc),
@@ -33,9 +30,7 @@ impl MemoryRows {
     }
 
     /// All that it took.
-    pub(crate) fn rows(&self) -> &[Row]
-        ensures { ⟦<MemoryRows as RowSink>⟧.taken self.now ≡ Some result.now }
-    {
+    pub(crate) fn rows(&self) -> &[Row] {
         self.rows.as_slice()
     }
 }

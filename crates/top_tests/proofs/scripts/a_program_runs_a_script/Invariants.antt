@@ -1,4 +1,4 @@
-use Rattle.sql_shell.proofs.tests.a_program_runs_a_script.Given as goal
+use Rattle.top_tests.proofs.scripts.a_program_runs_a_script.Given as goal
 
 abbrev pub ghosts-run_uncounted : goal.ghosts-run_uncounted
 ghosts-run_uncounted g a = record { name = a.blank.name; parts = a.blank.parts }

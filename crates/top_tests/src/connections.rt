@@ -1,15 +1,13 @@
 // Statements through a connection.
 ghost use Rattle.std.specs.Prelude.{◌≡◌, ◌<◌};
 
-use crate::answers::{Done, Refusal};
-use crate::connection::Connection;
-use crate::test_sinks::MemoryRows;
-use eng_value::{Cause, DEFAULT_BUDGET, Row, Steps, Value};
+use crate::memory_rows::MemoryRows;
+use eng_value::{Blob, Cause, DEFAULT_BUDGET, Row, Steps, Value};
+use engine::{Connection, Done, Hosts, Refusal};
 use std::alloc::{AllocError, Global};
 use std::marker::Brand;
 use std::sync::ledger::{Blank, Ledger};
 use std::test::Fail;
-use vm_core::Hosts;
 
 // What a statement came to; `Refused` has the result code of the cause.
 #[derive(Clone, Copy, Debug, PartialEq)]
@@ -128,32 +126,15 @@ fn statements_do_what_they_mean(rt: HostRuntime) -> Result<(), Fail> {
         contents(alloc, &connection, "t")?.as_slice(),
         [404].as_slice()
     );
-    for (sql, wanted) in [
-        (
-            "CREATE TABLE t(a INTEGER, b INTEGER)",
-            Outcome::Done {
-                given: 0,
-                changed: 0,
-            },
-        ),
-        ("INSERT INTO t VALUES(1, 10)", WROTE),
-        ("INSERT INTO T VALUES(3, 20)", WROTE),
-        ("INSERT INTO t VALUES(2, 30)", WROTE),
-        (
-            "SELECT b, a FROM t WHERE a > 1",
-            Outcome::Done {
-                given: 2,
-                changed: 0,
-            },
-        ),
-        (
-            "INSERT INTO t VALUES(4, 40), ('5', 50)",
-            Outcome::Done {
-                given: 0,
-                changed: 2,
-            },
-        ),
+    for (sql, given, changed) in [
+        ("CREATE TABLE t(a INTEGER, b INTEGER)", 0, 0),
+        ("INSERT INTO t VALUES(1, 10)", 0, 1),
+        ("INSERT INTO T VALUES(3, 20)", 0, 1),
+        ("INSERT INTO t VALUES(2, 30)", 0, 1),
+        ("SELECT b, a FROM t WHERE a > 1", 2, 0),
+        ("INSERT INTO t VALUES(4, 40), ('5', 50)", 0, 2),
     ] {
+        let wanted = Outcome::Done { given, changed };
         assert_eq!(rt;
             run(alloc, &mut connection, sql, &mut rows)?,
             wanted,
@@ -175,7 +156,7 @@ fn statements_do_what_they_mean(rt: HostRuntime) -> Result<(), Fail> {
 }
 
 #[test]
-fn a_refused_statement_changes_nothing(rt: HostRuntime) -> Result<(), Fail> {
+fn a_refused_statement_leaves_the_numbers(rt: HostRuntime) -> Result<(), Fail> {
     let alloc = rt.alloc();
     let mut connection = three_rows(alloc)?;
     for sql in [
@@ -241,11 +222,11 @@ fn a_sink_that_takes_no_row_ends_the_statement(rt: HostRuntime) -> Result<(), Fa
     for (failing, starved, cause, taken) in [
         ([0u64].as_slice(), [].as_slice(), Cause::SinkFault, 0),
         ([1].as_slice(), [].as_slice(), Cause::SinkFault, 1),
+        ([2].as_slice(), [].as_slice(), Cause::SinkFault, 2),
         ([].as_slice(), [1u64].as_slice(), Cause::Mem, 1),
     ] {
         let mut rows = MemoryRows::new(alloc, failing.to_vec(alloc)?, starved.to_vec(alloc)?);
-        let sql = "SELECT a FROM t WHERE a > 4";
-        let outcome = run(alloc, &mut connection, sql, &mut rows)?;
+        let outcome = run(alloc, &mut connection, "SELECT a FROM t", &mut rows)?;
         assert_eq!(rt; outcome, Outcome::Refused(cause.code()));
         assert_eq!(rt; rows.rows().len(), taken);
         assert_eq!(rt; connection.last_rowid(), 3);
@@ -253,77 +234,92 @@ fn a_sink_that_takes_no_row_ends_the_statement(rt: HostRuntime) -> Result<(), Fa
     Ok(())
 }
 
-// The good rows in front of a bad one come, and then the refusal.
-#[test]
-fn rows_in_front_of_a_bad_one_are_given(rt: HostRuntime) -> Result<(), Fail> {
-    let alloc = rt.alloc();
-    let mut connection = three_rows(alloc)?;
-    let mut rows = no_rows(alloc);
-    let sql = "SELECT a, CASE a WHEN 6 THEN 1.5 END FROM t";
-    let outcome = run(alloc, &mut connection, sql, &mut rows)?;
-    assert_eq!(rt; outcome, Outcome::Refused(Cause::Real.code()));
-    assert_eq!(rt;
-        integers(alloc, rows.rows())?.as_slice(),
-        [4, -1].as_slice()
-    );
-    Ok(())
-}
-
-// A parameter by its number; one that is missing is NULL.
+// A parameter by its number. One that is missing is NULL, and one that is too long is bad where it is looked at.
 #[test]
 fn parameters_have_their_values(rt: HostRuntime) -> Result<(), Fail> {
     let alloc = rt.alloc();
     let mut connection = three_rows(alloc)?;
     let mut rows = no_rows(alloc);
-    let params = vec![in alloc; Value::Integer(5), Value::Integer(7)]?;
-    let sql = "SELECT a, ?2, ? IS NULL FROM t WHERE a >= ?1";
-    let outcome = run_with(alloc, &mut connection, sql, &params, &mut rows)?;
-    assert_eq!(rt;
-        outcome,
-        Outcome::Done {
-            given: 2,
-            changed: 0
-        }
-    );
+    let params = vec![in alloc;
+        Value::Integer(5),
+        Value::Integer(7),
+        blob(alloc, 1_000_000)?,
+        blob(alloc, 1_000_001)?,
+    ]?;
+    for (sql, wanted) in [
+        ("SELECT a, ?2, ? IS NULL FROM t WHERE a >= ?1", 2),
+        ("SELECT length(?3), ?9 IS NULL, coalesce(?1, ?4)", 1),
+    ] {
+        let outcome = run_with(alloc, &mut connection, sql, &params, &mut rows)?;
+        let done = Outcome::Done {
+            given: wanted,
+            changed: 0,
+        };
+        assert_eq!(rt; outcome, done, "{sql}");
+    }
+    let too_long = run_with(
+        alloc,
+        &mut connection,
+        "SELECT length(?4)",
+        &params,
+        &mut rows,
+    )?;
+    assert_eq!(rt; too_long, Outcome::Refused(18));
     assert_eq!(rt;
         integers(alloc, rows.rows())?.as_slice(),
-        [6, 7, 1, 5, 7, 1].as_slice()
+        [6, 7, 0, 5, 7, 0, 1_000_000, 1, 5].as_slice()
     );
     Ok(())
 }
 
-// A row of one column takes eleven instructions, one of two columns fourteen; a scan of one row with a WHERE seventeen.
+fn blob(alloc: Global, length: usize) -> Result<Value, AllocError> {
+    let mut bytes = Vec::new(alloc);
+    bytes.resize(length, 0)?;
+    Ok(Value::Blob(Blob::new(bytes)))
+}
+
+// Each statement has the whole budget. One that needs more is interrupted when all of it ran, and changes nothing.
 #[test]
-fn a_statement_stops_at_the_budget(rt: HostRuntime) -> Result<(), Fail> {
+fn each_budget_interrupts_or_is_enough(rt: HostRuntime) -> Result<(), Fail> {
     let alloc = rt.alloc();
-    let mut connection = Connection::new(alloc, 12);
-    for (sql, wanted) in [
-        (
+    for budget in 10..60 {
+        let mut connection = Connection::new(alloc, budget);
+        let mut rows = no_rows(alloc);
+        run(
+            alloc,
+            &mut connection,
             "CREATE TABLE t(a INTEGER)",
-            Outcome::Done {
-                given: 0,
-                changed: 0,
-            },
-        ),
-        (
-            "CREATE TABLE u(a INTEGER, b INTEGER)",
-            Outcome::Done {
-                given: 0,
-                changed: 0,
-            },
-        ),
-        ("INSERT INTO t VALUES(7)", WROTE),
-        ("INSERT INTO u VALUES(8, 9)", Outcome::Interrupted(12)),
-        ("SELECT a FROM t WHERE a > 1", Outcome::Interrupted(12)),
-    ] {
-        let outcome = run(alloc, &mut connection, sql, &mut no_rows(alloc))?;
-        assert_eq!(rt; outcome, wanted, "{sql}");
+            &mut rows,
+        )?;
+        let wrote = run(
+            alloc,
+            &mut connection,
+            "INSERT INTO t VALUES(7), (8)",
+            &mut rows,
+        )?;
+        let given = run(alloc, &mut connection, "SELECT a FROM t", &mut rows)?;
+        let left = contents(alloc, &connection, "t")?;
+        if wrote == Outcome::Interrupted(budget) {
+            assert_eq!(rt; left.len(), 0);
+            assert_eq!(rt; connection.last_rowid(), 0);
+        } else {
+            assert_eq!(rt;
+                wrote,
+                Outcome::Done {
+                    given: 0,
+                    changed: 2
+                }
+            );
+            assert_eq!(rt; left.as_slice(), [1, 7, 2, 8].as_slice());
+            assert_eq!(rt; connection.last_rowid(), 2);
+        }
+        if given == Outcome::Interrupted(budget) {
+            assert!(rt;
+                [7, 8]
+                    .as_slice()
+                    .starts_with(&integers(alloc, rows.rows())?)
+            );
+        }
     }
-    assert_eq!(rt;
-        contents(alloc, &connection, "t")?.as_slice(),
-        [1, 7].as_slice()
-    );
-    assert_eq!(rt; contents(alloc, &connection, "u")?.len(), 0);
-    assert_eq!(rt; connection.last_rowid(), 1);
     Ok(())
 }

@@ -1,0 +1,12 @@
+//! Tests of what no script reaches: the top call over sources and sinks that fail, and a connection with parameters, tables and a
+//! sink of rows. What scripts reach is shown by tests/cases.
+#![tactic(auto)]
+
+#[cfg(test)]
+mod connections;
+#[cfg(test)]
+mod memory_rows;
+#[cfg(test)]
+mod script_tables;
+#[cfg(test)]
+mod scripts;
