@@ -1,59 +1,21 @@
 -- One token of look-ahead tells what to do in each rule of statements, and with which kinds each begins.
 use Rattle.std.proofs.Common.{◌≡◌, true, false, [], ◌∷◌, ◌++◌, refl}
 use Rattle.sql_tree.specs.declared.token.TokenKind.TheVariants as kind
-use Rattle.sql_grammar.specs.Kinds.{argument_kinds}
 use Rattle.sql_grammar.specs.Rules.{is_clear, first, can_be_empty, seq, many, until}
 use Rattle.sql_grammar.specs.Grammar.{Name, names, type_name}
 use Rattle.sql_grammar.specs.Bodies.{rules}
 use Rattle.sql_grammar.specs.Queries.{query}
-use Rattle.sql_grammar.specs.Writes.{assignment, insert, update, row_command}
-use Rattle.sql_grammar.specs.Definitions.{in_expression, primary_key, in_key, column_key, not_null, check, collate, column_constraint, column, key_column, index_column, table_constraint, is_constraint, next_element, next_constraint, body_command, argument_piece, inner_piece, module_argument, create_table, create_index, create_view, create_trigger}
+use Rattle.sql_grammar.specs.Writes.{insert, update, row_command}
+use Rattle.sql_grammar.specs.Definitions.{in_expression, primary_key, in_key, column_key, not_null, check, collate, column, table_constraint, is_constraint, next_element, next_constraint, argument_piece, inner_piece, create_table, create_index, create_view, create_trigger}
 use Rattle.sql_grammar.specs.Statements.{all_statement_rules}
-use Rattle.parse_create.specs.Arguments.{argument_token, more_arguments}
-use Rattle.parse_create.specs.Parts.{more_assignments, column_constraints, more_key_columns, more_index_columns, more_commands}
+use Rattle.parse_create.specs.Arguments.{argument_token}
 
 -- all rules, for proofs that compute with them
 unfoldable computed : Unit {0}
-unfolding all_statement_rules more_assignments column_constraints more_key_columns more_index_columns more_commands argument_token more_arguments
+unfolding all_statement_rules argument_token
 computed = tt
 
 -- ---- clear
-
-pub assignment_clear : is_clear Name rules assignment ≡ true
-unfolding computed
-assignment_clear = refl
-
-pub more_assignments_clear : is_clear Name rules more_assignments ≡ true
-unfolding computed
-more_assignments_clear = refl
-
-pub column_constraint_clear : is_clear Name rules column_constraint ≡ true
-unfolding computed
-column_constraint_clear = refl
-
-pub column_constraint_solid : can_be_empty column_constraint ≡ false
-unfolding computed
-column_constraint_solid = refl
-
-pub column_constraints_clear : is_clear Name rules column_constraints ≡ true
-unfolding computed
-column_constraints_clear = refl
-
-pub key_column_clear : is_clear Name rules key_column ≡ true
-unfolding computed
-key_column_clear = refl
-
-pub more_key_columns_clear : is_clear Name rules more_key_columns ≡ true
-unfolding computed
-more_key_columns_clear = refl
-
-pub index_column_clear : is_clear Name rules index_column ≡ true
-unfolding computed
-index_column_clear = refl
-
-pub more_index_columns_clear : is_clear Name rules more_index_columns ≡ true
-unfolding computed
-more_index_columns_clear = refl
 
 pub column_clear : is_clear Name rules column ≡ true
 unfolding computed
@@ -71,14 +33,6 @@ pub next_constraints_clear : is_clear Name rules (many next_constraint) ≡ true
 unfolding computed
 next_constraints_clear = refl
 
-pub row_command_clear : is_clear Name rules row_command ≡ true
-unfolding computed
-row_command_clear = refl
-
-pub more_commands_clear : is_clear Name rules more_commands ≡ true
-unfolding computed
-more_commands_clear = refl
-
 pub argument_piece_clear : is_clear Name rules argument_piece ≡ true
 unfolding computed
 argument_piece_clear = refl
@@ -94,14 +48,6 @@ argument_pieces_clear = refl
 pub inner_pieces_clear : is_clear Name rules (many inner_piece) ≡ true
 unfolding computed
 inner_pieces_clear = refl
-
-pub module_argument_clear : is_clear Name rules module_argument ≡ true
-unfolding computed
-module_argument_clear = refl
-
-pub more_arguments_clear : is_clear Name rules more_arguments ≡ true
-unfolding computed
-more_arguments_clear = refl
 
 -- ---- the kinds that they begin with
 
@@ -145,10 +91,6 @@ pub first_collate : first collate ≡ kind.Collate ∷ []
 unfolding computed
 first_collate = refl
 
-pub first_column_constraint : first column_constraint ≡ kind.Constraint ∷ kind.Primary ∷ kind.Not ∷ kind.Null ∷ kind.Unique ∷ kind.Check ∷ kind.Default ∷ kind.Collate ∷ []
-unfolding computed
-first_column_constraint = refl
-
 pub first_type_name : first type_name ≡ names
 unfolding computed
 first_type_name = refl
@@ -157,17 +99,9 @@ pub first_column : first column ≡ names
 unfolding computed
 first_column = refl
 
-pub first_body_command : first body_command ≡ first row_command
-unfolding computed
-first_body_command = refl
-
 pub first_row_command : first row_command ≡ kind.With ∷ kind.Select ∷ kind.Values ∷ kind.Insert ∷ kind.Replace ∷ kind.Update ∷ kind.Delete ∷ []
 unfolding computed
 first_row_command = refl
-
-pub first_argument_token : first argument_token ≡ argument_kinds
-unfolding computed
-first_argument_token = refl
 
 pub first_argument_piece : first argument_piece ≡ first argument_token ++ kind.LeftParen ∷ []
 unfolding computed

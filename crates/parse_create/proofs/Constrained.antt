@@ -1,6 +1,5 @@
 -- What constraints and their parts read, in the steps of the code.
-use Rattle.std.proofs.Common.{◌≡◌, ℕ, ◌<◌, length, true, false, List, [], ◌∷◌, ◌++◌, Some, None, refl, ◌∙◌}
-use Rattle.sql_tree.specs.declared.statement.ColumnConstraint.{ColumnConstraint}
+use Rattle.std.proofs.Common.{◌≡◌, ℕ, true, false, List, [], ◌∷◌, Some, None, refl, ◌∙◌}
 use Rattle.sql_tree.specs.declared.statement.ColumnConstraint.TheVariants as column_rule
 use Rattle.sql_tree.specs.declared.statement.TableConstraint.TheVariants as table_rule
 use Rattle.sql_tree.specs.declared.token.Token.{Token}
@@ -11,15 +10,12 @@ use Rattle.sql_grammar.specs.Rules.{tok, seq, first, starts, reads, one, Done, �
 use Rattle.sql_grammar.specs.Grammar.{Name, after, name, names}
 use Rattle.sql_grammar.specs.Bodies.{rules}
 use Rattle.sql_grammar.specs.Queries.{given}
-use Rattle.sql_grammar.specs.Definitions.{check, in_key, table_rule_of, primary_key, column_key, not_null, collate, constraint_name, column_constraint, key_column, if_not_exists, header}
+use Rattle.sql_grammar.specs.Definitions.{check, in_key, table_rule_of, primary_key, column_key, not_null, collate, constraint_name, key_column, if_not_exists, header}
 use Rattle.sql_grammar.proofs.ReadingLaws.{chosen, other}
-use Rattle.sql_grammar.proofs.Whole.{takes_some}
-use Rattle.sql_grammar.proofs.Clear.{clear, rich}
-use Rattle.parse_cursor.specs.Gives.{collected}
-use Rattle.parse_cursor.proofs.Steps.{both_to, three_to, after_is, after_to, maybe_some, maybe_none, many_step, many_end}
-use Rattle.parse_create.specs.Parts.{column_constraints, key_collation}
-use Rattle.parse_create.proofs.Clear.{column_constraint_clear, column_constraint_solid, column_constraints_clear, first_column_constraint, first_collate, first_keyed}
-use Rattle.parse_create.proofs.Thens.{then, collected_none}
+use Rattle.parse_cursor.proofs.Steps.{both_to, three_to, after_is, after_to, maybe_some, maybe_none}
+use Rattle.parse_create.specs.Parts.{key_collation}
+use Rattle.parse_create.proofs.Clear.{first_collate, first_keyed}
+use Rattle.parse_create.proofs.Thens.{then}
 use Rattle.parse_cursor.specs.Parts.{given_word}
 
 pub primary_key_is : (d : ℕ) (c : Counts) (ts : List Token) → reads Name rules d primary_key c ts ≡ (one role.Outside (kind.Primary ∷ []) c ts >>= λ t e rest. one role.Outside (kind.Key ∷ []) e rest)
@@ -49,26 +45,6 @@ unfolding constraint_name
 constraint_unnamed d c ts none = maybe_none role.Outside kind.Constraint name d c ts none
 
 pub ruleset constraint_names = (constraint_named, constraint_unnamed)
-
--- ---- constraints of a column
-
-pub constraints_start : (d : ℕ) (c : Counts) (ts : List Token) → collected [] (reads Name rules d column_constraints c ts) ≡ reads Name rules d column_constraints c ts
-constraints_start d c ts = collected_none (reads Name rules d column_constraints c ts)
-
-pub constraints_next : (found : List ColumnConstraint) (d : ℕ) (c : Counts) (ts : List Token) → starts (kind.Constraint ∷ kind.Primary ∷ kind.Not ∷ kind.Null ∷ kind.Unique ∷ kind.Check ∷ kind.Default ∷ kind.Collate ∷ []) ts ≡ true
-    → collected found (reads Name rules d column_constraints c ts) ≡ (reads Name rules d column_constraint c ts >>= λ a e rest. collected (found ++ a ∷ []) (reads Name rules d column_constraints e rest))
-unfolding column_constraints
-constraints_next found d c ts here = many_step column_constraint d found c ts column_constraints_clear (rw first_column_constraint here)
-
-pub constraints_end : (found : List ColumnConstraint) (d : ℕ) (c : Counts) (ts : List Token) → starts (kind.Constraint ∷ kind.Primary ∷ kind.Not ∷ kind.Null ∷ kind.Unique ∷ kind.Check ∷ kind.Default ∷ kind.Collate ∷ []) ts ≡ false
-    → collected found (reads Name rules d column_constraints c ts) ≡ Done found c ts
-unfolding column_constraints
-constraints_end found d c ts none = many_end column_constraint d found c ts column_constraints_clear (rw first_column_constraint none)
-
-pub constraint_shorter : (d : ℕ) (c e : Counts) (ts rest : List Token) (a : ColumnConstraint) → reads Name rules d column_constraint c ts ≡ Done a e rest → length rest < length ts
-constraint_shorter d c e ts rest a is = takes_some Name rules clear rich column_constraint column_constraint_clear column_constraint_solid d c e ts rest a is
-
-pub ruleset constraints_steps = (constraints_start, constraints_next, constraints_end)
 
 -- ---- columns of keys
 

@@ -1,11 +1,10 @@
 pub mod Thens
 pub mod Clear
 pub mod Straight
+pub mod Lists
 pub mod Bracketed
-pub mod Assignments
 pub mod Constrained
 pub mod Elements
-pub mod Lists
 pub mod Indexed
 pub mod Triggered
 pub mod Pieces

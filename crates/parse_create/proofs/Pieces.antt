@@ -7,7 +7,7 @@ use Rattle.sql_tree.specs.Kinds.{same_kind}
 use Rattle.sql_tree.specs.declared.token.TokenKind.TheVariants as kind
 use Rattle.sql_grammar.specs.declared.counts.Counts.{Counts}
 use Rattle.sql_grammar.specs.declared.counts.Role.TheVariants as role
-use Rattle.sql_grammar.specs.Kinds.{argument_kinds}
+use Rattle.sql_grammar.specs.Kinds.{all_words, argument_kinds}
 use Rattle.sql_grammar.specs.Rules.{Kinds, has, starts, first, before, many, seq, reads, opening, one, Outcome, Done, Stop, ◌>>=◌}
 use Rattle.sql_grammar.specs.Grammar.{Name, after, name, names, span_of, balanced, in_brackets, module_arguments}
 use Rattle.sql_grammar.specs.Bodies.{rules}
@@ -15,17 +15,15 @@ use Rattle.sql_grammar.specs.Definitions.{argument_piece, inner_piece, inner_pie
 use Rattle.sql_grammar.proofs.ReadingLaws.{chosen, other}
 use Rattle.sql_grammar.proofs.Whole.{nest_is, many_is, takes_some}
 use Rattle.sql_grammar.proofs.Clear.{clear, rich}
-use Rattle.parse_cursor.specs.Gives.{collected}
-use Rattle.parse_cursor.proofs.Steps.{both_to, after_to, list_is, next_is, last_is, or_none_some, or_none_none}
-use Rattle.parse_create.specs.Arguments.{argument_token, closed, pieces, listed, more_arguments, without_nothing, in_arguments, some_arguments}
-use Rattle.parse_create.proofs.Clear.{first_argument_piece, first_inner_piece, argument_piece_clear, argument_piece_solid, argument_pieces_clear, inner_pieces_clear, more_arguments_clear}
+use Rattle.parse_cursor.specs.Items.{items}
+use Rattle.parse_cursor.specs.Parts.{any_word}
+use Rattle.parse_cursor.proofs.Steps.{both_to, after_to, or_none_some, or_none_none}
+use Rattle.parse_create.specs.Arguments.{argument_token, closed, marks, pieces, without_nothing, in_arguments, some_arguments}
+use Rattle.parse_create.proofs.Clear.{first_argument_piece, first_inner_piece, argument_piece_clear, argument_piece_solid, argument_pieces_clear, inner_pieces_clear}
+use Rattle.parse_create.proofs.Lists.{arguments_clear}
 use Rattle.parse_create.proofs.Thens.{then, then_on}
 
 -- ---- tokens
-
-pub argument_token_is : (d : ℕ) (c : Counts) (ts : List Token) → reads Name rules d argument_token c ts ≡ (one role.Outside argument_kinds c ts >>= λ t e rest. Done tt e rest)
-unfolding argument_token
-argument_token_is d c ts = refl
 
 has_append : (ks js : Kinds) (n : TokenKind) → has (ks ++ js) n ≡ (has ks n || has js n)
 has_append [] js n = refl
@@ -37,6 +35,47 @@ has_append (k ∷ ks) js n = of (same_kind n k) (has_append ks js n) where
 starts_append : (ks js : Kinds) (ts : List Token) → starts (ks ++ js) ts ≡ (starts ks ts || starts js ts)
 starts_append ks js [] = refl
 starts_append ks js (t ∷ ts) = has_append ks js t.kind
+
+-- words stand behind the first of these kinds, or at their end
+has_both : (k : TokenKind) (ks js : Kinds) (n : TokenKind) → has (k ∷ (ks ++ js)) n ≡ (has (k ∷ js) n || has ks n)
+has_both k ks js n = ap (λ b. same_kind n k || b) (has_append ks js n) ∙ turned (same_kind n k) (has ks n) (has js n) where
+  turned : (a b c : Bool) → (a || (b || c)) ≡ ((a || c) || b)
+  turned true b c = refl
+  turned false true true = refl
+  turned false true false = refl
+  turned false false true = refl
+  turned false false false = refl
+
+abbrev behind_first : Kinds → Kinds
+behind_first [] = []
+behind_first (k ∷ ks) = ks
+
+has_argument : (n : TokenKind) → has argument_kinds n ≡ (has all_words n || has marks n)
+has_argument n = has_both kind.Word marks (behind_first all_words) n
+
+pub token_starts : (ts : List Token) → starts (first argument_token) ts ≡ (starts (first any_word) ts || starts marks ts)
+unfolding argument_token any_word
+token_starts [] = refl
+token_starts (t ∷ ts) = has_argument t.kind
+
+one_alike : (ks js : Kinds) (c : Counts) (t : Token) (ts : List Token) → has ks t.kind ≡ has js t.kind → one role.Outside ks c (t ∷ ts) ≡ one role.Outside js c (t ∷ ts)
+one_alike ks js c t ts e = rw e refl
+
+pub token_word : (d : ℕ) (c : Counts) (ts : List Token) → starts (first any_word) ts ≡ true → reads Name rules d argument_token c ts ≡ (reads Name rules d any_word c ts >>= λ t e rest. Done tt e rest)
+unfolding argument_token any_word
+token_word d c [] here = cc here
+token_word d c (t ∷ ts) here =
+    let either : (has all_words t.kind || has marks t.kind) ≡ true = rw here refl in
+    ap (λ (o : Outcome Token). o >>= λ t e rest. Done tt e rest) (one_alike argument_kinds all_words c t ts (has_argument t.kind ∙ either ∙ sym here))
+
+pub token_mark : (d : ℕ) (c : Counts) (ts : List Token) → starts (first any_word) ts ≡ false → reads Name rules d argument_token c ts ≡ (one role.Outside marks c ts >>= λ t e rest. Done tt e rest)
+unfolding argument_token any_word
+token_mark d c [] none = refl
+token_mark d c (t ∷ ts) none =
+    let either : (has all_words t.kind || has marks t.kind) ≡ has marks t.kind = rw none refl in
+    ap (λ (o : Outcome Token). o >>= λ t e rest. Done tt e rest) (one_alike argument_kinds marks c t ts (has_argument t.kind ∙ either))
+
+pub ruleset token_steps = (token_word, token_mark)
 
 pub piece_starts : (ts : List Token) → starts (first argument_piece) ts ≡ (starts (first argument_token) ts || starts (kind.LeftParen ∷ []) ts)
 piece_starts ts = ap (λ (ks : Kinds). starts ks ts) first_argument_piece ∙ starts_append (first argument_token) (kind.LeftParen ∷ []) ts
@@ -146,28 +185,13 @@ module_argument_is d c ts = text_skipped ts (reads Name rules d (many argument_p
 
 -- ---- arguments
 
-pub listed_is : (d : ℕ) (c : Counts) (ts : List Token) → reads Name rules d listed c ts ≡ (reads Name rules d module_argument c ts >>= λ a e rest. collected (a ∷ []) (reads Name rules d more_arguments e rest))
-unfolding listed more_arguments
-listed_is d c ts = list_is module_argument d c ts
-
-pub listed_next : (found : List (Option Span)) (d : ℕ) (c : Counts) (ts : List Token) → starts (kind.Comma ∷ []) ts ≡ true
-    → collected found (reads Name rules d more_arguments c ts) ≡ (one role.Outside (kind.Comma ∷ []) c ts >>= λ t e rest. reads Name rules d module_argument e rest >>= λ a f end. collected (found ++ a ∷ []) (reads Name rules d more_arguments f end))
-unfolding more_arguments
-listed_next found d c ts here = next_is module_argument found d c ts more_arguments_clear here
-
-pub listed_end : (found : List (Option Span)) (d : ℕ) (c : Counts) (ts : List Token) → starts (kind.Comma ∷ []) ts ≡ false → collected found (reads Name rules d more_arguments c ts) ≡ Done found c ts
-unfolding more_arguments
-listed_end found d c ts none = last_is module_argument found d c ts more_arguments_clear none
-
-pub ruleset listed_steps = (listed_is, listed_next, listed_end)
-
 trimmed : (a : Option Span) (more : List (Option Span)) → arguments_of (a, more) ≡ without_nothing (a ∷ more)
 trimmed None [] = refl
 trimmed None (a ∷ more) = refl
 trimmed (Some a) more = refl
 
-pub all_arguments_is : (d : ℕ) (c : Counts) (ts : List Token) → reads Name rules d all_module_arguments c ts ≡ (reads Name rules d listed c ts >>= λ found e rest. Done (without_nothing found) e rest)
-unfolding all_module_arguments listed
+pub all_arguments_is : (d : ℕ) (c : Counts) (ts : List Token) → reads Name rules d all_module_arguments c ts ≡ (reads Name rules d (items module_argument) c ts >>= λ found e rest. Done (without_nothing found) e rest)
+unfolding all_module_arguments items
 all_arguments_is d c ts =
     both_to (reads Name rules d module_argument) (reads Name rules d (many (after role.Outside kind.Comma module_argument))) arguments_of c ts
     ∙ then (reads Name rules d module_argument c ts) _ _ (λ a e rest. then (reads Name rules d (many (after role.Outside kind.Comma module_argument)) e rest) _ _ (λ more f end. ap (λ (l : List (Option Span)). Done l f end) (trimmed a more)))
@@ -176,6 +200,8 @@ all_arguments_is d c ts =
       at_list : (o : Outcome (Option Span × List (Option Span))) → ((o >>= λ p e rest. Done (p.0 ∷ p.1) e rest) >>= λ found e rest. Done (without_nothing found) e rest) ≡ (o >>= λ p e rest. Done (without_nothing (p.0 ∷ p.1)) e rest)
       at_list (Done p e rest) = refl
       at_list (Stop w rest) = refl
+
+pub ruleset all_arguments_steps = (all_arguments_is, arguments_clear)
 
 pub in_arguments_is : (d : ℕ) (c : Counts) (ts : List Token) → reads Name rules d in_arguments c ts ≡ (opening d role.Opening (kind.LeftParen ∷ []) c ts >>= λ t e rest. reads Name rules (d - 1) all_module_arguments e rest >>= λ a f mid. one role.Closing (kind.RightParen ∷ []) f mid >>= λ z g end. Done a g end)
 unfolding in_arguments

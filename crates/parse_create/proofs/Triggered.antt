@@ -1,25 +1,20 @@
 -- What the parts of CREATE TRIGGER read, in the steps of the code.
-use Rattle.std.proofs.Common.{◌≡◌, ℕ, ◌<◌, length, ap, arith, true, false, List, [], ◌∷◌, ◌++◌, ◌∙◌}
-use Rattle.sql_tree.specs.declared.statement.RowCommand.{RowCommand}
+use Rattle.std.proofs.Common.{◌≡◌, ℕ, true, false, List, [], ◌∷◌, ◌∙◌}
 use Rattle.sql_tree.specs.declared.statement.TriggerEvent.TheVariants as event
 use Rattle.sql_tree.specs.declared.statement.TriggerTime.TheVariants as time
 use Rattle.sql_tree.specs.declared.token.Token.{Token}
 use Rattle.sql_tree.specs.declared.token.TokenKind.TheVariants as kind
 use Rattle.sql_grammar.specs.declared.counts.Counts.{Counts}
 use Rattle.sql_grammar.specs.declared.counts.Role.TheVariants as role
-use Rattle.sql_grammar.specs.Rules.{tok, seq, starts, first, reads, one, Parser, Outcome, Done, ◌>>=◌}
+use Rattle.sql_grammar.specs.Rules.{tok, seq, starts, reads, one, Done, ◌>>=◌}
 use Rattle.sql_grammar.specs.Grammar.{Name, after, name, names}
 use Rattle.sql_grammar.specs.Bodies.{rules}
 use Rattle.sql_grammar.specs.Writes.{row_command}
-use Rattle.sql_grammar.specs.Definitions.{instead_of, trigger_time, all_names, of_columns, trigger_event, for_each_row, when, body_command, body_commands, trigger_body, trigger_parts}
+use Rattle.sql_grammar.specs.Definitions.{instead_of, trigger_time, all_names, of_columns, trigger_event, for_each_row, when, body_command, trigger_body, trigger_parts}
 use Rattle.sql_grammar.proofs.ReadingLaws.{chosen, other}
-use Rattle.sql_grammar.proofs.Whole.{no_longer}
-use Rattle.sql_grammar.proofs.Clear.{clear, rich}
-use Rattle.parse_cursor.specs.Gives.{collected}
-use Rattle.parse_cursor.proofs.Steps.{both_to, four_to, after_is, after_to, or_none_some, or_none_none, many_step, many_end, one_shorter}
-use Rattle.parse_create.specs.Parts.{on_table, more_commands}
-use Rattle.parse_create.proofs.Clear.{row_command_clear, more_commands_clear, first_body_command}
-use Rattle.parse_create.proofs.Thens.{then, then_on}
+use Rattle.parse_cursor.proofs.Steps.{both_to, four_to, after_is, after_to, or_none_some, or_none_none}
+use Rattle.parse_create.specs.Parts.{on_table}
+use Rattle.parse_create.proofs.Thens.{then}
 
 -- ---- when
 
@@ -82,38 +77,9 @@ pub ruleset rows = (each_row, no_row)
 
 -- ---- what is done
 
-body_command_is : (d : ℕ) (c : Counts) (ts : List Token) → reads Name rules d body_command c ts ≡ (reads Name rules d row_command c ts >>= λ a e rest. one role.Fresh (kind.Semicolon ∷ []) e rest >>= λ t f end. Done a f end)
+pub body_command_is : (d : ℕ) (c : Counts) (ts : List Token) → reads Name rules d body_command c ts ≡ (reads Name rules d row_command c ts >>= λ a e rest. one role.Fresh (kind.Semicolon ∷ []) e rest >>= λ t f end. Done a f end)
 unfolding body_command
 body_command_is d c ts = both_to (reads Name rules d row_command) (one role.Fresh (kind.Semicolon ∷ [])) (λ p. p.0) c ts
-
--- a command, its semicolon and what goes on
-ended : {A : Type 0} (d : ℕ) (c : Counts) (ts : List Token) (k : RowCommand → Parser A)
-    → (reads Name rules d body_command c ts >>= k) ≡ (reads Name rules d row_command c ts >>= λ a e rest. one role.Fresh (kind.Semicolon ∷ []) e rest >>= λ t f end. k a f end)
-ended {A} d c ts k =
-    ap (λ (o : Outcome RowCommand). o >>= k) (body_command_is d c ts)
-    ∙ then_on (reads Name rules d row_command c ts) (λ a e rest. one role.Fresh (kind.Semicolon ∷ []) e rest >>= λ t f end. Done a f end) k
-    ∙ then (reads Name rules d row_command c ts) _ _ (λ a e rest. then_on (one role.Fresh (kind.Semicolon ∷ []) e rest) (λ t f end. Done a f end) k)
-
-pub commands_is : (d : ℕ) (c : Counts) (ts : List Token) → reads Name rules d body_commands c ts
-    ≡ (reads Name rules d row_command c ts >>= λ a e rest. one role.Fresh (kind.Semicolon ∷ []) e rest >>= λ t f mid. collected (a ∷ []) (reads Name rules d more_commands f mid))
-unfolding body_commands more_commands
-commands_is d c ts = both_to (reads Name rules d body_command) (reads Name rules d more_commands) (λ p. p.0 ∷ p.1) c ts ∙ ended d c ts (λ a e rest. collected (a ∷ []) (reads Name rules d more_commands e rest))
-
-pub commands_next : (found : List RowCommand) (d : ℕ) (c : Counts) (ts : List Token) → starts (first row_command) ts ≡ true
-    → collected found (reads Name rules d more_commands c ts) ≡ (reads Name rules d row_command c ts >>= λ a e rest. one role.Fresh (kind.Semicolon ∷ []) e rest >>= λ t f mid. collected (found ++ a ∷ []) (reads Name rules d more_commands f mid))
-unfolding more_commands
-commands_next found d c ts here = many_step body_command d found c ts more_commands_clear (rw first_body_command here) ∙ ended d c ts (λ a e rest. collected (found ++ a ∷ []) (reads Name rules d more_commands e rest))
-
-pub commands_end : (found : List RowCommand) (d : ℕ) (c : Counts) (ts : List Token) → starts (first row_command) ts ≡ false
-    → collected found (reads Name rules d more_commands c ts) ≡ Done found c ts
-unfolding more_commands
-commands_end found d c ts none = many_end body_command d found c ts more_commands_clear (rw first_body_command none)
-
--- a command and its semicolon take tokens
-pub command_shorter : (d : ℕ) (c e f : Counts) (ts mid rest : List Token) (a : RowCommand) (t : Token) → reads Name rules d row_command c ts ≡ Done a e mid → one role.Fresh (kind.Semicolon ∷ []) e mid ≡ Done t f rest → length rest < length ts
-command_shorter d c e f ts mid rest a t is g = omega (arith, one_shorter role.Fresh (kind.Semicolon ∷ []) e f mid rest t g, no_longer Name rules clear rich row_command row_command_clear d c e ts mid a is)
-
-pub ruleset commands_steps = (commands_is, commands_next, commands_end)
 
 -- ---- all of it
 

@@ -4,9 +4,13 @@ use Rattle.sql_tree.specs.declared.token.Span.{Span}
 use Rattle.sql_tree.specs.declared.token.TokenKind.TheVariants as kind
 use Rattle.sql_grammar.specs.declared.counts.Role.TheVariants as role
 use Rattle.sql_grammar.specs.Kinds.{argument_kinds}
-use Rattle.sql_grammar.specs.Rules.{tok, many, to, Outcome, Done, one, ◌>>=◌}
-use Rattle.sql_grammar.specs.Grammar.{Of, maybe, after, list_of, in_brackets, or_none, module_arguments}
-use Rattle.sql_grammar.specs.Definitions.{argument_piece, module_argument}
+use Rattle.sql_grammar.specs.Rules.{Kinds, tok, many, to, Outcome, Done, one, ◌>>=◌}
+use Rattle.sql_grammar.specs.Grammar.{Of, maybe, in_brackets, or_none, module_arguments}
+use Rattle.sql_grammar.specs.Definitions.{argument_piece}
+
+-- what an argument is made of, beside words and what stands in parentheses
+abbrev pub marks : Kinds
+marks = kind.QuotedName ∷ kind.Text ∷ kind.Blob ∷ kind.Number ∷ kind.Parameter ∷ kind.Dot ∷ kind.Star ∷ kind.Plus ∷ kind.Minus ∷ kind.Slash ∷ kind.Percent ∷ kind.Ampersand ∷ kind.Bar ∷ kind.Tilde ∷ kind.ShiftLeft ∷ kind.ShiftRight ∷ kind.DoubleBar ∷ kind.Less ∷ kind.LessEqual ∷ kind.Greater ∷ kind.GreaterEqual ∷ kind.Equal ∷ kind.DoubleEqual ∷ kind.LessGreater ∷ kind.BangEqual ∷ []
 
 -- a token that an argument is made of
 unfoldable pub argument_token : Of (Unit {0})
@@ -19,14 +23,6 @@ closed o = o >>= λ x c rest. one role.Closing (kind.RightParen ∷ []) c rest >
 -- {piece}
 unfoldable pub pieces : Of (Unit {0})
 pieces = to (λ x. tt) (many argument_piece)
-
--- argument {"," argument}
-unfoldable pub listed : Of (List (Option Span))
-listed = list_of module_argument
-
--- {"," argument}
-unfoldable pub more_arguments : Of (List (Option Span))
-more_arguments = many (after role.Outside kind.Comma module_argument)
 
 -- nothing between the parentheses is no argument
 abbrev pub without_nothing : List (Option Span) → List (Option Span)

@@ -9,7 +9,8 @@ ghost use Rattle.sql_grammar.specs.Rules.{reads};
 ghost use Rattle.parse_cursor.specs.Gives.{Gives};
 ghost use Rattle.parse_create.specs.Parts as part;
 
-use parse_cursor::{Cursor, ParseError, given_word, name, signed};
+use crate::readers::Elements;
+use parse_cursor::{Cursor, Element, ParseError, given_word, name, several, signed};
 use parse_query::expr;
 use sql_grammar::Role;
 use sql_tree::{ColumnConstraint, Expr, SignedNumber, Token, TokenKind, UnaryOp};
@@ -44,8 +45,7 @@ fn in_expression(alloc: Global, tokens: &mut Cursor<'_>, depth: usize) -> Result
 {
     tokens.open(depth, TokenKind::LeftParen, Role::Opening)?;
     let found = expr(alloc, tokens, depth - 1)?;
-    tokens.expect(TokenKind::RightParen, Role::Closing)?;
-    Ok(found)
+    tokens.close(found, TokenKind::RightParen, Role::Closing)
 }
 
 /// `CHECK ( expr )`
@@ -183,21 +183,23 @@ pub(crate) fn constraint_name(tokens: &mut Cursor<'_>) -> Result<Option<Token>, 
     }
 }
 
-/// A constraint of a column, whose name means nothing.
-#[tactic(auto, unfolding(sql_grammar::specs::Definitions::column_constraint))]
-fn column_constraint(
-    alloc: Global,
-    tokens: &mut Cursor<'_>,
-    depth: usize,
-) -> Result<ColumnConstraint, ParseError>
-    ensures { Gives (reads Name rules depth spec.column_constraint tokens.old.counts tokens.old.rest.now) result tokens.new.counts tokens.new.rest.now }
-{
-    constraint_name(tokens)?;
-    column_rule(alloc, tokens, depth)
+/// Constraints of a column, whose names mean nothing.
+impl Element<ColumnConstraint> for Elements {
+    ghost is_ready = { λ it. Unit {0} };
+
+    ghost rule = { λ it. spec.column_constraint };
+
+    ghost depth = { λ it. it.depth };
+
+    #[tactic(auto, unfolding(sql_grammar::specs::Definitions::column_constraint))]
+    fn read(&self, tokens: &mut Cursor<'_>) -> Result<ColumnConstraint, ParseError> {
+        constraint_name(tokens)?;
+        column_rule(self.alloc, tokens, self.depth)
+    }
 }
 
 /// `{constraint}`
-#[tactic(auto, using(crate::proofs::Constrained::constraints_steps))]
+#[tactic(auto, using(crate::proofs::Lists::constraints_steps))]
 pub(crate) fn column_constraints(
     alloc: Global,
     tokens: &mut Cursor<'_>,
@@ -205,9 +207,9 @@ pub(crate) fn column_constraints(
 ) -> Result<Items<ColumnConstraint>, ParseError>
     ensures { Gives (reads Name rules depth part.column_constraints tokens.old.counts tokens.old.rest.now) result tokens.new.counts tokens.new.rest.now }
 {
-    let mut found = Items::new(alloc);
-    while tokens.sees_any(&STARTS) {
-        found.push(column_constraint(alloc, tokens, depth)?)?;
+    if tokens.sees_any(&STARTS) {
+        several(alloc, tokens, &STARTS, &Elements { alloc, depth })
+    } else {
+        Ok(Items::new(alloc))
     }
-    Ok(found)
 }

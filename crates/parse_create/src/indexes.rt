@@ -10,7 +10,7 @@ ghost use Rattle.parse_cursor.specs.Gives.{Gives};
 ghost use Rattle.parse_create.specs.Parts as part;
 
 use crate::tables::{Named, header, key_collation};
-use parse_cursor::{Cursor, ParseError, column_names, given_word, name};
+use parse_cursor::{Cursor, Element, ParseError, column_names, given_word, list, name};
 use parse_query::query;
 use sql_grammar::Role;
 use sql_tree::{Definition, IndexDefinition, IndexedColumn, Token, TokenKind, ViewDefinition};
@@ -32,40 +32,31 @@ fn direction(tokens: &mut Cursor<'_>) -> Result<bool, ParseError>
     Ok(false)
 }
 
-/// `name [COLLATE name] [ASC | DESC]`
-#[tactic(auto, using(crate::proofs::Indexed::index_column_is))]
-fn index_column(tokens: &mut Cursor<'_>) -> Result<IndexedColumn, ParseError>
-    ensures { (d : ℕ) → Gives (reads Name rules d spec.index_column tokens.old.counts tokens.old.rest.now) result tokens.new.counts tokens.new.rest.now }
-{
-    let name = name(tokens)?;
-    let collation = key_collation(tokens)?;
-    let descending = direction(tokens)?;
-    Ok(IndexedColumn {
-        name,
-        collation,
-        descending,
-    })
-}
+/// `name [COLLATE name] [ASC | DESC]`, in lists.
+struct IndexColumns;
 
-/// `column {, column}` of an index
-#[tactic(auto, using(crate::proofs::Lists::index_columns_steps))]
-fn all_index_columns(
-    alloc: Global,
-    tokens: &mut Cursor<'_>,
-) -> Result<Items<IndexedColumn>, ParseError>
-    ensures { (d : ℕ) → Gives (reads Name rules d spec.all_index_columns tokens.old.counts tokens.old.rest.now) result tokens.new.counts tokens.new.rest.now }
-{
-    let mut found = Items::new(alloc);
-    found.push(index_column(tokens)?)?;
-    while tokens.sees(TokenKind::Comma) {
-        tokens.expect(TokenKind::Comma, Role::Outside)?;
-        found.push(index_column(tokens)?)?;
+impl Element<IndexedColumn> for IndexColumns {
+    ghost is_ready = { λ it. Unit {0} };
+
+    ghost rule = { λ it. spec.index_column };
+
+    ghost depth = { λ it. 0 };
+
+    #[tactic(auto, using(crate::proofs::Indexed::index_column_is))]
+    fn read(&self, tokens: &mut Cursor<'_>) -> Result<IndexedColumn, ParseError> {
+        let name = name(tokens)?;
+        let collation = key_collation(tokens)?;
+        let descending = direction(tokens)?;
+        Ok(IndexedColumn {
+            name,
+            collation,
+            descending,
+        })
     }
-    Ok(found)
 }
 
 /// `( column {, column} )` of an index
-#[tactic(auto, using(crate::proofs::Bracketed::in_index_is))]
+#[tactic(auto, using(crate::proofs::Bracketed::in_index_steps))]
 fn in_index(
     alloc: Global,
     tokens: &mut Cursor<'_>,
@@ -74,9 +65,8 @@ fn in_index(
     ensures { Gives (reads Name rules depth part.in_index tokens.old.counts tokens.old.rest.now) result tokens.new.counts tokens.new.rest.now }
 {
     tokens.open(depth, TokenKind::LeftParen, Role::Opening)?;
-    let columns = all_index_columns(alloc, tokens)?;
-    tokens.expect(TokenKind::RightParen, Role::Closing)?;
-    Ok(columns)
+    let columns = list(alloc, tokens, &IndexColumns)?;
+    tokens.close(columns, TokenKind::RightParen, Role::Closing)
 }
 
 /// `ON name ( .. )`

@@ -8,16 +8,16 @@ ghost use Rattle.sql_grammar.specs.Rules.{reads, before, first, starts};
 ghost use Rattle.parse_cursor.specs.Gives.{Gives};
 ghost use Rattle.parse_create.specs.Arguments as arguments;
 
+use crate::readers::Elements;
 use crate::tables::{Named, header};
-use parse_cursor::{Cursor, ParseError, name, text_before};
+use parse_cursor::{Cursor, Element, ParseError, any_word, list, name, sees_word, text_before};
 use sql_grammar::Role;
 use sql_tree::{Definition, Span, Token, TokenKind, VirtualTableDefinition};
 use sqlite_items::Items;
 use std::alloc::Global;
 
-/// What an argument is made of, beside what stands in parentheses.
-const ARGUMENTS: [TokenKind; 131] = [
-    TokenKind::Word,
+/// What an argument is made of, beside words and what stands in parentheses.
+const MARKS: [TokenKind; 25] = [
     TokenKind::QuotedName,
     TokenKind::Text,
     TokenKind::Blob,
@@ -43,127 +43,26 @@ const ARGUMENTS: [TokenKind; 131] = [
     TokenKind::DoubleEqual,
     TokenKind::LessGreater,
     TokenKind::BangEqual,
-    TokenKind::All,
-    TokenKind::And,
-    TokenKind::As,
-    TokenKind::Autoincrement,
-    TokenKind::Between,
-    TokenKind::Case,
-    TokenKind::Cast,
-    TokenKind::Check,
-    TokenKind::Collate,
-    TokenKind::Commit,
-    TokenKind::Constraint,
-    TokenKind::Create,
-    TokenKind::Cross,
-    TokenKind::Default,
-    TokenKind::Delete,
-    TokenKind::Distinct,
-    TokenKind::Drop,
-    TokenKind::Else,
-    TokenKind::End,
-    TokenKind::Escape,
-    TokenKind::Except,
-    TokenKind::Exists,
-    TokenKind::False,
-    TokenKind::Filter,
-    TokenKind::From,
-    TokenKind::Full,
-    TokenKind::Glob,
-    TokenKind::Group,
-    TokenKind::Having,
-    TokenKind::If,
-    TokenKind::In,
-    TokenKind::Index,
-    TokenKind::Inner,
-    TokenKind::Insert,
-    TokenKind::Intersect,
-    TokenKind::Into,
-    TokenKind::Is,
-    TokenKind::IsNull,
-    TokenKind::Join,
-    TokenKind::Left,
-    TokenKind::Like,
-    TokenKind::Limit,
-    TokenKind::Natural,
-    TokenKind::Not,
-    TokenKind::NotNull,
-    TokenKind::Null,
-    TokenKind::On,
-    TokenKind::Or,
-    TokenKind::Order,
-    TokenKind::Outer,
-    TokenKind::Over,
-    TokenKind::Primary,
-    TokenKind::Raise,
-    TokenKind::Recursive,
-    TokenKind::References,
-    TokenKind::Returning,
-    TokenKind::Right,
-    TokenKind::Savepoint,
-    TokenKind::Select,
-    TokenKind::Set,
-    TokenKind::Table,
-    TokenKind::Then,
-    TokenKind::To,
-    TokenKind::Transaction,
-    TokenKind::True,
-    TokenKind::Union,
-    TokenKind::Unique,
-    TokenKind::Update,
-    TokenKind::Using,
-    TokenKind::Values,
-    TokenKind::When,
-    TokenKind::Where,
-    TokenKind::Window,
-    TokenKind::With,
-    TokenKind::Abort,
-    TokenKind::After,
-    TokenKind::Asc,
-    TokenKind::Before,
-    TokenKind::Begin,
-    TokenKind::By,
-    TokenKind::Deferred,
-    TokenKind::Desc,
-    TokenKind::Each,
-    TokenKind::Exclusive,
-    TokenKind::Explain,
-    TokenKind::First,
-    TokenKind::For,
-    TokenKind::Ignore,
-    TokenKind::Immediate,
-    TokenKind::Instead,
-    TokenKind::Key,
-    TokenKind::Last,
-    TokenKind::Nulls,
-    TokenKind::Of,
-    TokenKind::Offset,
-    TokenKind::Plan,
-    TokenKind::Pragma,
-    TokenKind::Query,
-    TokenKind::Release,
-    TokenKind::Replace,
-    TokenKind::Rollback,
-    TokenKind::Row,
-    TokenKind::Trigger,
-    TokenKind::View,
-    TokenKind::Virtual,
 ];
 
 /// Whether a token comes next that an argument is made of.
-#[tactic(auto, using(crate::proofs::Clear::first_argument_token))]
+#[tactic(auto, using(crate::proofs::Pieces::token_starts))]
 fn sees_argument_token(tokens: &Cursor<'_>) -> bool
     ensures { result ≡ starts (first arguments.argument_token) tokens.now.rest.now }
 {
-    tokens.sees_any(&ARGUMENTS)
+    sees_word(tokens) || tokens.sees_any(&MARKS)
 }
 
 /// A token that an argument is made of.
-#[tactic(auto, using(crate::proofs::Pieces::argument_token_is))]
+#[tactic(auto, using(crate::proofs::Pieces::token_steps))]
 fn argument_token(tokens: &mut Cursor<'_>) -> Result<(), ParseError>
     ensures { (d : ℕ) → Gives (reads Name rules d arguments.argument_token tokens.old.counts tokens.old.rest.now) result tokens.new.counts tokens.new.rest.now }
 {
-    tokens.expect_any(&ARGUMENTS, Role::Outside)?;
+    if sees_word(tokens) {
+        any_word(tokens)?;
+    } else {
+        tokens.expect_any(&MARKS, Role::Outside)?;
+    }
     Ok(())
 }
 
@@ -220,32 +119,20 @@ fn text_between(tokens: &[Token], rest: &[Token]) -> Option<Span>
     }
 }
 
-/// The text of an argument, which may have no token.
-#[tactic(auto, using(crate::proofs::Pieces::module_argument_is))]
-fn module_argument(tokens: &mut Cursor<'_>, depth: usize) -> Result<Option<Span>, ParseError>
-    ensures { Gives (reads Name rules depth spec.module_argument tokens.old.counts tokens.old.rest.now) result tokens.new.counts tokens.new.rest.now }
-{
-    let start = tokens.rest;
-    argument_pieces(tokens, depth)?;
-    Ok(text_between(start, tokens.rest))
-}
+/// The texts of arguments, each of which may have no token.
+impl Element<Option<Span>> for Elements {
+    ghost is_ready = { λ it. Unit {0} };
 
-/// `argument {, argument}`
-#[tactic(auto, using(crate::proofs::Pieces::listed_steps))]
-fn listed_arguments(
-    alloc: Global,
-    tokens: &mut Cursor<'_>,
-    depth: usize,
-) -> Result<Items<Option<Span>>, ParseError>
-    ensures { Gives (reads Name rules depth arguments.listed tokens.old.counts tokens.old.rest.now) result tokens.new.counts tokens.new.rest.now }
-{
-    let mut found = Items::new(alloc);
-    found.push(module_argument(tokens, depth)?)?;
-    while tokens.sees(TokenKind::Comma) {
-        tokens.expect(TokenKind::Comma, Role::Outside)?;
-        found.push(module_argument(tokens, depth)?)?;
+    ghost rule = { λ it. spec.module_argument };
+
+    ghost depth = { λ it. it.depth };
+
+    #[tactic(auto, using(crate::proofs::Pieces::module_argument_is))]
+    fn read(&self, tokens: &mut Cursor<'_>) -> Result<Option<Span>, ParseError> {
+        let start = tokens.rest;
+        argument_pieces(tokens, self.depth)?;
+        Ok(text_between(start, tokens.rest))
     }
-    Ok(found)
 }
 
 /// These arguments; nothing between the parentheses is no argument.
@@ -259,7 +146,7 @@ fn without_nothing(alloc: Global, found: Items<Option<Span>>) -> Items<Option<Sp
 }
 
 /// `argument {, argument}`, or nothing
-#[tactic(auto, using(crate::proofs::Pieces::all_arguments_is))]
+#[tactic(auto, using(crate::proofs::Pieces::all_arguments_steps))]
 fn all_arguments(
     alloc: Global,
     tokens: &mut Cursor<'_>,
@@ -267,7 +154,7 @@ fn all_arguments(
 ) -> Result<Items<Option<Span>>, ParseError>
     ensures { Gives (reads Name rules depth spec.all_module_arguments tokens.old.counts tokens.old.rest.now) result tokens.new.counts tokens.new.rest.now }
 {
-    let found = listed_arguments(alloc, tokens, depth)?;
+    let found = list(alloc, tokens, &Elements { alloc, depth })?;
     Ok(without_nothing(alloc, found))
 }
 
@@ -282,8 +169,7 @@ fn in_arguments(
 {
     tokens.open(depth, TokenKind::LeftParen, Role::Opening)?;
     let found = all_arguments(alloc, tokens, depth - 1)?;
-    tokens.expect(TokenKind::RightParen, Role::Closing)?;
-    Ok(found)
+    tokens.close(found, TokenKind::RightParen, Role::Closing)
 }
 
 /// `[( argument {, argument} )]`

@@ -9,7 +9,7 @@ ghost use Rattle.parse_cursor.specs.Gives.{Gives};
 ghost use Rattle.parse_create.specs.Parts as part;
 
 use crate::constraints::{check, collate, column_constraints, constraint_name, primary_key};
-use parse_cursor::{Cursor, ParseError, given_word, name, sees_name, type_name};
+use parse_cursor::{Cursor, Element, ParseError, given_word, list, name, sees_name, type_name};
 use sql_grammar::Role;
 use sql_tree::{
     ColumnDefinition, Definition, IndexedColumn, TableConstraint, TableDefinition, Token,
@@ -68,40 +68,31 @@ pub(crate) fn key_collation(tokens: &mut Cursor<'_>) -> Result<Option<Token>, Pa
     }
 }
 
-/// `name [COLLATE name] [ASC]`
-#[tactic(auto, using(crate::proofs::Constrained::key_column_is))]
-fn key_column(tokens: &mut Cursor<'_>) -> Result<IndexedColumn, ParseError>
-    ensures { (d : ℕ) → Gives (reads Name rules d spec.key_column tokens.old.counts tokens.old.rest.now) result tokens.new.counts tokens.new.rest.now }
-{
-    let name = name(tokens)?;
-    let collation = key_collation(tokens)?;
-    given_word(tokens, TokenKind::Asc)?;
-    Ok(IndexedColumn {
-        name,
-        collation,
-        descending: false,
-    })
-}
+/// `name [COLLATE name] [ASC]`, in lists.
+struct KeyColumns;
 
-/// `column {, column}` of a key
-#[tactic(auto, using(crate::proofs::Lists::key_columns_steps))]
-fn all_key_columns(
-    alloc: Global,
-    tokens: &mut Cursor<'_>,
-) -> Result<Items<IndexedColumn>, ParseError>
-    ensures { (d : ℕ) → Gives (reads Name rules d spec.all_key_columns tokens.old.counts tokens.old.rest.now) result tokens.new.counts tokens.new.rest.now }
-{
-    let mut found = Items::new(alloc);
-    found.push(key_column(tokens)?)?;
-    while tokens.sees(TokenKind::Comma) {
-        tokens.expect(TokenKind::Comma, Role::Outside)?;
-        found.push(key_column(tokens)?)?;
+impl Element<IndexedColumn> for KeyColumns {
+    ghost is_ready = { λ it. Unit {0} };
+
+    ghost rule = { λ it. spec.key_column };
+
+    ghost depth = { λ it. 0 };
+
+    #[tactic(auto, using(crate::proofs::Constrained::key_column_is))]
+    fn read(&self, tokens: &mut Cursor<'_>) -> Result<IndexedColumn, ParseError> {
+        let name = name(tokens)?;
+        let collation = key_collation(tokens)?;
+        given_word(tokens, TokenKind::Asc)?;
+        Ok(IndexedColumn {
+            name,
+            collation,
+            descending: false,
+        })
     }
-    Ok(found)
 }
 
 /// `( column {, column} )` of a key
-#[tactic(auto, using(crate::proofs::Bracketed::in_key_is))]
+#[tactic(auto, using(crate::proofs::Bracketed::in_key_steps))]
 fn in_key(
     alloc: Global,
     tokens: &mut Cursor<'_>,
@@ -110,9 +101,8 @@ fn in_key(
     ensures { Gives (reads Name rules depth spec.in_key tokens.old.counts tokens.old.rest.now) result tokens.new.counts tokens.new.rest.now }
 {
     tokens.open(depth, TokenKind::LeftParen, Role::Opening)?;
-    let columns = all_key_columns(alloc, tokens)?;
-    tokens.expect(TokenKind::RightParen, Role::Closing)?;
-    Ok(columns)
+    let columns = list(alloc, tokens, &KeyColumns)?;
+    tokens.close(columns, TokenKind::RightParen, Role::Closing)
 }
 
 /// `PRIMARY KEY ( .. ) | UNIQUE ( .. ) | CHECK ( expr )`
@@ -185,8 +175,7 @@ fn in_columns(
 {
     tokens.open(depth, TokenKind::LeftParen, Role::Opening)?;
     let columns = all_columns(alloc, tokens, depth - 1)?;
-    tokens.expect(TokenKind::RightParen, Role::Closing)?;
-    Ok(columns)
+    tokens.close(columns, TokenKind::RightParen, Role::Closing)
 }
 
 /// `[IF NOT EXISTS]`

@@ -8,9 +8,10 @@ ghost use Rattle.sql_grammar.specs.Rules.{reads};
 ghost use Rattle.parse_cursor.specs.Gives.{Gives};
 ghost use Rattle.parse_create.specs.Parts as part;
 
+use crate::readers::Elements;
 use crate::tables::{Named, header};
-use crate::writes::{row_command, sees_row_command};
-use parse_cursor::{Cursor, ParseError, all_names, name};
+use crate::writes::{STARTS, row_command};
+use parse_cursor::{Cursor, Element, ParseError, all_names, name, several};
 use parse_query::expr;
 use sql_grammar::Role;
 use sql_tree::{
@@ -105,8 +106,24 @@ fn when(alloc: Global, tokens: &mut Cursor<'_>, depth: usize) -> Result<Option<E
     }
 }
 
+/// `command ;`, in lists.
+impl Element<RowCommand> for Elements {
+    ghost is_ready = { λ it. Unit {0} };
+
+    ghost rule = { λ it. spec.body_command };
+
+    ghost depth = { λ it. it.depth };
+
+    #[tactic(auto, using(crate::proofs::Triggered::body_command_is))]
+    fn read(&self, tokens: &mut Cursor<'_>) -> Result<RowCommand, ParseError> {
+        let command = row_command(self.alloc, tokens, self.depth)?;
+        tokens.expect(TokenKind::Semicolon, Role::Fresh)?;
+        Ok(command)
+    }
+}
+
 /// `command ; {command ;}`
-#[tactic(auto, using(crate::proofs::Triggered::commands_steps))]
+#[tactic(auto, using(crate::proofs::Lists::commands_steps))]
 fn body_commands(
     alloc: Global,
     tokens: &mut Cursor<'_>,
@@ -114,14 +131,7 @@ fn body_commands(
 ) -> Result<Items<RowCommand>, ParseError>
     ensures { Gives (reads Name rules depth spec.body_commands tokens.old.counts tokens.old.rest.now) result tokens.new.counts tokens.new.rest.now }
 {
-    let mut found = Items::new(alloc);
-    found.push(row_command(alloc, tokens, depth)?)?;
-    tokens.expect(TokenKind::Semicolon, Role::Fresh)?;
-    while sees_row_command(tokens) {
-        found.push(row_command(alloc, tokens, depth)?)?;
-        tokens.expect(TokenKind::Semicolon, Role::Fresh)?;
-    }
-    Ok(found)
+    several(alloc, tokens, &STARTS, &Elements { alloc, depth })
 }
 
 /// `BEGIN command ; {command ;} END`
@@ -135,8 +145,7 @@ fn trigger_body(
 {
     tokens.expect(TokenKind::Begin, Role::Fresh)?;
     let commands = body_commands(alloc, tokens, depth)?;
-    tokens.expect(TokenKind::End, Role::Outside)?;
-    Ok(commands)
+    tokens.close(commands, TokenKind::End, Role::Outside)
 }
 
 /// `[time] event ON name [FOR EACH ROW] [WHEN expr] BEGIN .. END`

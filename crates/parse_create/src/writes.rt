@@ -8,7 +8,8 @@ ghost use Rattle.sql_grammar.specs.Rules.{reads, first, starts};
 ghost use Rattle.sql_grammar.specs.Writes as spec;
 ghost use Rattle.parse_cursor.specs.Gives.{Gives};
 
-use parse_cursor::{Cursor, ParseError, column_names, name};
+use crate::readers::Elements;
+use parse_cursor::{Cursor, Element, ParseError, column_names, list, name};
 use parse_query::{expr, filter_by, query};
 use sql_grammar::Role;
 use sql_tree::{
@@ -18,7 +19,7 @@ use sqlite_items::Items;
 use std::alloc::Global;
 
 /// What a command that reads or changes rows begins with.
-const STARTS: [TokenKind; 7] = [
+pub(crate) const STARTS: [TokenKind; 7] = [
     TokenKind::With,
     TokenKind::Select,
     TokenKind::Values,
@@ -113,23 +114,25 @@ fn insert(alloc: Global, tokens: &mut Cursor<'_>, depth: usize) -> Result<Insert
     })
 }
 
-/// `name = expr`
-#[tactic(auto, unfolding(sql_grammar::specs::Writes::assignment))]
-fn assignment(
-    alloc: Global,
-    tokens: &mut Cursor<'_>,
-    depth: usize,
-) -> Result<Assignment, ParseError>
-    ensures { Gives (reads Name rules depth spec.assignment tokens.old.counts tokens.old.rest.now) result tokens.new.counts tokens.new.rest.now }
-{
-    let column = name(tokens)?;
-    tokens.expect(TokenKind::Equal, Role::Outside)?;
-    let value = expr(alloc, tokens, depth)?;
-    Ok(Assignment { column, value })
+/// `name = expr`, in lists.
+impl Element<Assignment> for Elements {
+    ghost is_ready = { λ it. Unit {0} };
+
+    ghost rule = { λ it. spec.assignment };
+
+    ghost depth = { λ it. it.depth };
+
+    #[tactic(auto, unfolding(sql_grammar::specs::Writes::assignment))]
+    fn read(&self, tokens: &mut Cursor<'_>) -> Result<Assignment, ParseError> {
+        let column = name(tokens)?;
+        tokens.expect(TokenKind::Equal, Role::Outside)?;
+        let value = expr(self.alloc, tokens, self.depth)?;
+        Ok(Assignment { column, value })
+    }
 }
 
 /// `assignment {, assignment}`
-#[tactic(auto, using(crate::proofs::Assignments::assignments_steps))]
+#[tactic(auto, using(crate::proofs::Lists::assignments_steps))]
 fn assignments(
     alloc: Global,
     tokens: &mut Cursor<'_>,
@@ -137,17 +140,11 @@ fn assignments(
 ) -> Result<Items<Assignment>, ParseError>
     ensures { Gives (reads Name rules depth spec.assignments tokens.old.counts tokens.old.rest.now) result tokens.new.counts tokens.new.rest.now }
 {
-    let mut found = Items::new(alloc);
-    found.push(assignment(alloc, tokens, depth)?)?;
-    while tokens.sees(TokenKind::Comma) {
-        tokens.expect(TokenKind::Comma, Role::Outside)?;
-        found.push(assignment(alloc, tokens, depth)?)?;
-    }
-    Ok(found)
+    list(alloc, tokens, &Elements { alloc, depth })
 }
 
 /// `UPDATE [OR choice] name SET assignment {, assignment} [WHERE expr]` (UPDATE)
-#[tactic(auto, unfolding(sql_grammar::specs::Writes::update, sql_grammar::specs::Writes::update_parts))]
+#[tactic(auto, using(crate::proofs::Straight::update_is))]
 fn update(alloc: Global, tokens: &mut Cursor<'_>, depth: usize) -> Result<Update, ParseError>
     ensures { Gives (reads Name rules depth spec.update tokens.old.counts tokens.old.rest.now) result tokens.new.counts tokens.new.rest.now }
 {

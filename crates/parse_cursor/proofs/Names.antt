@@ -5,14 +5,15 @@ use Rattle.sql_tree.specs.declared.token.TokenKind.{TokenKind}
 use Rattle.sql_tree.specs.declared.token.TokenKind.TheVariants as kind
 use Rattle.sql_grammar.specs.declared.counts.Counts.{Counts}
 use Rattle.sql_grammar.specs.declared.counts.Role.TheVariants as role
-use Rattle.sql_grammar.specs.Rules.{tok, starts, is_clear, reads, opening, one, Done, ◌>>=◌}
+use Rattle.sql_grammar.specs.Kinds.{all_words}
+use Rattle.sql_grammar.specs.Rules.{tok, first, starts, is_clear, reads, opening, one, Done, ◌>>=◌}
 use Rattle.sql_grammar.specs.Grammar.{Name, name, name_list, in_brackets}
 use Rattle.sql_grammar.specs.Bodies.{rules}
 use Rattle.sql_grammar.specs.Queries.{column_names}
 use Rattle.sql_grammar.specs.Definitions.{all_names}
 use Rattle.sql_grammar.proofs.Whole.{nest_is}
 use Rattle.parse_cursor.specs.Items.{items}
-use Rattle.parse_cursor.specs.Parts.{in_names, given_word}
+use Rattle.parse_cursor.specs.Parts.{in_names, any_word, given_word}
 use Rattle.parse_cursor.proofs.Steps.{or_none_some, or_none_none, given_yes, given_no}
 
 pub all_names_are : (d : ℕ) (c : Counts) (ts : List Token) → reads Name rules d all_names c ts ≡ reads Name rules 0 (items name) c ts
@@ -40,6 +41,14 @@ column_names_none d c ts none = or_none_none (in_brackets name_list) d c ts none
 pub ruleset column_names_steps = (column_names_some, column_names_none)
 
 -- ---- words
+
+pub first_word : first any_word ≡ all_words
+unfolding any_word
+first_word = refl
+
+pub any_word_is : (d : ℕ) (c : Counts) (ts : List Token) → reads Name rules d any_word c ts ≡ one role.Outside all_words c ts
+unfolding any_word
+any_word_is d c ts = refl
 
 pub word_given : (k : TokenKind) (d : ℕ) (c : Counts) (ts : List Token) → starts (k ∷ []) ts ≡ true → reads Name rules d (given_word k) c ts ≡ (one role.Outside (k ∷ []) c ts >>= λ t e rest. Done true e rest)
 unfolding given_word

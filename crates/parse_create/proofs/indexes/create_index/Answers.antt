@@ -1,0 +1,18 @@
+use Rattle.std.proofs.Common.{arith}
+use Rattle.parse_create.proofs.Made.{create_index_is}
+use Rattle.parse_create.proofs.indexes.create_index.Goals as goal
+
+pub returns-in_err-unique : goal.returns-in_err-unique
+returns-in_err-unique c = grind (arith, create_index_is)
+
+pub returns-in_err-expect : goal.returns-in_err-expect
+returns-in_err-expect c = grind (arith, create_index_is)
+
+pub returns-in_err-header : goal.returns-in_err-header
+returns-in_err-header c = grind (arith, create_index_is)
+
+pub returns-in_err-table : goal.returns-in_err-table
+returns-in_err-table c = grind (arith, create_index_is)
+
+pub returns : goal.returns
+returns c = grind (arith, create_index_is)

@@ -1,0 +1,21 @@
+use Rattle.std.proofs.Common.{arith}
+use Rattle.parse_create.proofs.Made.{create_view_is}
+use Rattle.parse_create.proofs.indexes.create_view.Goals as goal
+
+pub returns-in_err-expect : goal.returns-in_err-expect
+returns-in_err-expect c = grind (arith, create_view_is)
+
+pub returns-in_err-header : goal.returns-in_err-header
+returns-in_err-header c = grind (arith, create_view_is)
+
+pub returns-in_err-columns : goal.returns-in_err-columns
+returns-in_err-columns c = grind (arith, create_view_is)
+
+pub returns-in_err-expect-2 : goal.returns-in_err-expect-2
+returns-in_err-expect-2 c = grind (arith, create_view_is)
+
+pub returns-in_err-query : goal.returns-in_err-query
+returns-in_err-query c = grind (arith, create_view_is)
+
+pub returns : goal.returns
+returns c = grind (arith, create_view_is)

@@ -1,0 +1,18 @@
+use Rattle.std.proofs.Common.{arith}
+use Rattle.parse_create.proofs.Constrained.{existences}
+use Rattle.parse_create.proofs.tables.if_not_exists.Goals as goal
+
+pub returns-then-not-sees : goal.returns-then-not-sees
+returns-then-not-sees c = grind (arith, existences)
+
+pub returns-in_err-expect : goal.returns-in_err-expect
+returns-in_err-expect c = grind (arith, existences)
+
+pub returns-in_err-expect-2 : goal.returns-in_err-expect-2
+returns-in_err-expect-2 c = grind (arith, existences)
+
+pub returns-in_err-expect-3 : goal.returns-in_err-expect-3
+returns-in_err-expect-3 c = grind (arith, existences)
+
+pub returns : goal.returns
+returns c = grind (arith, existences)

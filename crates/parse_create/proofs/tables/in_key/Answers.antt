@@ -1,0 +1,16 @@
+use Rattle.std.proofs.Common.{arith}
+use Rattle.parse_create.proofs.Bracketed.{in_key_steps}
+use Rattle.parse_create.proofs.Lists.{key_columns_clear}
+use Rattle.parse_create.proofs.tables.in_key.Goals as goal
+
+pub returns-in_err-open : goal.returns-in_err-open
+returns-in_err-open c = grind (arith, in_key_steps)
+
+pub list-requires-clause-clear : goal.list-requires-clause-clear
+list-requires-clause-clear c = key_columns_clear
+
+pub returns-in_err-columns : goal.returns-in_err-columns
+returns-in_err-columns c = grind (arith, in_key_steps)
+
+pub returns : goal.returns
+returns c = grind (arith, in_key_steps)

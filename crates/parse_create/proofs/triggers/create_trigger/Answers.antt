@@ -1,0 +1,15 @@
+use Rattle.std.proofs.Common.{arith}
+use Rattle.parse_create.proofs.Made.{create_trigger_is}
+use Rattle.parse_create.proofs.triggers.create_trigger.Goals as goal
+
+pub returns-in_err-expect : goal.returns-in_err-expect
+returns-in_err-expect c = grind (arith, create_trigger_is)
+
+pub returns-in_err-header : goal.returns-in_err-header
+returns-in_err-header c = grind (arith, create_trigger_is)
+
+pub returns-in_err-trigger : goal.returns-in_err-trigger
+returns-in_err-trigger c = grind (arith, create_trigger_is)
+
+pub returns : goal.returns
+returns c = grind (arith, create_trigger_is)
