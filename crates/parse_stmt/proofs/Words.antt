@@ -1,20 +1,20 @@
 -- What DROP and PRAGMA read, in the steps of the code.
-use Rattle.std.proofs.Common.{◌≡◌, ℕ, ◌-◌, true, false, List, [], ◌∷◌, Some, None, refl, ◌∙◌}
+use Rattle.std.proofs.Common.{◌≡◌, ℕ, ◌-◌, true, false, List, [], ◌∷◌, Some, None, ◌∙◌}
 use Rattle.sql_tree.specs.declared.statement.ObjectKind.TheVariants as object_kind
 use Rattle.sql_tree.specs.declared.token.Token.{Token}
 use Rattle.sql_tree.specs.declared.token.TokenKind.TheVariants as kind
 use Rattle.sql_grammar.specs.declared.counts.Counts.{Counts}
 use Rattle.sql_grammar.specs.declared.counts.Role.TheVariants as role
-use Rattle.sql_grammar.specs.Kinds.{all_words}
 use Rattle.sql_grammar.specs.Rules.{tok, starts, first, reads, opening, one, Done, ◌>>=◌}
 use Rattle.sql_grammar.specs.Grammar.{Name, names, word}
 use Rattle.sql_grammar.specs.Bodies.{rules}
 use Rattle.sql_grammar.specs.Statements.{object_word, if_exists, remove_parts, remove, pragma_value, pragma_parts, pragma}
 use Rattle.sql_grammar.proofs.ReadingLaws.{chosen, other}
 use Rattle.sql_grammar.proofs.Whole.{nest_is}
+use Rattle.parse_cursor.specs.Parts.{any_word}
 use Rattle.parse_cursor.proofs.Steps.{both_to, three_to, after_is, after_to}
 use Rattle.parse_create.proofs.Thens.{then}
-use Rattle.parse_stmt.specs.Parts.{any_word, in_word, some_value}
+use Rattle.parse_stmt.specs.Parts.{in_word, some_value}
 use Rattle.parse_stmt.proofs.Clear.{first_value}
 
 -- ---- DROP
@@ -57,10 +57,6 @@ remove_is d c ts =
     ∙ then (one role.Outside (kind.Drop ∷ []) c ts) _ _ (λ t e rest. three_to (reads Name rules d object_word) (reads Name rules d if_exists) (one role.Quiet names) (λ p. record { kind = p.0; if_exists = p.1.0; name = p.1.1 }) e rest)
 
 -- ---- PRAGMA
-
-pub any_word_is : (d : ℕ) (c : Counts) (ts : List Token) → reads Name rules d any_word c ts ≡ one role.Outside all_words c ts
-unfolding any_word
-any_word_is d c ts = refl
 
 pub in_word_is : (d : ℕ) (c : Counts) (ts : List Token) → reads Name rules d in_word c ts ≡ (opening d role.Opening (kind.LeftParen ∷ []) c ts >>= λ t e rest. reads Name rules (d - 1) any_word e rest >>= λ a f mid. one role.Closing (kind.RightParen ∷ []) f mid >>= λ z g end. Done a g end)
 unfolding in_word any_word

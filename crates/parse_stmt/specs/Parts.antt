@@ -2,15 +2,9 @@
 use Rattle.std.specs.Prelude.{Option}
 use Rattle.sql_tree.specs.declared.statement.Statement.{Statement}
 use Rattle.sql_tree.specs.declared.token.Token.{Token}
-use Rattle.sql_grammar.specs.declared.counts.Role.TheVariants as role
-use Rattle.sql_grammar.specs.Kinds.{all_words}
-use Rattle.sql_grammar.specs.Rules.{tok, Outcome, Done, ◌>>=◌}
+use Rattle.sql_grammar.specs.Rules.{Outcome, Done, ◌>>=◌}
 use Rattle.sql_grammar.specs.Grammar.{Of, maybe, in_brackets, word}
 use Rattle.sql_grammar.specs.Statements.{pragma_value}
-
--- a word, reserved or not
-unfoldable pub any_word : Of Token
-any_word = tok role.Outside all_words
 
 -- "(" word ")"
 unfoldable pub in_word : Of Token

@@ -1,0 +1,15 @@
+use Rattle.std.proofs.Common.{arith}
+use Rattle.parse_stmt.proofs.Ends.{explanations}
+use Rattle.parse_stmt.proofs.parsing.explained.Goals as goal
+
+pub returns-then-not-sees : goal.returns-then-not-sees
+returns-then-not-sees c = grind (arith, explanations)
+
+pub returns-in_err-expect : goal.returns-in_err-expect
+returns-in_err-expect c = grind (arith, explanations)
+
+pub returns-in_err-expect-2 : goal.returns-in_err-expect-2
+returns-in_err-expect-2 c = grind (arith, explanations)
+
+pub returns : goal.returns
+returns c = grind (arith, explanations)
