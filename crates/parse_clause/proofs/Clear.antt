@@ -5,25 +5,22 @@ use Rattle.sql_grammar.specs.Bodies.{rules}
 use Rattle.sql_grammar.specs.Grammar.{Name}
 use Rattle.sql_grammar.specs.Queries.{result, joined_item, all_query_rules}
 use Rattle.sql_grammar.specs.Definitions.{all_names}
+use Rattle.parse_cursor.specs.Items.{items}
 use Rattle.parse_clause.specs.declared.from.TheConstants.{JOINS}
-use Rattle.parse_clause.specs.Parts.{more_results, joined_items}
+use Rattle.parse_clause.specs.Parts.{joined_items}
 
 -- all rules, for proofs that compute with them
 unfoldable computed : Unit {0}
-unfolding all_query_rules all_names more_results joined_items
+unfolding all_query_rules all_names items joined_items
 computed = tt
 
-pub more_results_clear : is_clear Name rules more_results ≡ true
+pub results_clear : is_clear Name rules (items result) ≡ true
 unfolding computed
-more_results_clear = refl
+results_clear = refl
 
 pub joined_items_clear : is_clear Name rules joined_items ≡ true
 unfolding computed
 joined_items_clear = refl
-
-pub result_clear : is_clear Name rules result ≡ true
-unfolding computed
-result_clear = refl
 
 pub joined_item_clear : is_clear Name rules joined_item ≡ true
 unfolding computed

@@ -1,37 +1,26 @@
 -- What lists read, in the steps of the code.
-use Rattle.std.proofs.Common.{◌≡◌, ℕ, ◌<◌, length, true, false, List, [], ◌∷◌, ◌++◌, ap, ◌∙◌}
+use Rattle.std.proofs.Common.{◌≡◌, ℕ, ◌<◌, length, true, false, List, [], ◌∷◌, ◌++◌, refl, ap, ◌∙◌}
 use Rattle.sql_tree.specs.declared.token.Token.{Token}
-use Rattle.sql_tree.specs.declared.token.TokenKind.TheVariants as kind
 use Rattle.sql_grammar.specs.declared.counts.Counts.{Counts}
-use Rattle.sql_grammar.specs.declared.counts.Role.TheVariants as role
-use Rattle.sql_grammar.specs.Rules.{starts, reads, one, Done, ◌>>=◌}
+use Rattle.sql_grammar.specs.Rules.{starts, reads, Done, ◌>>=◌}
 use Rattle.sql_grammar.specs.Bodies.{rules}
 use Rattle.sql_tree.specs.declared.query.FromItem.{FromItem}
-use Rattle.sql_tree.specs.declared.query.ResultColumn.{ResultColumn}
 use Rattle.sql_grammar.specs.Grammar.{Name}
 use Rattle.sql_grammar.specs.Queries.{result, results, first_item, joined_item, items}
 use Rattle.sql_grammar.proofs.Clear.{clear, rich}
 use Rattle.sql_grammar.proofs.Whole.{takes_some}
 use Rattle.parse_cursor.specs.Gives.{collected}
-use Rattle.parse_cursor.proofs.Steps.{both_to, list_is, next_is, last_is, many_step, many_end}
+use Rattle.parse_cursor.specs.Items as lists
+use Rattle.parse_cursor.proofs.Steps.{both_to, many_step, many_end}
 use Rattle.parse_clause.specs.declared.from.TheConstants.{JOINS}
-use Rattle.parse_clause.specs.Parts.{more_results, joined_items}
-use Rattle.parse_clause.proofs.Clear.{more_results_clear, joined_items_clear, joined_item_clear, joined_item_solid, first_joined_item}
+use Rattle.parse_clause.specs.Parts.{joined_items}
+use Rattle.parse_clause.proofs.Clear.{results_clear, joined_items_clear, joined_item_clear, joined_item_solid, first_joined_item}
 
-pub results_is : (d : ℕ) (c : Counts) (ts : List Token) → reads Name rules d results c ts ≡ (reads Name rules d result c ts >>= λ a e rest. collected (a ∷ []) (reads Name rules d more_results e rest))
-unfolding results more_results
-results_is d c ts = list_is result d c ts
+pub results_are : (d : ℕ) (c : Counts) (ts : List Token) → reads Name rules d results c ts ≡ reads Name rules d (lists.items result) c ts
+unfolding results lists.items
+results_are d c ts = refl
 
-pub results_next : (found : List ResultColumn) (d : ℕ) (c : Counts) (ts : List Token) → starts (kind.Comma ∷ []) ts ≡ true
-    → collected found (reads Name rules d more_results c ts) ≡ (one role.Outside (kind.Comma ∷ []) c ts >>= λ t e rest. reads Name rules d result e rest >>= λ a f end. collected (found ++ a ∷ []) (reads Name rules d more_results f end))
-unfolding more_results
-results_next found d c ts here = next_is result found d c ts more_results_clear here
-
-pub results_end : (found : List ResultColumn) (d : ℕ) (c : Counts) (ts : List Token) → starts (kind.Comma ∷ []) ts ≡ false → collected found (reads Name rules d more_results c ts) ≡ Done found c ts
-unfolding more_results
-results_end found d c ts none = last_is result found d c ts more_results_clear none
-
-pub ruleset results_steps = (results_is, results_next, results_end)
+pub ruleset results_steps = (results_are, results_clear)
 
 pub items_is : (d : ℕ) (c : Counts) (ts : List Token) → reads Name rules d items c ts ≡ (reads Name rules d first_item c ts >>= λ a e rest. collected (a ∷ []) (reads Name rules d joined_items e rest))
 unfolding items joined_items

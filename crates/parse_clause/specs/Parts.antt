@@ -7,11 +7,11 @@ use Rattle.sql_tree.specs.declared.query.ResultColumn.{ResultColumn}
 use Rattle.sql_tree.specs.declared.query.SpannedExpr.{SpannedExpr, roll-SpannedExpr}
 use Rattle.sql_tree.specs.declared.token.Span.{Span}
 use Rattle.sql_tree.specs.declared.token.Token.{Token}
-use Rattle.sql_tree.specs.declared.token.TokenKind.TheVariants as kind
+use Rattle.sql_tree.specs.declared.token.TokenKind.{TokenKind}
 use Rattle.sql_grammar.specs.declared.counts.Role.TheVariants as role
 use Rattle.sql_grammar.specs.Rules.{many, to, Outcome, Done, ◌>>=◌}
-use Rattle.sql_grammar.specs.Grammar.{Of, maybe, after, or_none, in_brackets, last_end, exprs, subquery, table_arguments}
-use Rattle.sql_grammar.specs.Queries.{result, joined_item}
+use Rattle.sql_grammar.specs.Grammar.{Of, maybe, after, or_none, in_brackets, last_end, expr, exprs, subquery, table_arguments}
+use Rattle.sql_grammar.specs.Queries.{joined_item}
 
 -- ---- in brackets
 
@@ -27,11 +27,13 @@ inside_table_arguments = to or_none (maybe exprs)
 unfoldable pub maybe_table_arguments : Of (Option (List Expr))
 maybe_table_arguments = maybe (in_brackets table_arguments)
 
--- ---- lists
+-- ---- a word and an expression
 
--- {"," result}
-unfoldable pub more_results : Of (List ResultColumn)
-more_results = many (after role.Outside kind.Comma result)
+-- [word expr]
+unfoldable pub expr_after : TokenKind → Of (Option Expr)
+expr_after k = maybe (after role.Outside k expr)
+
+-- ---- lists
 
 -- {join item [on]}
 unfoldable pub joined_items : Of (List FromItem)

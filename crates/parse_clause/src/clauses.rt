@@ -9,7 +9,7 @@ ghost use Rattle.parse_cursor.specs.Gives.{Gives};
 ghost use Rattle.parse_operand.specs.Nests.{Nests};
 ghost use Rattle.parse_clause.specs.Parts as part;
 
-use parse_cursor::{Cursor, ParseError, text_before};
+use parse_cursor::{Cursor, Element, ParseError, text_before};
 use parse_expr::Levels;
 use sql_grammar::Role;
 use sql_tree::{Expr, Query, SpannedExpr, TokenKind};
@@ -54,21 +54,50 @@ impl<
             Role::Opening,
         )?;
         let found = self.levels.operands.inner_query(tokens)?;
-        tokens.expect(TokenKind::RightParen, Role::Closing)?;
-        Ok(found)
+        tokens.close(found, TokenKind::RightParen, Role::Closing)
+    }
+
+    /// Parses `[word expr]`, for a clause that is a word and an expression.
+    #[tactic(auto, using(crate::proofs::Expressions::expr_after_steps))]
+    pub fn expr_after(
+        &self,
+        tokens: &mut Cursor<'_>,
+        word: TokenKind,
+    ) -> Result<Option<Expr>, ParseError>
+        requires exprs { Nests expr self.now.levels.operands.depth (F.pre self.now.levels.operands.inner) (F.post self.now.levels.operands.inner) }
+        requires queries { Nests query self.now.levels.operands.depth (G.pre self.now.levels.operands.query) (G.post self.now.levels.operands.query) }
+        ensures { Gives (reads Name rules self.now.levels.operands.depth (part.expr_after word) tokens.old.counts tokens.old.rest.now) result tokens.new.counts tokens.new.rest.now }
+    {
+        if !tokens.sees(word) {
+            return Ok(None);
+        }
+        tokens.expect(word, Role::Outside)?;
+        Ok(Some(self.levels.expr(tokens)?.into_inner()))
     }
 
     /// Parses `[WHERE expr]` (SELECT).
-    #[tactic(auto, unfolding(sql_grammar::specs::Queries::filter_by))]
+    #[tactic(auto, using(crate::proofs::Expressions::filter_by_is))]
     pub fn filter_by(&self, tokens: &mut Cursor<'_>) -> Result<Option<Expr>, ParseError>
         requires exprs { Nests expr self.now.levels.operands.depth (F.pre self.now.levels.operands.inner) (F.post self.now.levels.operands.inner) }
         requires queries { Nests query self.now.levels.operands.depth (G.pre self.now.levels.operands.query) (G.post self.now.levels.operands.query) }
         ensures { Gives (reads Name rules self.now.levels.operands.depth spec.filter_by tokens.old.counts tokens.old.rest.now) result tokens.new.counts tokens.new.rest.now }
     {
-        if !tokens.sees(TokenKind::Where) {
-            return Ok(None);
-        }
-        tokens.expect(TokenKind::Where, Role::Outside)?;
-        Ok(Some(self.levels.expr(tokens)?.into_inner()))
+        self.expr_after(tokens, TokenKind::Where)
+    }
+}
+
+/// Expressions with the bytes of their texts, in lists.
+impl<
+    F: Fn(Global, &mut Cursor<'_>, usize) -> Result<Boxed<Expr>, ParseError>,
+    G: Fn(Global, &mut Cursor<'_>, usize) -> Result<Boxed<Query>, ParseError>,
+> Element<SpannedExpr> for Clauses<F, G> {
+    ghost is_ready = { λ it. Nests expr it.levels.operands.depth (F.pre it.levels.operands.inner) (F.post it.levels.operands.inner) × Nests query it.levels.operands.depth (G.pre it.levels.operands.query) (G.post it.levels.operands.query) };
+
+    ghost rule = { λ it. spec.spanned_expr };
+
+    ghost depth = { λ it. it.levels.operands.depth };
+
+    fn read(&self, tokens: &mut Cursor<'_>) -> Result<SpannedExpr, ParseError> {
+        self.spanned_expr(tokens)
     }
 }

@@ -119,8 +119,7 @@ impl<
             Role::Opening,
         )?;
         let found = self.inside_table_arguments(tokens)?;
-        tokens.expect(TokenKind::RightParen, Role::Closing)?;
-        Ok(Some(found))
+        tokens.close(Some(found), TokenKind::RightParen, Role::Closing)
     }
 
     /// `name [( [expr {, expr}] )] | ( query )`

@@ -12,7 +12,7 @@ ghost use Rattle.parse_clause.specs.Parts as part;
 
 use crate::clauses::Clauses;
 use crate::words::alias;
-use parse_cursor::{Cursor, ParseError, name, sees_name, text_before};
+use parse_cursor::{Cursor, Element, ParseError, boxed, list, name, sees_name, text_before};
 use sql_grammar::Role;
 use sql_tree::{Expr, Query, ResultColumn, Span, SpannedExpr, Token, TokenKind};
 use sqlite_items::{Boxed, Items};
@@ -59,7 +59,7 @@ impl<
         ensures { Gives (part.goes_on operand front (reads Name rules self.now.levels.operands.depth spec.spanned_tails tokens.old.counts tokens.old.rest.now)) result tokens.new.counts tokens.new.rest.now }
     {
         let behind = tokens.rest;
-        let operand = Boxed::new(self.levels.operands.alloc, operand)?;
+        let operand = boxed(self.levels.operands.alloc, operand)?;
         let expr = self.levels.tails(tokens, operand)?.into_inner();
         Ok(SpannedExpr {
             expr,
@@ -171,14 +171,21 @@ impl<
         let alias = alias(tokens)?;
         Ok(ResultColumn::Expression(SpannedExpr { expr, text }, alias))
     }
+}
 
-    /// `* | name . * | expr [[AS] name]`
+/// `* | name . * | expr [[AS] name]`, in lists.
+impl<
+    F: Fn(Global, &mut Cursor<'_>, usize) -> Result<Boxed<Expr>, ParseError>,
+    G: Fn(Global, &mut Cursor<'_>, usize) -> Result<Boxed<Query>, ParseError>,
+> Element<ResultColumn> for Clauses<F, G> {
+    ghost is_ready = { λ it. Nests expr it.levels.operands.depth (F.pre it.levels.operands.inner) (F.post it.levels.operands.inner) × Nests query it.levels.operands.depth (G.pre it.levels.operands.query) (G.post it.levels.operands.query) };
+
+    ghost rule = { λ it. spec.result };
+
+    ghost depth = { λ it. it.levels.operands.depth };
+
     #[tactic(auto, using(crate::proofs::ResultSteps::result_steps))]
-    fn result_column(&self, tokens: &mut Cursor<'_>) -> Result<ResultColumn, ParseError>
-        requires exprs { Nests expr self.now.levels.operands.depth (F.pre self.now.levels.operands.inner) (F.post self.now.levels.operands.inner) }
-        requires queries { Nests query self.now.levels.operands.depth (G.pre self.now.levels.operands.query) (G.post self.now.levels.operands.query) }
-        ensures { Gives (reads Name rules self.now.levels.operands.depth spec.result tokens.old.counts tokens.old.rest.now) result tokens.new.counts tokens.new.rest.now }
-    {
+    fn read(&self, tokens: &mut Cursor<'_>) -> Result<ResultColumn, ParseError> {
         if tokens.sees(TokenKind::Star) {
             tokens.expect(TokenKind::Star, Role::Outside)?;
             return Ok(ResultColumn::All);
@@ -188,7 +195,12 @@ impl<
         }
         self.other_result(tokens)
     }
+}
 
+impl<
+    F: Fn(Global, &mut Cursor<'_>, usize) -> Result<Boxed<Expr>, ParseError>,
+    G: Fn(Global, &mut Cursor<'_>, usize) -> Result<Boxed<Query>, ParseError>,
+> Clauses<F, G> {
     /// Parses `result {, result}` (SELECT, Generation of the set of result rows): the columns of a result in order, each expression with
     /// the bytes of its text.
     #[tactic(auto, using(crate::proofs::Lists::results_steps))]
@@ -197,12 +209,6 @@ impl<
         requires queries { Nests query self.now.levels.operands.depth (G.pre self.now.levels.operands.query) (G.post self.now.levels.operands.query) }
         ensures { Gives (reads Name rules self.now.levels.operands.depth spec.results tokens.old.counts tokens.old.rest.now) result tokens.new.counts tokens.new.rest.now }
     {
-        let mut found = Items::new(self.levels.operands.alloc);
-        found.push(self.result_column(tokens)?)?;
-        while tokens.sees(TokenKind::Comma) {
-            tokens.expect(TokenKind::Comma, Role::Outside)?;
-            found.push(self.result_column(tokens)?)?;
-        }
-        Ok(found)
+        list(self.levels.operands.alloc, tokens, self)
     }
 }

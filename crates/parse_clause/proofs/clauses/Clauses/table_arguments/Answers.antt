@@ -1,0 +1,15 @@
+use Rattle.std.proofs.Common.{arith}
+use Rattle.parse_clause.proofs.Bracketed.{maybe_table_arguments_steps}
+use Rattle.parse_clause.proofs.clauses.Clauses.table_arguments.Goals as goal
+
+pub returns-then-not-sees : goal.returns-then-not-sees
+returns-then-not-sees g c = grind (arith, maybe_table_arguments_steps)
+
+pub returns-in_err-open : goal.returns-in_err-open
+returns-in_err-open g c = grind (arith, maybe_table_arguments_steps)
+
+pub returns-in_err-found : goal.returns-in_err-found
+returns-in_err-found g c = grind (arith, maybe_table_arguments_steps)
+
+pub returns : goal.returns
+returns g c = grind (arith, maybe_table_arguments_steps)
