@@ -23,8 +23,8 @@ fn outcome_of(answer: Result<Done, Refusal>) -> Outcome {
             given: done.given,
             changed: done.changed,
         },
-        Err(refusal) => match refusal.cause {
-            Cause::Interrupted(ran) => Outcome::Interrupted(ran),
+        Err(refusal) => match &refusal.cause {
+            Cause::Interrupted(ran) => Outcome::Interrupted(*ran),
             cause => Outcome::Refused(cause.code()),
         },
     }
