@@ -3,4 +3,3 @@ pub mod Selecting
 pub mod CompoundSteps
 pub mod OrderingSteps
 pub mod Tables
-pub mod Lists

@@ -12,7 +12,9 @@ use Rattle.sql_tree.specs.declared.query.OrderingTerm.{roll-OrderingTerm}
 use Rattle.sql_grammar.specs.Grammar.{Name, expr, after}
 use Rattle.sql_grammar.specs.Queries.{spanned_expr, direction, first_or_last, nulls, term, order_by, limit_of, second_limit, row_limit, limit, ordering}
 use Rattle.parse_cursor.proofs.Steps.{both_to, three_to, after_two, maybe_some, maybe_none, or_none_some, or_none_none}
-use Rattle.parse_query.specs.Parts.{terms, unordered}
+use Rattle.parse_cursor.specs.Items.{items}
+use Rattle.parse_query.specs.Parts.{unordered}
+use Rattle.parse_query.proofs.Clear.{terms_clear}
 
 pub direction_desc : (d : ℕ) (c : Counts) (ts : List Token) → starts (kind.Desc ∷ []) ts ≡ true → reads Name rules d direction c ts ≡ (one role.Outside (kind.Desc ∷ []) c ts >>= λ t e rest. Done true e rest)
 unfolding direction
@@ -52,15 +54,15 @@ pub term_is : (d : ℕ) (c : Counts) (ts : List Token) → reads Name rules d te
 unfolding term
 term_is d c ts = three_to (reads Name rules d spanned_expr) (reads Name rules d direction) (reads Name rules d nulls) (λ p. roll-OrderingTerm (record { key = p.0; descending = p.1.0; nulls = p.1.1 })) c ts
 
-pub order_by_some : (d : ℕ) (c : Counts) (ts : List Token) → starts (kind.Order ∷ []) ts ≡ true → reads Name rules d order_by c ts ≡ (one role.Outside (kind.Order ∷ []) c ts >>= λ t e rest. one role.Outside (kind.By ∷ []) e rest >>= λ u f mid. reads Name rules d terms f mid)
-unfolding order_by terms
-order_by_some d c ts here = or_none_some (after role.Outside kind.Order (after role.Outside kind.By terms)) d c ts here ∙ after_two role.Outside role.Outside kind.Order kind.By terms d c ts
+pub order_by_some : (d : ℕ) (c : Counts) (ts : List Token) → starts (kind.Order ∷ []) ts ≡ true → reads Name rules d order_by c ts ≡ (one role.Outside (kind.Order ∷ []) c ts >>= λ t e rest. one role.Outside (kind.By ∷ []) e rest >>= λ u f mid. reads Name rules d (items term) f mid)
+unfolding order_by items
+order_by_some d c ts here = or_none_some (after role.Outside kind.Order (after role.Outside kind.By (items term))) d c ts here ∙ after_two role.Outside role.Outside kind.Order kind.By (items term) d c ts
 
 pub order_by_none : (d : ℕ) (c : Counts) (ts : List Token) → starts (kind.Order ∷ []) ts ≡ false → reads Name rules d order_by c ts ≡ Done [] c ts
-unfolding order_by terms
-order_by_none d c ts none = or_none_none (after role.Outside kind.Order (after role.Outside kind.By terms)) d c ts none
+unfolding order_by items
+order_by_none d c ts none = or_none_none (after role.Outside kind.Order (after role.Outside kind.By (items term))) d c ts none
 
-pub ruleset order_bys = (order_by_some, order_by_none)
+pub ruleset order_bys = (order_by_some, order_by_none, terms_clear)
 
 pub second_some : (d : ℕ) (c : Counts) (ts : List Token) → starts (kind.Offset ∷ kind.Comma ∷ []) ts ≡ true → reads Name rules d second_limit c ts ≡ (one role.Outside (kind.Offset ∷ kind.Comma ∷ []) c ts >>= λ t e rest. reads Name rules d expr e rest >>= λ x f end. Done (Some (t, x)) f end)
 unfolding second_limit

@@ -1,5 +1,5 @@
 -- What SELECT and VALUES read, in the steps of the code.
-use Rattle.std.proofs.Common.{◌≡◌, ℕ, ◌-◌, true, false, List, [], ◌∷◌, Some, None, refl, ◌∙◌}
+use Rattle.std.proofs.Common.{◌≡◌, ℕ, ◌-◌, true, false, List, [], ◌∷◌, refl, ◌∙◌}
 use Rattle.sql_tree.specs.declared.token.Token.{Token}
 use Rattle.sql_tree.specs.declared.token.TokenKind.TheVariants as kind
 use Rattle.sql_grammar.specs.declared.counts.Counts.{Counts}
@@ -9,10 +9,12 @@ use Rattle.sql_grammar.specs.Bodies.{rules}
 use Rattle.sql_grammar.proofs.ReadingLaws.{chosen, other}
 use Rattle.sql_tree.specs.declared.query.QueryPart.TheVariants as part_is
 use Rattle.sql_tree.specs.declared.query.SelectCore.{roll-SelectCore}
-use Rattle.sql_grammar.specs.Grammar.{Name, expr, after, exprs, row}
-use Rattle.sql_grammar.specs.Queries.{distinct, results, from, filter_by, group_by, having, select_core, select, values, core, one_row}
-use Rattle.parse_cursor.proofs.Steps.{after_is, after_two, maybe_some, maybe_none, or_none_some, or_none_none, both_to, four_to}
-use Rattle.parse_query.specs.Parts.{spanned_exprs, all_rows}
+use Rattle.sql_grammar.specs.Grammar.{Name, after, exprs, row}
+use Rattle.sql_grammar.specs.Queries.{spanned_expr, distinct, results, from, filter_by, group_by, having, select_core, select, values, core, one_row}
+use Rattle.parse_cursor.proofs.Steps.{after_is, after_two, or_none_some, or_none_none, both_to, four_to}
+use Rattle.parse_cursor.specs.Items.{items}
+use Rattle.parse_clause.specs.Parts.{expr_after}
+use Rattle.parse_query.proofs.Clear.{groups_clear, rows_clear}
 use Rattle.sql_grammar.proofs.Whole.{nest_is}
 
 -- ---- six rules in a row
@@ -44,25 +46,19 @@ distinct_none d c ts none others = other _ _ _ none ∙ other _ _ _ others
 
 pub ruleset distincts = (distinct_yes, distinct_all, distinct_none)
 
-pub group_by_some : (d : ℕ) (c : Counts) (ts : List Token) → starts (kind.Group ∷ []) ts ≡ true → reads Name rules d group_by c ts ≡ (one role.Outside (kind.Group ∷ []) c ts >>= λ t e rest. one role.Outside (kind.By ∷ []) e rest >>= λ u f mid. reads Name rules d spanned_exprs f mid)
-unfolding group_by spanned_exprs
-group_by_some d c ts here = or_none_some (after role.Outside kind.Group (after role.Outside kind.By spanned_exprs)) d c ts here ∙ after_two role.Outside role.Outside kind.Group kind.By spanned_exprs d c ts
+pub group_by_some : (d : ℕ) (c : Counts) (ts : List Token) → starts (kind.Group ∷ []) ts ≡ true → reads Name rules d group_by c ts ≡ (one role.Outside (kind.Group ∷ []) c ts >>= λ t e rest. one role.Outside (kind.By ∷ []) e rest >>= λ u f mid. reads Name rules d (items spanned_expr) f mid)
+unfolding group_by items
+group_by_some d c ts here = or_none_some (after role.Outside kind.Group (after role.Outside kind.By (items spanned_expr))) d c ts here ∙ after_two role.Outside role.Outside kind.Group kind.By (items spanned_expr) d c ts
 
 pub group_by_none : (d : ℕ) (c : Counts) (ts : List Token) → starts (kind.Group ∷ []) ts ≡ false → reads Name rules d group_by c ts ≡ Done [] c ts
-unfolding group_by spanned_exprs
-group_by_none d c ts none = or_none_none (after role.Outside kind.Group (after role.Outside kind.By spanned_exprs)) d c ts none
+unfolding group_by items
+group_by_none d c ts none = or_none_none (after role.Outside kind.Group (after role.Outside kind.By (items spanned_expr))) d c ts none
 
-pub ruleset group_bys = (group_by_some, group_by_none)
+pub ruleset group_bys = (group_by_some, group_by_none, groups_clear)
 
-pub having_some : (d : ℕ) (c : Counts) (ts : List Token) → starts (kind.Having ∷ []) ts ≡ true → reads Name rules d having c ts ≡ (one role.Outside (kind.Having ∷ []) c ts >>= λ t e rest. reads Name rules d expr e rest >>= λ x f end. Done (Some x) f end)
-unfolding having
-having_some d c ts here = maybe_some role.Outside kind.Having expr d c ts here
-
-pub having_none : (d : ℕ) (c : Counts) (ts : List Token) → starts (kind.Having ∷ []) ts ≡ false → reads Name rules d having c ts ≡ Done None c ts
-unfolding having
-having_none d c ts none = maybe_none role.Outside kind.Having expr d c ts none
-
-pub ruleset havings = (having_some, having_none)
+pub having_is : (d : ℕ) (c : Counts) (ts : List Token) → reads Name rules d having c ts ≡ reads Name rules d (expr_after kind.Having) c ts
+unfolding having expr_after
+having_is d c ts = refl
 
 pub select_core_is : (d : ℕ) (c : Counts) (ts : List Token) → reads Name rules d select_core c ts
     ≡ (reads Name rules d distinct c ts >>= λ a e rest. reads Name rules d results e rest >>= λ b g mid. reads Name rules d from g mid >>= λ x h near. reads Name rules d filter_by h near >>= λ y i far. reads Name rules d group_by i far >>= λ z j last. reads Name rules d having j last >>= λ w k end. Done (roll-SelectCore (record { distinct = a; results = b; from = x; filter = y; group_by = z; having = w })) k end)
@@ -73,9 +69,11 @@ pub select_is : (d : ℕ) (c : Counts) (ts : List Token) → reads Name rules d 
 unfolding select
 select_is d c ts = after_is role.Part kind.Select select_core d c ts
 
-pub values_is : (d : ℕ) (c : Counts) (ts : List Token) → reads Name rules d values c ts ≡ (one role.Part (kind.Values ∷ []) c ts >>= λ t e rest. reads Name rules d all_rows e rest)
-unfolding values all_rows
-values_is d c ts = after_is role.Part kind.Values all_rows d c ts
+pub values_is : (d : ℕ) (c : Counts) (ts : List Token) → reads Name rules d values c ts ≡ (one role.Part (kind.Values ∷ []) c ts >>= λ t e rest. reads Name rules d (items one_row) e rest)
+unfolding values items
+values_is d c ts = after_is role.Part kind.Values (items one_row) d c ts
+
+pub ruleset values_steps = (values_is, rows_clear)
 
 pub core_select : (d : ℕ) (c : Counts) (ts : List Token) → starts (kind.Select ∷ []) ts ≡ true → reads Name rules d core c ts ≡ (reads Name rules d select c ts >>= λ s e rest. Done (true, part_is.Select s) e rest)
 unfolding core select

@@ -11,7 +11,9 @@ use Rattle.sql_tree.specs.declared.query.Query.{roll-Query}
 use Rattle.sql_grammar.specs.Grammar.{Name, names, after}
 use Rattle.sql_grammar.specs.Queries.{given, column_names, common_table, tables, common_tables, Parts, parts, Ordering, ordering, ends_in_select, ordered_parts, query_of, query}
 use Rattle.parse_cursor.proofs.Steps.{both_to, three_to, after_is, or_none_some, or_none_none}
-use Rattle.parse_query.specs.Parts.{as_query, all_tables, found_of, found_parts, unordered}
+use Rattle.parse_query.specs.Parts.{as_query, found_of, found_parts, unordered}
+use Rattle.parse_query.proofs.Clear.{tables_clear}
+use Rattle.parse_cursor.specs.Items.{items}
 use Rattle.parse_cursor.specs.Parts.{given_word}
 use Rattle.parse_clause.specs.Parts.{in_query}
 
@@ -23,16 +25,18 @@ pub common_table_is : (d : ℕ) (c : Counts) (ts : List Token) → reads Name ru
 unfolding common_table as_query in_query
 common_table_is d c ts = three_to (one role.Quiet names) (reads Name rules d column_names) (reads Name rules d as_query) (λ p. roll-CommonTable (record { name = p.0; columns = p.1.0; query = p.1.1 })) c ts
 
-pub tables_is : (d : ℕ) (c : Counts) (ts : List Token) → reads Name rules d tables c ts ≡ (reads Name rules d (given_word kind.Recursive) c ts >>= λ b e rest. reads Name rules d all_tables e rest)
-unfolding tables given_word all_tables
-tables_is d c ts = both_to (reads Name rules d (given (tok role.Outside (kind.Recursive ∷ [])))) (reads Name rules d all_tables) (λ p. p.1) c ts ∙ word (reads Name rules d (given (tok role.Outside (kind.Recursive ∷ []))) c ts) where
+pub tables_is : (d : ℕ) (c : Counts) (ts : List Token) → reads Name rules d tables c ts ≡ (reads Name rules d (given_word kind.Recursive) c ts >>= λ b e rest. reads Name rules d (items common_table) e rest)
+unfolding tables given_word items
+tables_is d c ts = both_to (reads Name rules d (given (tok role.Outside (kind.Recursive ∷ [])))) (reads Name rules d (items common_table)) (λ p. p.1) c ts ∙ word (reads Name rules d (given (tok role.Outside (kind.Recursive ∷ []))) c ts) where
   same : (o : Outcome (List CommonTable)) → (o >>= λ a f end. Done a f end) ≡ o
   same (Done a f end) = refl
   same (Stop w end) = refl
 
-  word : (o : Outcome Bool) → (o >>= λ b e rest. reads Name rules d all_tables e rest >>= λ a f end. Done a f end) ≡ (o >>= λ b e rest. reads Name rules d all_tables e rest)
-  word (Done b e rest) = same (reads Name rules d all_tables e rest)
+  word : (o : Outcome Bool) → (o >>= λ b e rest. reads Name rules d (items common_table) e rest >>= λ a f end. Done a f end) ≡ (o >>= λ b e rest. reads Name rules d (items common_table) e rest)
+  word (Done b e rest) = same (reads Name rules d (items common_table) e rest)
   word (Stop w rest) = refl
+
+pub ruleset tables_steps = (tables_is, tables_clear)
 
 pub common_tables_some : (d : ℕ) (c : Counts) (ts : List Token) → starts (kind.With ∷ []) ts ≡ true → reads Name rules d common_tables c ts ≡ (one role.Outside (kind.With ∷ []) c ts >>= λ t e rest. reads Name rules d tables e rest)
 unfolding common_tables

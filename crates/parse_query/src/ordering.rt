@@ -11,7 +11,7 @@ ghost use Rattle.parse_operand.specs.Nests.{Nests};
 ghost use Rattle.parse_query.specs.Parts as part;
 
 use crate::queries::Queries;
-use parse_cursor::{Cursor, ParseError};
+use parse_cursor::{Cursor, Element, ParseError, list};
 use sql_grammar::Role;
 use sql_tree::{Expr, NullsOrder, OrderingTerm, Query, RowLimit, Token, TokenKind};
 use sqlite_items::{Boxed, Items};
@@ -86,17 +86,19 @@ fn limit_of(first: Expr, second: Option<(Token, Expr)>) -> RowLimit
     }
 }
 
+/// `expr [ASC | DESC] [NULLS (FIRST | LAST)]`, in lists.
 impl<
     F: Fn(Global, &mut Cursor<'_>, usize) -> Result<Boxed<Expr>, ParseError>,
     G: Fn(Global, &mut Cursor<'_>, usize) -> Result<Boxed<Query>, ParseError>,
-> Queries<F, G> {
-    /// `expr [ASC | DESC] [NULLS (FIRST | LAST)]`
+> Element<OrderingTerm> for Queries<F, G> {
+    ghost is_ready = { λ it. Nests expr it.clauses.levels.operands.depth (F.pre it.clauses.levels.operands.inner) (F.post it.clauses.levels.operands.inner) × Nests query it.clauses.levels.operands.depth (G.pre it.clauses.levels.operands.query) (G.post it.clauses.levels.operands.query) };
+
+    ghost rule = { λ it. spec.term };
+
+    ghost depth = { λ it. it.clauses.levels.operands.depth };
+
     #[tactic(auto, using(crate::proofs::OrderingSteps::term_is))]
-    fn term(&self, tokens: &mut Cursor<'_>) -> Result<OrderingTerm, ParseError>
-        requires exprs { Nests expr self.now.clauses.levels.operands.depth (F.pre self.now.clauses.levels.operands.inner) (F.post self.now.clauses.levels.operands.inner) }
-        requires queries { Nests query self.now.clauses.levels.operands.depth (G.pre self.now.clauses.levels.operands.query) (G.post self.now.clauses.levels.operands.query) }
-        ensures { Gives (reads Name rules self.now.clauses.levels.operands.depth spec.term tokens.old.counts tokens.old.rest.now) result tokens.new.counts tokens.new.rest.now }
-    {
+    fn read(&self, tokens: &mut Cursor<'_>) -> Result<OrderingTerm, ParseError> {
         let key = self.clauses.spanned_expr(tokens)?;
         let descending = direction(tokens)?;
         let nulls = nulls(tokens)?;
@@ -106,23 +108,12 @@ impl<
             nulls,
         })
     }
+}
 
-    /// `term {, term}`
-    #[tactic(auto, using(crate::proofs::Lists::terms_steps))]
-    fn terms(&self, tokens: &mut Cursor<'_>) -> Result<Items<OrderingTerm>, ParseError>
-        requires exprs { Nests expr self.now.clauses.levels.operands.depth (F.pre self.now.clauses.levels.operands.inner) (F.post self.now.clauses.levels.operands.inner) }
-        requires queries { Nests query self.now.clauses.levels.operands.depth (G.pre self.now.clauses.levels.operands.query) (G.post self.now.clauses.levels.operands.query) }
-        ensures { Gives (reads Name rules self.now.clauses.levels.operands.depth part.terms tokens.old.counts tokens.old.rest.now) result tokens.new.counts tokens.new.rest.now }
-    {
-        let mut found = Items::new(self.clauses.levels.operands.alloc);
-        found.push(self.term(tokens)?)?;
-        while tokens.sees(TokenKind::Comma) {
-            tokens.expect(TokenKind::Comma, Role::Outside)?;
-            found.push(self.term(tokens)?)?;
-        }
-        Ok(found)
-    }
-
+impl<
+    F: Fn(Global, &mut Cursor<'_>, usize) -> Result<Boxed<Expr>, ParseError>,
+    G: Fn(Global, &mut Cursor<'_>, usize) -> Result<Boxed<Query>, ParseError>,
+> Queries<F, G> {
     /// `[ORDER BY term {, term}]`
     #[tactic(auto, using(crate::proofs::OrderingSteps::order_bys))]
     fn order_by(&self, tokens: &mut Cursor<'_>) -> Result<Items<OrderingTerm>, ParseError>
@@ -135,7 +126,7 @@ impl<
         }
         tokens.expect(TokenKind::Order, Role::Outside)?;
         tokens.expect(TokenKind::By, Role::Outside)?;
-        self.terms(tokens)
+        list(self.clauses.levels.operands.alloc, tokens, self)
     }
 
     /// `[(OFFSET | ,) expr]`

@@ -8,10 +8,9 @@ ghost use Rattle.sql_grammar.specs.Queries.{query};
 ghost use Rattle.sql_grammar.specs.Bodies.{rules};
 ghost use Rattle.parse_cursor.specs.Gives.{Gives};
 ghost use Rattle.parse_operand.specs.Nests.{Nests};
-ghost use Rattle.parse_query.specs.Parts as part;
 
 use crate::queries::Queries;
-use parse_cursor::{Cursor, ParseError};
+use parse_cursor::{Cursor, Element, ParseError, list};
 use sql_grammar::Role;
 use sql_tree::{Expr, Query, QueryPart, SelectCore, SpannedExpr, TokenKind};
 use sqlite_items::{Boxed, Items};
@@ -33,26 +32,33 @@ fn distinct(tokens: &mut Cursor<'_>) -> Result<bool, ParseError>
     Ok(false)
 }
 
+/// `( expr {, expr} )`, in lists.
+impl<
+    F: Fn(Global, &mut Cursor<'_>, usize) -> Result<Boxed<Expr>, ParseError>,
+    G: Fn(Global, &mut Cursor<'_>, usize) -> Result<Boxed<Query>, ParseError>,
+> Element<Items<Expr>> for Queries<F, G> {
+    ghost is_ready = { λ it. Nests expr it.clauses.levels.operands.depth (F.pre it.clauses.levels.operands.inner) (F.post it.clauses.levels.operands.inner) × Nests query it.clauses.levels.operands.depth (G.pre it.clauses.levels.operands.query) (G.post it.clauses.levels.operands.query) };
+
+    ghost rule = { λ it. spec.one_row };
+
+    ghost depth = { λ it. it.clauses.levels.operands.depth };
+
+    #[tactic(auto, using(crate::proofs::Selecting::one_row_is))]
+    fn read(&self, tokens: &mut Cursor<'_>) -> Result<Items<Expr>, ParseError> {
+        tokens.open(
+            self.clauses.levels.operands.depth,
+            TokenKind::LeftParen,
+            Role::Opening,
+        )?;
+        let row = self.clauses.levels.operands.exprs(tokens)?;
+        tokens.close(row, TokenKind::RightParen, Role::Closing)
+    }
+}
+
 impl<
     F: Fn(Global, &mut Cursor<'_>, usize) -> Result<Boxed<Expr>, ParseError>,
     G: Fn(Global, &mut Cursor<'_>, usize) -> Result<Boxed<Query>, ParseError>,
 > Queries<F, G> {
-    /// `expr {, expr}`, each with its text
-    #[tactic(auto, using(crate::proofs::Lists::spanned_exprs_steps))]
-    fn spanned_exprs(&self, tokens: &mut Cursor<'_>) -> Result<Items<SpannedExpr>, ParseError>
-        requires exprs { Nests expr self.now.clauses.levels.operands.depth (F.pre self.now.clauses.levels.operands.inner) (F.post self.now.clauses.levels.operands.inner) }
-        requires queries { Nests query self.now.clauses.levels.operands.depth (G.pre self.now.clauses.levels.operands.query) (G.post self.now.clauses.levels.operands.query) }
-        ensures { Gives (reads Name rules self.now.clauses.levels.operands.depth part.spanned_exprs tokens.old.counts tokens.old.rest.now) result tokens.new.counts tokens.new.rest.now }
-    {
-        let mut found = Items::new(self.clauses.levels.operands.alloc);
-        found.push(self.clauses.spanned_expr(tokens)?)?;
-        while tokens.sees(TokenKind::Comma) {
-            tokens.expect(TokenKind::Comma, Role::Outside)?;
-            found.push(self.clauses.spanned_expr(tokens)?)?;
-        }
-        Ok(found)
-    }
-
     /// `[GROUP BY expr {, expr}]`
     #[tactic(auto, using(crate::proofs::Selecting::group_bys))]
     fn group_by(&self, tokens: &mut Cursor<'_>) -> Result<Items<SpannedExpr>, ParseError>
@@ -65,21 +71,17 @@ impl<
         }
         tokens.expect(TokenKind::Group, Role::Outside)?;
         tokens.expect(TokenKind::By, Role::Outside)?;
-        self.spanned_exprs(tokens)
+        list(self.clauses.levels.operands.alloc, tokens, &self.clauses)
     }
 
     /// `[HAVING expr]`
-    #[tactic(auto, using(crate::proofs::Selecting::havings))]
+    #[tactic(auto, using(crate::proofs::Selecting::having_is))]
     fn having(&self, tokens: &mut Cursor<'_>) -> Result<Option<Expr>, ParseError>
         requires exprs { Nests expr self.now.clauses.levels.operands.depth (F.pre self.now.clauses.levels.operands.inner) (F.post self.now.clauses.levels.operands.inner) }
         requires queries { Nests query self.now.clauses.levels.operands.depth (G.pre self.now.clauses.levels.operands.query) (G.post self.now.clauses.levels.operands.query) }
         ensures { Gives (reads Name rules self.now.clauses.levels.operands.depth spec.having tokens.old.counts tokens.old.rest.now) result tokens.new.counts tokens.new.rest.now }
     {
-        if !tokens.sees(TokenKind::Having) {
-            return Ok(None);
-        }
-        tokens.expect(TokenKind::Having, Role::Outside)?;
-        Ok(Some(self.clauses.levels.expr(tokens)?.into_inner()))
+        self.clauses.expr_after(tokens, TokenKind::Having)
     }
 
     /// A SELECT behind its first word.
@@ -116,48 +118,15 @@ impl<
         self.select_core(tokens)
     }
 
-    /// `( expr {, expr} )`
-    #[tactic(auto, using(crate::proofs::Selecting::one_row_is))]
-    fn one_row(&self, tokens: &mut Cursor<'_>) -> Result<Items<Expr>, ParseError>
-        requires exprs { Nests expr self.now.clauses.levels.operands.depth (F.pre self.now.clauses.levels.operands.inner) (F.post self.now.clauses.levels.operands.inner) }
-        requires queries { Nests query self.now.clauses.levels.operands.depth (G.pre self.now.clauses.levels.operands.query) (G.post self.now.clauses.levels.operands.query) }
-        ensures { Gives (reads Name rules self.now.clauses.levels.operands.depth spec.one_row tokens.old.counts tokens.old.rest.now) result tokens.new.counts tokens.new.rest.now }
-    {
-        tokens.open(
-            self.clauses.levels.operands.depth,
-            TokenKind::LeftParen,
-            Role::Opening,
-        )?;
-        let row = self.clauses.levels.operands.exprs(tokens)?;
-        tokens.expect(TokenKind::RightParen, Role::Closing)?;
-        Ok(row)
-    }
-
-    /// `row {, row}`
-    #[tactic(auto, using(crate::proofs::Lists::all_rows_steps))]
-    fn all_rows(&self, tokens: &mut Cursor<'_>) -> Result<Items<Items<Expr>>, ParseError>
-        requires exprs { Nests expr self.now.clauses.levels.operands.depth (F.pre self.now.clauses.levels.operands.inner) (F.post self.now.clauses.levels.operands.inner) }
-        requires queries { Nests query self.now.clauses.levels.operands.depth (G.pre self.now.clauses.levels.operands.query) (G.post self.now.clauses.levels.operands.query) }
-        ensures { Gives (reads Name rules self.now.clauses.levels.operands.depth part.all_rows tokens.old.counts tokens.old.rest.now) result tokens.new.counts tokens.new.rest.now }
-    {
-        let mut found = Items::new(self.clauses.levels.operands.alloc);
-        found.push(self.one_row(tokens)?)?;
-        while tokens.sees(TokenKind::Comma) {
-            tokens.expect(TokenKind::Comma, Role::Outside)?;
-            found.push(self.one_row(tokens)?)?;
-        }
-        Ok(found)
-    }
-
     /// `VALUES row {, row}` (SELECT, The VALUES clause)
-    #[tactic(auto, using(crate::proofs::Selecting::values_is))]
+    #[tactic(auto, using(crate::proofs::Selecting::values_steps))]
     fn values(&self, tokens: &mut Cursor<'_>) -> Result<Items<Items<Expr>>, ParseError>
         requires exprs { Nests expr self.now.clauses.levels.operands.depth (F.pre self.now.clauses.levels.operands.inner) (F.post self.now.clauses.levels.operands.inner) }
         requires queries { Nests query self.now.clauses.levels.operands.depth (G.pre self.now.clauses.levels.operands.query) (G.post self.now.clauses.levels.operands.query) }
         ensures { Gives (reads Name rules self.now.clauses.levels.operands.depth spec.values tokens.old.counts tokens.old.rest.now) result tokens.new.counts tokens.new.rest.now }
     {
         tokens.expect(TokenKind::Values, Role::Part)?;
-        self.all_rows(tokens)
+        list(self.clauses.levels.operands.alloc, tokens, self)
     }
 
     /// A SELECT, or VALUES, and whether it is a SELECT.

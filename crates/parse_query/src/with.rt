@@ -10,7 +10,7 @@ ghost use Rattle.parse_operand.specs.Nests.{Nests};
 ghost use Rattle.parse_query.specs.Parts as part;
 
 use crate::queries::Queries;
-use parse_cursor::{Cursor, ParseError, column_names, given_word, name};
+use parse_cursor::{Cursor, Element, ParseError, boxed, column_names, given_word, list, name};
 use sql_grammar::Role;
 use sql_tree::{CommonTable, Expr, Query, TokenKind};
 use sqlite_items::{Boxed, Items};
@@ -30,14 +30,21 @@ impl<
         tokens.expect(TokenKind::As, Role::Outside)?;
         self.clauses.in_query(tokens)
     }
+}
 
-    /// `name [( name {, name} )] AS ( query )`
+/// `name [( name {, name} )] AS ( query )`, in lists.
+impl<
+    F: Fn(Global, &mut Cursor<'_>, usize) -> Result<Boxed<Expr>, ParseError>,
+    G: Fn(Global, &mut Cursor<'_>, usize) -> Result<Boxed<Query>, ParseError>,
+> Element<CommonTable> for Queries<F, G> {
+    ghost is_ready = { λ it. Nests expr it.clauses.levels.operands.depth (F.pre it.clauses.levels.operands.inner) (F.post it.clauses.levels.operands.inner) × Nests query it.clauses.levels.operands.depth (G.pre it.clauses.levels.operands.query) (G.post it.clauses.levels.operands.query) };
+
+    ghost rule = { λ it. spec.common_table };
+
+    ghost depth = { λ it. it.clauses.levels.operands.depth };
+
     #[tactic(auto, using(crate::proofs::Tables::common_table_is))]
-    fn common_table(&self, tokens: &mut Cursor<'_>) -> Result<CommonTable, ParseError>
-        requires exprs { Nests expr self.now.clauses.levels.operands.depth (F.pre self.now.clauses.levels.operands.inner) (F.post self.now.clauses.levels.operands.inner) }
-        requires queries { Nests query self.now.clauses.levels.operands.depth (G.pre self.now.clauses.levels.operands.query) (G.post self.now.clauses.levels.operands.query) }
-        ensures { Gives (reads Name rules self.now.clauses.levels.operands.depth spec.common_table tokens.old.counts tokens.old.rest.now) result tokens.new.counts tokens.new.rest.now }
-    {
+    fn read(&self, tokens: &mut Cursor<'_>) -> Result<CommonTable, ParseError> {
         let operands = &self.clauses.levels.operands;
         let table = name(tokens)?;
         let columns = column_names(operands.alloc, tokens, operands.depth)?;
@@ -48,32 +55,21 @@ impl<
             query,
         })
     }
+}
 
-    /// `cte {, cte}`
-    #[tactic(auto, using(crate::proofs::Lists::all_tables_steps))]
-    fn all_tables(&self, tokens: &mut Cursor<'_>) -> Result<Items<CommonTable>, ParseError>
-        requires exprs { Nests expr self.now.clauses.levels.operands.depth (F.pre self.now.clauses.levels.operands.inner) (F.post self.now.clauses.levels.operands.inner) }
-        requires queries { Nests query self.now.clauses.levels.operands.depth (G.pre self.now.clauses.levels.operands.query) (G.post self.now.clauses.levels.operands.query) }
-        ensures { Gives (reads Name rules self.now.clauses.levels.operands.depth part.all_tables tokens.old.counts tokens.old.rest.now) result tokens.new.counts tokens.new.rest.now }
-    {
-        let mut found = Items::new(self.clauses.levels.operands.alloc);
-        found.push(self.common_table(tokens)?)?;
-        while tokens.sees(TokenKind::Comma) {
-            tokens.expect(TokenKind::Comma, Role::Outside)?;
-            found.push(self.common_table(tokens)?)?;
-        }
-        Ok(found)
-    }
-
+impl<
+    F: Fn(Global, &mut Cursor<'_>, usize) -> Result<Boxed<Expr>, ParseError>,
+    G: Fn(Global, &mut Cursor<'_>, usize) -> Result<Boxed<Query>, ParseError>,
+> Queries<F, G> {
     /// `[RECURSIVE] cte {, cte}`
-    #[tactic(auto, using(crate::proofs::Tables::tables_is))]
+    #[tactic(auto, using(crate::proofs::Tables::tables_steps))]
     fn tables(&self, tokens: &mut Cursor<'_>) -> Result<Items<CommonTable>, ParseError>
         requires exprs { Nests expr self.now.clauses.levels.operands.depth (F.pre self.now.clauses.levels.operands.inner) (F.post self.now.clauses.levels.operands.inner) }
         requires queries { Nests query self.now.clauses.levels.operands.depth (G.pre self.now.clauses.levels.operands.query) (G.post self.now.clauses.levels.operands.query) }
         ensures { Gives (reads Name rules self.now.clauses.levels.operands.depth spec.tables tokens.old.counts tokens.old.rest.now) result tokens.new.counts tokens.new.rest.now }
     {
         given_word(tokens, TokenKind::Recursive)?;
-        self.all_tables(tokens)
+        list(self.clauses.levels.operands.alloc, tokens, self)
     }
 
     /// `[WITH [RECURSIVE] cte {, cte}]` (The WITH Clause)
@@ -107,6 +103,6 @@ impl<
             order_by,
             limit,
         };
-        Ok(Boxed::new(self.clauses.levels.operands.alloc, query)?)
+        boxed(self.clauses.levels.operands.alloc, query)
     }
 }

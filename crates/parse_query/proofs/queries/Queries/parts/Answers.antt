@@ -1,5 +1,18 @@
-use Rattle.parse_query.proofs.CompoundSteps.{part_shorter}
+use Rattle.std.proofs.Common.{arith}
+use Rattle.parse_query.proofs.CompoundSteps.{part_shorter, parts_steps}
 use Rattle.parse_query.proofs.queries.Queries.parts.Goals as goal
+
+pub returns-in_err-ends_in_select : goal.returns-in_err-ends_in_select
+returns-in_err-ends_in_select g c = grind (arith, parts_steps)
+
+pub returns-in_err-is_select : goal.returns-in_err-is_select
+returns-in_err-is_select g c = grind (arith, parts_steps)
+
+pub returns-in_err-push : goal.returns-in_err-push
+returns-in_err-push g c = grind (arith, parts_steps)
+
+pub returns : goal.returns
+returns g c = grind (arith, parts_steps)
 
 pub loop-tokens-smaller : goal.loop-tokens-smaller
 loop-tokens-smaller g c = part_shorter _ _ _ _ _ _ c.in_ok-is_select.ensures

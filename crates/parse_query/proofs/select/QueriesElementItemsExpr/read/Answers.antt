@@ -1,0 +1,12 @@
+use Rattle.std.proofs.Common.{arith}
+use Rattle.parse_query.proofs.Selecting.{one_row_is}
+use Rattle.parse_query.proofs.select.QueriesElementItemsExpr.read.Goals as goal
+
+pub returns-in_err-open : goal.returns-in_err-open
+returns-in_err-open g c = grind (arith, one_row_is)
+
+pub returns-in_err-row : goal.returns-in_err-row
+returns-in_err-row g c = grind (arith, one_row_is)
+
+pub returns : goal.returns
+returns g c = grind (arith, one_row_is)
