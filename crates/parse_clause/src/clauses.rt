@@ -34,11 +34,13 @@ impl<
         ensures { Gives (reads Name rules self.now.levels.operands.depth spec.spanned_expr tokens.old.counts tokens.old.rest.now) result tokens.new.counts tokens.new.rest.now }
     {
         let behind = tokens.rest;
-        let expr = self.levels.expr(tokens)?.into_inner();
-        Ok(SpannedExpr {
-            expr,
-            text: text_before(behind, tokens.rest),
-        })
+        match self.levels.expr(tokens) {
+            Ok(found) => Ok(SpannedExpr {
+                expr: found.into_inner(),
+                text: text_before(behind, tokens.rest),
+            }),
+            Err(why) => Err(why),
+        }
     }
 
     /// Parses `( query )` (SELECT), where a nesting may still be opened.
@@ -53,8 +55,10 @@ impl<
             TokenKind::LeftParen,
             Role::Opening,
         )?;
-        let found = self.levels.operands.inner_query(tokens)?;
-        tokens.close(found, TokenKind::RightParen, Role::Closing)
+        match self.levels.operands.inner_query(tokens) {
+            Ok(found) => tokens.close(found, TokenKind::RightParen, Role::Closing),
+            Err(why) => Err(why),
+        }
     }
 
     /// Parses `[word expr]`, for a clause that is a word and an expression.
@@ -72,7 +76,10 @@ impl<
             return Ok(None);
         }
         tokens.expect(word, Role::Outside)?;
-        Ok(Some(self.levels.expr(tokens)?.into_inner()))
+        match self.levels.expr(tokens) {
+            Ok(found) => Ok(Some(found.into_inner())),
+            Err(why) => Err(why),
+        }
     }
 
     /// Parses `[WHERE expr]` (SELECT).

@@ -118,8 +118,10 @@ impl<
             TokenKind::LeftParen,
             Role::Opening,
         )?;
-        let found = self.inside_table_arguments(tokens)?;
-        tokens.close(Some(found), TokenKind::RightParen, Role::Closing)
+        match self.inside_table_arguments(tokens) {
+            Ok(found) => tokens.close(Some(found), TokenKind::RightParen, Role::Closing),
+            Err(why) => Err(why),
+        }
     }
 
     /// `name [( [expr {, expr}] )] | ( query )`
@@ -131,9 +133,15 @@ impl<
     {
         if sees_name(tokens) {
             let table = name(tokens)?;
-            return Ok(Source::Table(table, self.table_arguments(tokens)?));
+            return match self.table_arguments(tokens) {
+                Ok(arguments) => Ok(Source::Table(table, arguments)),
+                Err(why) => Err(why),
+            };
         }
-        Ok(Source::Derived(self.in_query(tokens)?))
+        match self.in_query(tokens) {
+            Ok(query) => Ok(Source::Derived(query)),
+            Err(why) => Err(why),
+        }
     }
 
     /// `[ON expr | USING ( name {, name} )]`
@@ -145,7 +153,10 @@ impl<
     {
         if tokens.sees(TokenKind::On) {
             tokens.expect(TokenKind::On, Role::Outside)?;
-            return Ok(JoinConstraint::On(self.levels.expr(tokens)?.into_inner()));
+            return match self.levels.expr(tokens) {
+                Ok(found) => Ok(JoinConstraint::On(found.into_inner())),
+                Err(why) => Err(why),
+            };
         }
         if tokens.sees(TokenKind::Using) {
             tokens.expect(TokenKind::Using, Role::Outside)?;
@@ -162,7 +173,10 @@ impl<
         requires queries { Nests query self.now.levels.operands.depth (G.pre self.now.levels.operands.query) (G.post self.now.levels.operands.query) }
         ensures { Gives (reads Name rules self.now.levels.operands.depth spec.first_item tokens.old.counts tokens.old.rest.now) result tokens.new.counts tokens.new.rest.now }
     {
-        let source = self.source(tokens)?;
+        let source = match self.source(tokens) {
+            Ok(found) => found,
+            Err(why) => return Err(why),
+        };
         let alias = alias(tokens)?;
         Ok(FromItem {
             join: PLAIN,
@@ -180,15 +194,20 @@ impl<
         ensures { Gives (reads Name rules self.now.levels.operands.depth spec.joined_item tokens.old.counts tokens.old.rest.now) result tokens.new.counts tokens.new.rest.now }
     {
         let join = join(tokens)?;
-        let source = self.source(tokens)?;
+        let source = match self.source(tokens) {
+            Ok(found) => found,
+            Err(why) => return Err(why),
+        };
         let alias = alias(tokens)?;
-        let constraint = self.join_constraint(tokens)?;
-        Ok(FromItem {
-            join,
-            source,
-            alias,
-            constraint,
-        })
+        match self.join_constraint(tokens) {
+            Ok(constraint) => Ok(FromItem {
+                join,
+                source,
+                alias,
+                constraint,
+            }),
+            Err(why) => Err(why),
+        }
     }
 
     /// `item {join item [on]}`

@@ -60,11 +60,13 @@ impl<
     {
         let behind = tokens.rest;
         let operand = boxed(self.levels.operands.alloc, operand)?;
-        let expr = self.levels.tails(tokens, operand)?.into_inner();
-        Ok(SpannedExpr {
-            expr,
-            text: longer(front, behind, tokens.rest),
-        })
+        match self.levels.tails(tokens, operand) {
+            Ok(found) => Ok(SpannedExpr {
+                expr: found.into_inner(),
+                text: longer(front, behind, tokens.rest),
+            }),
+            Err(why) => Err(why),
+        }
     }
 
     /// A call of this function, and what goes on behind it.
@@ -79,12 +81,17 @@ impl<
         ensures { Gives (part.called function (reads Name rules self.now.levels.operands.depth spec.spanned_call tokens.old.counts tokens.old.rest.now)) result tokens.new.counts tokens.new.rest.now }
     {
         let behind = tokens.rest;
-        let call = self.levels.operands.call(tokens, function)?;
-        let expr = self.levels.tails(tokens, call)?.into_inner();
-        Ok(SpannedExpr {
-            expr,
-            text: longer(function.span, behind, tokens.rest),
-        })
+        let call = match self.levels.operands.call(tokens, function) {
+            Ok(found) => found,
+            Err(why) => return Err(why),
+        };
+        match self.levels.tails(tokens, call) {
+            Ok(found) => Ok(SpannedExpr {
+                expr: found.into_inner(),
+                text: longer(function.span, behind, tokens.rest),
+            }),
+            Err(why) => Err(why),
+        }
     }
 
     /// Behind `table .`: a column and what goes on behind it.
@@ -99,13 +106,15 @@ impl<
         ensures { Gives (part.of_name table (reads Name rules self.now.levels.operands.depth spec.column_of_table tokens.old.counts tokens.old.rest.now)) result tokens.new.counts tokens.new.rest.now }
     {
         let column = name(tokens)?;
-        let shown = self.spanned_tails(
-            tokens,
-            Expr::TableColumn(table, column),
-            from_to(table, column),
-        )?;
-        let alias = alias(tokens)?;
-        Ok(ResultColumn::Expression(shown, alias))
+        let text = from_to(table, column);
+        let shown = match self.spanned_tails(tokens, Expr::TableColumn(table, column), text) {
+            Ok(found) => found,
+            Err(why) => return Err(why),
+        };
+        match alias(tokens) {
+            Ok(alias) => Ok(ResultColumn::Expression(shown, alias)),
+            Err(why) => Err(why),
+        }
     }
 
     /// Behind `table .`: `*`, or a column.
@@ -138,13 +147,23 @@ impl<
             return self.behind_dot(tokens, first);
         }
         if tokens.sees(TokenKind::LeftParen) {
-            let shown = self.spanned_call(tokens, first)?;
-            let alias = alias(tokens)?;
-            return Ok(ResultColumn::Expression(shown, alias));
+            let shown = match self.spanned_call(tokens, first) {
+                Ok(found) => found,
+                Err(why) => return Err(why),
+            };
+            return match alias(tokens) {
+                Ok(alias) => Ok(ResultColumn::Expression(shown, alias)),
+                Err(why) => Err(why),
+            };
         }
-        let shown = self.spanned_tails(tokens, Expr::Column(first), first.span)?;
-        let alias = alias(tokens)?;
-        Ok(ResultColumn::Expression(shown, alias))
+        let shown = match self.spanned_tails(tokens, Expr::Column(first), first.span) {
+            Ok(found) => found,
+            Err(why) => return Err(why),
+        };
+        match alias(tokens) {
+            Ok(alias) => Ok(ResultColumn::Expression(shown, alias)),
+            Err(why) => Err(why),
+        }
     }
 
     /// A result that begins with a name.
@@ -166,7 +185,10 @@ impl<
         ensures { Gives (reads Name rules self.now.levels.operands.depth spec.other_result tokens.old.counts tokens.old.rest.now) result tokens.new.counts tokens.new.rest.now }
     {
         let behind = tokens.rest;
-        let expr = self.levels.other_expr(tokens)?.into_inner();
+        let expr = match self.levels.other_expr(tokens) {
+            Ok(found) => found.into_inner(),
+            Err(why) => return Err(why),
+        };
         let text = text_before(behind, tokens.rest);
         let alias = alias(tokens)?;
         Ok(ResultColumn::Expression(SpannedExpr { expr, text }, alias))

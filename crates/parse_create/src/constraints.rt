@@ -44,8 +44,10 @@ fn in_expression(alloc: Global, tokens: &mut Cursor<'_>, depth: usize) -> Result
     ensures { Gives (reads Name rules depth spec.in_expression tokens.old.counts tokens.old.rest.now) result tokens.new.counts tokens.new.rest.now }
 {
     tokens.open(depth, TokenKind::LeftParen, Role::Opening)?;
-    let found = expr(alloc, tokens, depth - 1)?;
-    tokens.close(found, TokenKind::RightParen, Role::Closing)
+    match expr(alloc, tokens, depth - 1) {
+        Ok(found) => tokens.close(found, TokenKind::RightParen, Role::Closing),
+        Err(why) => Err(why),
+    }
 }
 
 /// `CHECK ( expr )`
@@ -95,7 +97,10 @@ fn default_value(alloc: Global, tokens: &mut Cursor<'_>, depth: usize) -> Result
         return in_expression(alloc, tokens, depth);
     }
     let number = signed(tokens)?;
-    Ok(signed_literal(alloc, number)?)
+    match signed_literal(alloc, number) {
+        Ok(literal) => Ok(literal),
+        Err(_) => Err(ParseError::Memory),
+    }
 }
 
 /// `PRIMARY KEY`
@@ -160,12 +165,17 @@ fn column_rule(
         return Ok(ColumnConstraint::Unique);
     }
     if tokens.sees(TokenKind::Check) {
-        return Ok(ColumnConstraint::Check(check(alloc, tokens, depth)?));
+        return match check(alloc, tokens, depth) {
+            Ok(condition) => Ok(ColumnConstraint::Check(condition)),
+            Err(why) => Err(why),
+        };
     }
     if tokens.sees(TokenKind::Default) {
         tokens.expect(TokenKind::Default, Role::Outside)?;
-        let value = default_value(alloc, tokens, depth)?;
-        return Ok(ColumnConstraint::Default(value));
+        return match default_value(alloc, tokens, depth) {
+            Ok(value) => Ok(ColumnConstraint::Default(value)),
+            Err(why) => Err(why),
+        };
     }
     Ok(ColumnConstraint::Collate(collate(tokens)?))
 }

@@ -47,11 +47,13 @@ pub fn create(alloc: Global, tokens: &mut Cursor<'_>, depth: usize) -> Result<Cr
 {
     let start = tokens.rest;
     tokens.expect(TokenKind::Create, Role::Outside)?;
-    let ((if_not_exists, name), definition) = named_definition(alloc, tokens, depth)?;
-    Ok(Create {
-        if_not_exists,
-        name,
-        definition,
-        text: text_before(start, tokens.rest),
-    })
+    match named_definition(alloc, tokens, depth) {
+        Ok(((if_not_exists, name), definition)) => Ok(Create {
+            if_not_exists,
+            name,
+            definition,
+            text: text_before(start, tokens.rest),
+        }),
+        Err(why) => Err(why),
+    }
 }

@@ -118,6 +118,8 @@ pub(crate) fn create_view(
     let header = header(tokens)?;
     let columns = column_names(alloc, tokens, depth)?;
     tokens.expect(TokenKind::As, Role::Outside)?;
-    let query = query(alloc, tokens, depth)?;
-    Ok((header, Definition::View(ViewDefinition { columns, query })))
+    match query(alloc, tokens, depth) {
+        Ok(query) => Ok((header, Definition::View(ViewDefinition { columns, query }))),
+        Err(why) => Err(why),
+    }
 }

@@ -48,12 +48,14 @@ fn column(
 {
     let name = name(tokens)?;
     let type_name = column_type(alloc, tokens, depth)?;
-    let constraints = column_constraints(alloc, tokens, depth)?;
-    Ok(ColumnDefinition {
-        name,
-        type_name,
-        constraints,
-    })
+    match column_constraints(alloc, tokens, depth) {
+        Ok(constraints) => Ok(ColumnDefinition {
+            name,
+            type_name,
+            constraints,
+        }),
+        Err(why) => Err(why),
+    }
 }
 
 /// `[COLLATE name]`
@@ -116,13 +118,22 @@ fn table_rule(
 {
     if tokens.sees(TokenKind::Primary) {
         primary_key(tokens)?;
-        return Ok(TableConstraint::PrimaryKey(in_key(alloc, tokens, depth)?));
+        return match in_key(alloc, tokens, depth) {
+            Ok(columns) => Ok(TableConstraint::PrimaryKey(columns)),
+            Err(why) => Err(why),
+        };
     }
     if tokens.sees(TokenKind::Unique) {
         tokens.expect(TokenKind::Unique, Role::Outside)?;
-        return Ok(TableConstraint::Unique(in_key(alloc, tokens, depth)?));
+        return match in_key(alloc, tokens, depth) {
+            Ok(columns) => Ok(TableConstraint::Unique(columns)),
+            Err(why) => Err(why),
+        };
     }
-    Ok(TableConstraint::Check(check(alloc, tokens, depth)?))
+    match check(alloc, tokens, depth) {
+        Ok(condition) => Ok(TableConstraint::Check(condition)),
+        Err(why) => Err(why),
+    }
 }
 
 /// A constraint of a table, whose name means nothing.
@@ -149,13 +160,22 @@ fn all_columns(
 {
     let mut columns = Items::new(alloc);
     let mut constraints = Items::new(alloc);
-    columns.push(column(alloc, tokens, depth)?)?;
+    match column(alloc, tokens, depth) {
+        Ok(found) => columns.push(found)?,
+        Err(why) => return Err(why),
+    }
     while tokens.sees(TokenKind::Comma) {
         tokens.expect(TokenKind::Comma, Role::Outside)?;
         if constraints.len() == 0 && sees_name(tokens) {
-            columns.push(column(alloc, tokens, depth)?)?;
+            match column(alloc, tokens, depth) {
+                Ok(found) => columns.push(found)?,
+                Err(why) => return Err(why),
+            }
         } else {
-            constraints.push(table_constraint(alloc, tokens, depth)?)?;
+            match table_constraint(alloc, tokens, depth) {
+                Ok(found) => constraints.push(found)?,
+                Err(why) => return Err(why),
+            }
         }
     }
     Ok(TableDefinition {
@@ -174,8 +194,10 @@ fn in_columns(
     ensures { Gives (reads Name rules depth part.in_columns tokens.old.counts tokens.old.rest.now) result tokens.new.counts tokens.new.rest.now }
 {
     tokens.open(depth, TokenKind::LeftParen, Role::Opening)?;
-    let columns = all_columns(alloc, tokens, depth - 1)?;
-    tokens.close(columns, TokenKind::RightParen, Role::Closing)
+    match all_columns(alloc, tokens, depth - 1) {
+        Ok(columns) => tokens.close(columns, TokenKind::RightParen, Role::Closing),
+        Err(why) => Err(why),
+    }
 }
 
 /// `[IF NOT EXISTS]`
@@ -213,6 +235,8 @@ pub(crate) fn create_table(
 {
     tokens.expect(TokenKind::Table, Role::Outside)?;
     let header = header(tokens)?;
-    let table = in_columns(alloc, tokens, depth)?;
-    Ok((header, Definition::Table(table)))
+    match in_columns(alloc, tokens, depth) {
+        Ok(table) => Ok((header, Definition::Table(table))),
+        Err(why) => Err(why),
+    }
 }

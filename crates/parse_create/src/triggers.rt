@@ -100,7 +100,10 @@ fn when(alloc: Global, tokens: &mut Cursor<'_>, depth: usize) -> Result<Option<E
 {
     if tokens.sees(TokenKind::When) {
         tokens.expect(TokenKind::When, Role::Outside)?;
-        Ok(Some(expr(alloc, tokens, depth)?))
+        match expr(alloc, tokens, depth) {
+            Ok(condition) => Ok(Some(condition)),
+            Err(why) => Err(why),
+        }
     } else {
         Ok(None)
     }
@@ -116,9 +119,10 @@ impl Element<RowCommand> for Elements {
 
     #[tactic(auto, using(crate::proofs::Triggered::body_command_is))]
     fn read(&self, tokens: &mut Cursor<'_>) -> Result<RowCommand, ParseError> {
-        let command = row_command(self.alloc, tokens, self.depth)?;
-        tokens.expect(TokenKind::Semicolon, Role::Fresh)?;
-        Ok(command)
+        match row_command(self.alloc, tokens, self.depth) {
+            Ok(command) => tokens.close(command, TokenKind::Semicolon, Role::Fresh),
+            Err(why) => Err(why),
+        }
     }
 }
 
@@ -144,8 +148,10 @@ fn trigger_body(
     ensures { Gives (reads Name rules depth spec.trigger_body tokens.old.counts tokens.old.rest.now) result tokens.new.counts tokens.new.rest.now }
 {
     tokens.expect(TokenKind::Begin, Role::Fresh)?;
-    let commands = body_commands(alloc, tokens, depth)?;
-    tokens.close(commands, TokenKind::End, Role::Outside)
+    match body_commands(alloc, tokens, depth) {
+        Ok(commands) => tokens.close(commands, TokenKind::End, Role::Outside),
+        Err(why) => Err(why),
+    }
 }
 
 /// `[time] event ON name [FOR EACH ROW] [WHEN expr] BEGIN .. END`
@@ -161,15 +167,20 @@ fn trigger_parts(
     let event = trigger_event(alloc, tokens)?;
     let table = on_table(tokens)?;
     for_each_row(tokens)?;
-    let condition = when(alloc, tokens, depth)?;
-    let body = trigger_body(alloc, tokens, depth)?;
-    Ok(TriggerDefinition {
-        time,
-        event,
-        table,
-        condition,
-        body,
-    })
+    let condition = match when(alloc, tokens, depth) {
+        Ok(found) => found,
+        Err(why) => return Err(why),
+    };
+    match trigger_body(alloc, tokens, depth) {
+        Ok(body) => Ok(TriggerDefinition {
+            time,
+            event,
+            table,
+            condition,
+            body,
+        }),
+        Err(why) => Err(why),
+    }
 }
 
 /// `TRIGGER [IF NOT EXISTS] name ..`
@@ -183,6 +194,8 @@ pub(crate) fn create_trigger(
 {
     tokens.expect(TokenKind::Trigger, Role::Outside)?;
     let header = header(tokens)?;
-    let trigger = trigger_parts(alloc, tokens, depth)?;
-    Ok((header, Definition::Trigger(trigger)))
+    match trigger_parts(alloc, tokens, depth) {
+        Ok(trigger) => Ok((header, Definition::Trigger(trigger))),
+        Err(why) => Err(why),
+    }
 }

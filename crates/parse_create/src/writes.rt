@@ -89,7 +89,10 @@ fn insert_source(
     ensures { Gives (reads Name rules depth spec.insert_source_of tokens.old.counts tokens.old.rest.now) result tokens.new.counts tokens.new.rest.now }
 {
     if sees_query(tokens) {
-        return Ok(InsertSource::Query(query(alloc, tokens, depth)?));
+        return match query(alloc, tokens, depth) {
+            Ok(found) => Ok(InsertSource::Query(found)),
+            Err(why) => Err(why),
+        };
     }
     tokens.expect(TokenKind::Default, Role::Outside)?;
     tokens.expect(TokenKind::Values, Role::Outside)?;
@@ -105,13 +108,15 @@ fn insert(alloc: Global, tokens: &mut Cursor<'_>, depth: usize) -> Result<Insert
     tokens.expect(TokenKind::Into, Role::Outside)?;
     let table = name(tokens)?;
     let columns = column_names(alloc, tokens, depth)?;
-    let source = insert_source(alloc, tokens, depth)?;
-    Ok(Insert {
-        choice,
-        table,
-        columns,
-        source,
-    })
+    match insert_source(alloc, tokens, depth) {
+        Ok(source) => Ok(Insert {
+            choice,
+            table,
+            columns,
+            source,
+        }),
+        Err(why) => Err(why),
+    }
 }
 
 /// `name = expr`, in lists.
@@ -126,8 +131,10 @@ impl Element<Assignment> for Elements {
     fn read(&self, tokens: &mut Cursor<'_>) -> Result<Assignment, ParseError> {
         let column = name(tokens)?;
         tokens.expect(TokenKind::Equal, Role::Outside)?;
-        let value = expr(self.alloc, tokens, self.depth)?;
-        Ok(Assignment { column, value })
+        match expr(self.alloc, tokens, self.depth) {
+            Ok(value) => Ok(Assignment { column, value }),
+            Err(why) => Err(why),
+        }
     }
 }
 
@@ -152,14 +159,19 @@ fn update(alloc: Global, tokens: &mut Cursor<'_>, depth: usize) -> Result<Update
     let choice = conflict_choice(tokens)?;
     let table = name(tokens)?;
     tokens.expect(TokenKind::Set, Role::Outside)?;
-    let assignments = assignments(alloc, tokens, depth)?;
-    let filter = filter_by(alloc, tokens, depth)?;
-    Ok(Update {
-        choice,
-        table,
-        assignments,
-        filter,
-    })
+    let assignments = match assignments(alloc, tokens, depth) {
+        Ok(found) => found,
+        Err(why) => return Err(why),
+    };
+    match filter_by(alloc, tokens, depth) {
+        Ok(filter) => Ok(Update {
+            choice,
+            table,
+            assignments,
+            filter,
+        }),
+        Err(why) => Err(why),
+    }
 }
 
 /// `DELETE FROM name [WHERE expr]` (DELETE)
@@ -170,8 +182,10 @@ fn delete(alloc: Global, tokens: &mut Cursor<'_>, depth: usize) -> Result<Delete
     tokens.expect(TokenKind::Delete, Role::Outside)?;
     tokens.expect(TokenKind::From, Role::Outside)?;
     let table = name(tokens)?;
-    let filter = filter_by(alloc, tokens, depth)?;
-    Ok(Delete { table, filter })
+    match filter_by(alloc, tokens, depth) {
+        Ok(filter) => Ok(Delete { table, filter }),
+        Err(why) => Err(why),
+    }
 }
 
 /// Whether a command that reads or changes rows comes next.
@@ -192,13 +206,25 @@ pub fn row_command(
     ensures { Gives (reads Name rules depth spec.row_command tokens.old.counts tokens.old.rest.now) result tokens.new.counts tokens.new.rest.now }
 {
     if sees_query(tokens) {
-        return Ok(RowCommand::Query(query(alloc, tokens, depth)?));
+        return match query(alloc, tokens, depth) {
+            Ok(found) => Ok(RowCommand::Query(found)),
+            Err(why) => Err(why),
+        };
     }
     if tokens.sees(TokenKind::Insert) || tokens.sees(TokenKind::Replace) {
-        return Ok(RowCommand::Insert(insert(alloc, tokens, depth)?));
+        return match insert(alloc, tokens, depth) {
+            Ok(found) => Ok(RowCommand::Insert(found)),
+            Err(why) => Err(why),
+        };
     }
     if tokens.sees(TokenKind::Update) {
-        return Ok(RowCommand::Update(update(alloc, tokens, depth)?));
+        return match update(alloc, tokens, depth) {
+            Ok(found) => Ok(RowCommand::Update(found)),
+            Err(why) => Err(why),
+        };
     }
-    Ok(RowCommand::Delete(delete(alloc, tokens, depth)?))
+    match delete(alloc, tokens, depth) {
+        Ok(found) => Ok(RowCommand::Delete(found)),
+        Err(why) => Err(why),
+    }
 }

@@ -2,7 +2,7 @@
 use sql_grammar::Limit;
 use std::alloc::AllocError;
 
-#[derive(Clone, Copy, Debug, PartialEq, Eq)]
+#[derive(Clone, Copy, PartialEq, Eq)]
 pub enum ParseError {
     Memory,
     /// The next token cannot stand there.

@@ -11,7 +11,7 @@ use sql_grammar::Limit;
 use sql_tree::{Span, Token};
 
 /// Why a text is not what it is parsed as.
-#[derive(Clone, Copy, Debug, PartialEq, Eq)]
+#[derive(Clone, Copy, PartialEq, Eq)]
 pub enum Failure {
     Memory,
     /// The byte of the first token that cannot stand there; the number of bytes, if more are missing.

@@ -7,12 +7,13 @@ use Rattle.sql_tree.specs.declared.expr.Expr.TheVariants as tree
 use Rattle.sql_tree.specs.declared.expr.UnaryOp.TheVariants as unary
 use Rattle.sql_grammar.specs.declared.counts.Counts.{Counts}
 use Rattle.sql_grammar.specs.declared.counts.Role.TheVariants as role
-use Rattle.sql_grammar.specs.Rules.{starts, tok, reads, one, Outcome, Done, Stop, ◌>>=◌}
+use Rattle.sql_grammar.specs.Rules.{Kinds, starts, is_clear, tok, reads, one, Outcome, Done, Stop, ◌>>=◌}
 use Rattle.sql_grammar.specs.Grammar.{Name, sign_op, with_signs, with_nots, signs, nots}
 use Rattle.sql_grammar.specs.Bodies.{rules}
 use Rattle.parse_cursor.specs.Gives.{collected}
+use Rattle.parse_expr.specs.Parts.{prefixes}
 use Rattle.parse_expr.proofs.Clear.{signs_clear, nots_clear}
-use Rattle.parse_cursor.proofs.Steps.{both_to, after_is, many_step, many_end, one_shorter}
+use Rattle.parse_cursor.proofs.Steps.{many_step, many_end}
 
 pub collected_none : {A : Type 0} (o : Outcome (List A)) → collected [] o ≡ o
 collected_none (Done a e rest) = refl
@@ -31,8 +32,6 @@ pub signs_end : (found : List Token) (d : ℕ) (c : Counts) (ts : List Token) �
 unfolding signs
 signs_end found d c ts none = many_end (tok role.Operator (kind.Minus ∷ kind.Plus ∷ kind.Tilde ∷ [])) d found c ts signs_clear none
 
-pub ruleset signs_steps = (signs_start, signs_step, signs_end, one_shorter)
-
 -- ---- nots
 
 pub nots_start : (d : ℕ) (c : Counts) (ts : List Token) → collected [] (reads Name rules d nots c ts) ≡ reads Name rules d nots c ts
@@ -46,7 +45,28 @@ pub nots_end : (found : List Token) (d : ℕ) (c : Counts) (ts : List Token) →
 unfolding nots
 nots_end found d c ts none = many_end (tok role.Operator (kind.Not ∷ [])) d found c ts nots_clear none
 
-pub ruleset nots_steps = (nots_start, nots_step, nots_end, one_shorter)
+-- ---- signs or nots
+
+pub prefixes_start : (ks : Kinds) (d : ℕ) (c : Counts) (ts : List Token) → collected [] (reads Name rules d (prefixes ks) c ts) ≡ reads Name rules d (prefixes ks) c ts
+prefixes_start ks d c ts = collected_none (reads Name rules d (prefixes ks) c ts)
+
+pub prefixes_step : (ks : Kinds) (found : List Token) (d : ℕ) (c : Counts) (ts : List Token) → is_clear Name rules (prefixes ks) ≡ true → starts ks ts ≡ true → collected found (reads Name rules d (prefixes ks) c ts) ≡ (one role.Operator ks c ts >>= λ a e rest. collected (found ++ a ∷ []) (reads Name rules d (prefixes ks) e rest))
+unfolding prefixes
+prefixes_step ks found d c ts clear here = many_step (tok role.Operator ks) d found c ts clear here
+
+pub prefixes_end : (ks : Kinds) (found : List Token) (d : ℕ) (c : Counts) (ts : List Token) → is_clear Name rules (prefixes ks) ≡ true → starts ks ts ≡ false → collected found (reads Name rules d (prefixes ks) c ts) ≡ Done found c ts
+unfolding prefixes
+prefixes_end ks found d c ts clear none = many_end (tok role.Operator ks) d found c ts clear none
+
+pub ruleset prefixes_steps = (prefixes_start, prefixes_step, prefixes_end)
+
+pub signs_are_clear : is_clear Name rules (prefixes (kind.Minus ∷ kind.Plus ∷ kind.Tilde ∷ [])) ≡ true
+unfolding signs prefixes
+signs_are_clear = signs_clear
+
+pub nots_are_clear : is_clear Name rules (prefixes (kind.Not ∷ [])) ≡ true
+unfolding nots prefixes
+nots_are_clear = nots_clear
 
 -- ---- the last comes first
 

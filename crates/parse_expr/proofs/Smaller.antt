@@ -6,19 +6,10 @@ use Rattle.sql_tree.specs.declared.expr.Expr.{Expr}
 use Rattle.sql_grammar.specs.declared.counts.Counts.{Counts}
 use Rattle.sql_grammar.specs.declared.counts.Role.TheVariants as role
 use Rattle.sql_grammar.specs.Rules.{reads, one, Done}
-use Rattle.sql_grammar.specs.Grammar.{Name, collated, conjunction, negation}
+use Rattle.sql_grammar.specs.Grammar.{Name, conjunction, negation}
 use Rattle.sql_grammar.specs.Bodies.{rules}
-use Rattle.parse_expr.proofs.Suffixed.{collated_shorter, conjunction_shorter, negation_shorter}
+use Rattle.parse_expr.proofs.Suffixed.{conjunction_shorter, negation_shorter}
 use Rattle.parse_cursor.proofs.Steps.{one_shorter}
-
-pub not_shorter : (c e : Counts) (ts rest : List Token) (t : Token) → one role.Operator (kind.Not ∷ []) c ts ≡ Done t e rest → length rest < length ts
-not_shorter c e ts rest t g = one_shorter role.Operator (kind.Not ∷ []) c e ts rest t g
-
-pub sign_shorter : (c e : Counts) (ts rest : List Token) (t : Token) → one role.Operator (kind.Minus ∷ kind.Plus ∷ kind.Tilde ∷ []) c ts ≡ Done t e rest → length rest < length ts
-sign_shorter c e ts rest t g = one_shorter role.Operator (kind.Minus ∷ kind.Plus ∷ kind.Tilde ∷ []) c e ts rest t g
-
-pub joined_shorter : (d : ℕ) (c e f : Counts) (ts mid rest : List Token) (t : Token) (a : Expr) → one role.Operator (kind.DoubleBar ∷ []) c ts ≡ Done t e mid → reads Name rules d collated e mid ≡ Done a f rest → length rest < length ts
-joined_shorter d c e f ts mid rest t a g h = omega (arith, one_shorter role.Operator (kind.DoubleBar ∷ []) c e ts mid t g, collated_shorter d e f mid rest a h)
 
 pub and_shorter : (d : ℕ) (c e f : Counts) (ts mid rest : List Token) (t : Token) (a : Expr) → one role.Operator (kind.And ∷ []) c ts ≡ Done t e mid → reads Name rules d negation e mid ≡ Done a f rest → length rest < length ts
 and_shorter d c e f ts mid rest t a g h = omega (arith, one_shorter role.Operator (kind.And ∷ []) c e ts mid t g, negation_shorter d e f mid rest a h)

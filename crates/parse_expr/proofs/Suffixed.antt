@@ -7,12 +7,12 @@ use Rattle.sql_tree.specs.declared.expr.Expr.TheVariants as tree
 use Rattle.sql_grammar.specs.declared.counts.Counts.{Counts}
 use Rattle.sql_grammar.specs.declared.counts.Role.TheVariants as role
 use Rattle.sql_grammar.specs.Rules.{starts, reads, one, Done, ◌>>=◌}
-use Rattle.sql_grammar.specs.Grammar.{Name, infix_by, signed_primary, collation, collations, collated, concatenation_op, concatenation, more_concatenation, product_op, product, more_product, sum_op, sum, more_sum, bits_op, bits, more_bits, relation_op, relation, more_relation, test, tests, equality, negation, and_op, conjunction, more_conjunction, or_op, expr, more_expr}
+use Rattle.sql_grammar.specs.Grammar.{Name, infix_by, signed_primary, collation, collations, collated, concatenation, more_concatenation, product, more_product, sum, more_sum, bits, more_bits, relation, more_relation, test, tests, equality, negation, and_op, conjunction, more_conjunction, or_op, expr, more_expr}
 use Rattle.sql_grammar.specs.Bodies.{rules}
 use Rattle.sql_grammar.proofs.Clear.{clear, rich}
 use Rattle.sql_grammar.proofs.Whole.{no_longer}
 use Rattle.parse_cursor.specs.Gives.{apply_to, apply_one}
-use Rattle.parse_expr.proofs.Clear.{collation_clear, collations_clear, collation_solid, first_collation, collated_clear, concatenation_clear, more_concatenation_clear, product_clear, more_product_clear, sum_clear, more_sum_clear, bits_clear, more_bits_clear, more_relation_clear, test_clear, tests_clear, test_solid, first_test, negation_clear, conjunction_clear, more_conjunction_clear, more_expr_clear}
+use Rattle.parse_expr.proofs.Clear.{collation_clear, collations_clear, collation_solid, first_collation, test_clear, tests_clear, test_solid, first_test, negation_clear, conjunction_clear, more_conjunction_clear, more_expr_clear}
 use Rattle.parse_cursor.proofs.Steps.{suffixed_is, suffix_step, suffix_end, suffix_shorter, infix_step, one_shorter}
 
 -- ---- concatenation
@@ -21,39 +21,11 @@ pub concatenation_is : (d : ℕ) (c : Counts) (ts : List Token) → reads Name r
 unfolding concatenation
 concatenation_is d c ts = suffixed_is collated more_concatenation d c ts
 
-pub collated_shorter : (d : ℕ) (c e : Counts) (ts rest : List Token) (a : Expr) → reads Name rules d collated c ts ≡ Done a e rest → length rest ≤ length ts
-collated_shorter d c e ts rest a is = no_longer Name rules clear rich collated collated_clear d c e ts rest a is
-
-pub concatenation_step : (d : ℕ) (left : Expr) (c : Counts) (ts : List Token) → starts (kind.DoubleBar ∷ []) ts ≡ true
-    → apply_to left (reads Name rules d more_concatenation c ts) ≡ (one role.Operator (kind.DoubleBar ∷ []) c ts >>= λ t e rest. reads Name rules d collated e rest >>= λ x g end. apply_to (tree.Binary (concatenation_op t.kind) left x) (reads Name rules d more_concatenation g end))
-unfolding more_concatenation
-concatenation_step d left c ts here = infix_step (kind.DoubleBar ∷ []) concatenation_op collated d left c ts more_concatenation_clear here
-
-pub concatenation_end : (d : ℕ) (left : Expr) (c : Counts) (ts : List Token) → starts (kind.DoubleBar ∷ []) ts ≡ false → apply_to left (reads Name rules d more_concatenation c ts) ≡ Done left c ts
-unfolding more_concatenation
-concatenation_end d left c ts none = suffix_end (infix_by (kind.DoubleBar ∷ []) concatenation_op collated) d left c ts more_concatenation_clear none
-
-pub ruleset concatenation_steps = (concatenation_step, concatenation_end, collated_shorter, one_shorter)
-
 -- ---- product
 
 pub product_is : (d : ℕ) (c : Counts) (ts : List Token) → reads Name rules d product c ts ≡ (reads Name rules d concatenation c ts >>= λ a e rest. apply_to a (reads Name rules d more_product e rest))
 unfolding product
 product_is d c ts = suffixed_is concatenation more_product d c ts
-
-pub concatenation_shorter : (d : ℕ) (c e : Counts) (ts rest : List Token) (a : Expr) → reads Name rules d concatenation c ts ≡ Done a e rest → length rest ≤ length ts
-concatenation_shorter d c e ts rest a is = no_longer Name rules clear rich concatenation concatenation_clear d c e ts rest a is
-
-pub product_step : (d : ℕ) (left : Expr) (c : Counts) (ts : List Token) → starts (kind.Star ∷ kind.Slash ∷ kind.Percent ∷ []) ts ≡ true
-    → apply_to left (reads Name rules d more_product c ts) ≡ (one role.Operator (kind.Star ∷ kind.Slash ∷ kind.Percent ∷ []) c ts >>= λ t e rest. reads Name rules d concatenation e rest >>= λ x g end. apply_to (tree.Binary (product_op t.kind) left x) (reads Name rules d more_product g end))
-unfolding more_product
-product_step d left c ts here = infix_step (kind.Star ∷ kind.Slash ∷ kind.Percent ∷ []) product_op concatenation d left c ts more_product_clear here
-
-pub product_end : (d : ℕ) (left : Expr) (c : Counts) (ts : List Token) → starts (kind.Star ∷ kind.Slash ∷ kind.Percent ∷ []) ts ≡ false → apply_to left (reads Name rules d more_product c ts) ≡ Done left c ts
-unfolding more_product
-product_end d left c ts none = suffix_end (infix_by (kind.Star ∷ kind.Slash ∷ kind.Percent ∷ []) product_op concatenation) d left c ts more_product_clear none
-
-pub ruleset product_steps = (product_step, product_end, concatenation_shorter, one_shorter)
 
 -- ---- sum
 
@@ -61,59 +33,17 @@ pub sum_is : (d : ℕ) (c : Counts) (ts : List Token) → reads Name rules d sum
 unfolding sum
 sum_is d c ts = suffixed_is product more_sum d c ts
 
-pub product_shorter : (d : ℕ) (c e : Counts) (ts rest : List Token) (a : Expr) → reads Name rules d product c ts ≡ Done a e rest → length rest ≤ length ts
-product_shorter d c e ts rest a is = no_longer Name rules clear rich product product_clear d c e ts rest a is
-
-pub sum_step : (d : ℕ) (left : Expr) (c : Counts) (ts : List Token) → starts (kind.Plus ∷ kind.Minus ∷ []) ts ≡ true
-    → apply_to left (reads Name rules d more_sum c ts) ≡ (one role.Operator (kind.Plus ∷ kind.Minus ∷ []) c ts >>= λ t e rest. reads Name rules d product e rest >>= λ x g end. apply_to (tree.Binary (sum_op t.kind) left x) (reads Name rules d more_sum g end))
-unfolding more_sum
-sum_step d left c ts here = infix_step (kind.Plus ∷ kind.Minus ∷ []) sum_op product d left c ts more_sum_clear here
-
-pub sum_end : (d : ℕ) (left : Expr) (c : Counts) (ts : List Token) → starts (kind.Plus ∷ kind.Minus ∷ []) ts ≡ false → apply_to left (reads Name rules d more_sum c ts) ≡ Done left c ts
-unfolding more_sum
-sum_end d left c ts none = suffix_end (infix_by (kind.Plus ∷ kind.Minus ∷ []) sum_op product) d left c ts more_sum_clear none
-
-pub ruleset sum_steps = (sum_step, sum_end, product_shorter, one_shorter)
-
 -- ---- bits
 
 pub bits_is : (d : ℕ) (c : Counts) (ts : List Token) → reads Name rules d bits c ts ≡ (reads Name rules d sum c ts >>= λ a e rest. apply_to a (reads Name rules d more_bits e rest))
 unfolding bits
 bits_is d c ts = suffixed_is sum more_bits d c ts
 
-pub sum_shorter : (d : ℕ) (c e : Counts) (ts rest : List Token) (a : Expr) → reads Name rules d sum c ts ≡ Done a e rest → length rest ≤ length ts
-sum_shorter d c e ts rest a is = no_longer Name rules clear rich sum sum_clear d c e ts rest a is
-
-pub bits_step : (d : ℕ) (left : Expr) (c : Counts) (ts : List Token) → starts (kind.Ampersand ∷ kind.Bar ∷ kind.ShiftLeft ∷ kind.ShiftRight ∷ []) ts ≡ true
-    → apply_to left (reads Name rules d more_bits c ts) ≡ (one role.Operator (kind.Ampersand ∷ kind.Bar ∷ kind.ShiftLeft ∷ kind.ShiftRight ∷ []) c ts >>= λ t e rest. reads Name rules d sum e rest >>= λ x g end. apply_to (tree.Binary (bits_op t.kind) left x) (reads Name rules d more_bits g end))
-unfolding more_bits
-bits_step d left c ts here = infix_step (kind.Ampersand ∷ kind.Bar ∷ kind.ShiftLeft ∷ kind.ShiftRight ∷ []) bits_op sum d left c ts more_bits_clear here
-
-pub bits_end : (d : ℕ) (left : Expr) (c : Counts) (ts : List Token) → starts (kind.Ampersand ∷ kind.Bar ∷ kind.ShiftLeft ∷ kind.ShiftRight ∷ []) ts ≡ false → apply_to left (reads Name rules d more_bits c ts) ≡ Done left c ts
-unfolding more_bits
-bits_end d left c ts none = suffix_end (infix_by (kind.Ampersand ∷ kind.Bar ∷ kind.ShiftLeft ∷ kind.ShiftRight ∷ []) bits_op sum) d left c ts more_bits_clear none
-
-pub ruleset bits_steps = (bits_step, bits_end, sum_shorter, one_shorter)
-
 -- ---- relation
 
 pub relation_is : (d : ℕ) (c : Counts) (ts : List Token) → reads Name rules d relation c ts ≡ (reads Name rules d bits c ts >>= λ a e rest. apply_to a (reads Name rules d more_relation e rest))
 unfolding relation
 relation_is d c ts = suffixed_is bits more_relation d c ts
-
-pub bits_shorter : (d : ℕ) (c e : Counts) (ts rest : List Token) (a : Expr) → reads Name rules d bits c ts ≡ Done a e rest → length rest ≤ length ts
-bits_shorter d c e ts rest a is = no_longer Name rules clear rich bits bits_clear d c e ts rest a is
-
-pub relation_step : (d : ℕ) (left : Expr) (c : Counts) (ts : List Token) → starts (kind.Less ∷ kind.LessEqual ∷ kind.Greater ∷ kind.GreaterEqual ∷ []) ts ≡ true
-    → apply_to left (reads Name rules d more_relation c ts) ≡ (one role.Operator (kind.Less ∷ kind.LessEqual ∷ kind.Greater ∷ kind.GreaterEqual ∷ []) c ts >>= λ t e rest. reads Name rules d bits e rest >>= λ x g end. apply_to (tree.Binary (relation_op t.kind) left x) (reads Name rules d more_relation g end))
-unfolding more_relation
-relation_step d left c ts here = infix_step (kind.Less ∷ kind.LessEqual ∷ kind.Greater ∷ kind.GreaterEqual ∷ []) relation_op bits d left c ts more_relation_clear here
-
-pub relation_end : (d : ℕ) (left : Expr) (c : Counts) (ts : List Token) → starts (kind.Less ∷ kind.LessEqual ∷ kind.Greater ∷ kind.GreaterEqual ∷ []) ts ≡ false → apply_to left (reads Name rules d more_relation c ts) ≡ Done left c ts
-unfolding more_relation
-relation_end d left c ts none = suffix_end (infix_by (kind.Less ∷ kind.LessEqual ∷ kind.Greater ∷ kind.GreaterEqual ∷ []) relation_op bits) d left c ts more_relation_clear none
-
-pub ruleset relation_steps = (relation_step, relation_end, bits_shorter, one_shorter)
 
 -- ---- conjunction
 

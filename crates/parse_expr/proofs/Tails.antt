@@ -1,5 +1,5 @@
 -- What may stand behind an operand, level by level.
-use Rattle.std.proofs.Common.{◌≡◌, ℕ, List, refl}
+use Rattle.std.proofs.Common.{◌≡◌, ℕ, suc, List, refl, sym, ap, ◌∙◌}
 use Rattle.sql_tree.specs.declared.token.Token.{Token}
 use Rattle.sql_tree.specs.declared.expr.Expr.{Expr}
 use Rattle.sql_grammar.specs.declared.counts.Counts.{Counts}
@@ -8,6 +8,8 @@ use Rattle.sql_grammar.specs.Grammar.{Name, Of, applied, collations, more_concat
 use Rattle.sql_grammar.specs.Bodies.{rules}
 use Rattle.parse_cursor.specs.Gives.{apply_to, apply_one}
 use Rattle.parse_cursor.proofs.Steps.{apply_done}
+use Rattle.parse_expr.specs.Parts.{joined, behind}
+use Rattle.parse_expr.proofs.Joined.{joined_0, joined_1, joined_2, joined_3, joined_4}
 
 abbrev pub Suffixes : Type 0
 Suffixes = List (Expr → Expr)
@@ -115,4 +117,33 @@ pub behind_conjunction_is : (left : Expr) (d : ℕ) (c : Counts) (ts : List Toke
 unfolding behind_conjunction
 behind_conjunction_is left d c ts = apply_done last left (reads Name rules d more_expr c ts)
 
-pub ruleset tails_steps = (tails_is, behind_collated_is, behind_concatenation_is, behind_product_is, behind_sum_is, behind_bits_is, behind_relation_is, behind_negation_is, behind_conjunction_is)
+-- ---- level by level
+
+-- a level more, where what stands behind the level below is its operators and what stands behind them
+one_more : (n d : ℕ) (x : Expr) (c : Counts) (ts : List Token) (below above : Of (Expr → Expr))
+    → ((left : Expr) (e : Counts) (rest : List Token) → apply_one left (reads Name rules d below e rest) ≡ (apply_to left (reads Name rules d (joined n) e rest) >>= λ y f end. apply_one y (reads Name rules d above f end)))
+    → (behind d n x c ts >>= λ a e rest. apply_one a (reads Name rules d below e rest)) ≡ (behind d (suc n) x c ts >>= λ a e rest. apply_one a (reads Name rules d above e rest))
+unfolding behind
+one_more n d x c ts below above next = word (behind d n x c ts) where
+  word : (o : Outcome Expr) → (o >>= λ a e rest. apply_one a (reads Name rules d below e rest)) ≡ ((o >>= λ a e rest. apply_to a (reads Name rules d (joined n) e rest)) >>= λ a e rest. apply_one a (reads Name rules d above e rest))
+  word (Done a e rest) = next a e rest
+  word (Stop w rest) = refl
+
+-- the operators of a level, as the grammar names them
+named : (r s : Of Suffixes) (d : ℕ) (left : Expr) (c : Counts) (ts : List Token) (above : Of (Expr → Expr)) → r ≡ s → (apply_to left (reads Name rules d s c ts) >>= λ y f end. apply_one y (reads Name rules d above f end)) ≡ (apply_to left (reads Name rules d r c ts) >>= λ y f end. apply_one y (reads Name rules d above f end))
+named r s d left c ts above same = ap (λ q. apply_to left (reads Name rules d q c ts) >>= λ y f end. apply_one y (reads Name rules d above f end)) (sym same)
+
+tails_from_operand : (left : Expr) (d : ℕ) (c : Counts) (ts : List Token) → apply_one left (reads Name rules d tails c ts) ≡ (behind d 0 left c ts >>= λ a e rest. apply_one a (reads Name rules d behind_collated e rest))
+unfolding behind
+tails_from_operand left d c ts = tails_is left d c ts
+
+pub tails_from_relation : (left : Expr) (d : ℕ) (c : Counts) (ts : List Token) → apply_one left (reads Name rules d tails c ts) ≡ (behind d 5 left c ts >>= λ a e rest. apply_one a (reads Name rules d behind_relation e rest))
+tails_from_relation left d c ts =
+    tails_from_operand left d c ts
+    ∙ one_more 0 d left c ts behind_collated behind_concatenation (λ x e rest. behind_collated_is x d e rest ∙ named (joined 0) more_concatenation d x e rest behind_concatenation joined_0)
+    ∙ one_more 1 d left c ts behind_concatenation behind_product (λ x e rest. behind_concatenation_is x d e rest ∙ named (joined 1) more_product d x e rest behind_product joined_1)
+    ∙ one_more 2 d left c ts behind_product behind_sum (λ x e rest. behind_product_is x d e rest ∙ named (joined 2) more_sum d x e rest behind_sum joined_2)
+    ∙ one_more 3 d left c ts behind_sum behind_bits (λ x e rest. behind_sum_is x d e rest ∙ named (joined 3) more_bits d x e rest behind_bits joined_3)
+    ∙ one_more 4 d left c ts behind_bits behind_relation (λ x e rest. behind_bits_is x d e rest ∙ named (joined 4) more_relation d x e rest behind_relation joined_4)
+
+pub ruleset tails_steps = (tails_from_relation, behind_relation_is, behind_negation_is, behind_conjunction_is)

@@ -1,6 +1,6 @@
 // NOT, AND and OR.
 
-ghost use Rattle.std.specs.Prelude.{ℕ, ◌≡◌, IfOk, IfErr};
+ghost use Rattle.std.specs.Prelude.{◌≡◌, IfOk, IfErr};
 ghost use Rattle.sql_grammar.specs.Rules.{reads};
 ghost use Rattle.sql_grammar.specs.Grammar as spec;
 ghost use Rattle.sql_grammar.specs.Grammar.{Name};
@@ -10,25 +10,13 @@ ghost use Rattle.parse_cursor.specs.Gives.{Gives, apply_to};
 ghost use Rattle.parse_cursor.specs.declared.error.ParseError.TheVariants as error;
 ghost use Rattle.parse_operand.specs.Nests.{Nests};
 
-use crate::operators::{binary, unary};
+use crate::operators::{binary, prefixes, unary};
 use crate::precedence::Levels;
 use parse_cursor::{Cursor, ParseError};
 use sql_grammar::Role;
 use sql_tree::{BinaryOp, Expr, Query, Token, TokenKind, UnaryOp};
 use sqlite_items::{Boxed, Items};
 use std::alloc::Global;
-
-/// `{NOT}`
-#[tactic(auto, using(crate::proofs::Lists::nots_steps))]
-fn nots(alloc: Global, tokens: &mut Cursor<'_>) -> Result<Items<Token>, ParseError>
-    ensures { (d : ℕ) → Gives (reads Name rules d spec.nots tokens.old.counts tokens.old.rest.now) result tokens.new.counts tokens.new.rest.now }
-{
-    let mut found = Items::new(alloc);
-    while tokens.sees(TokenKind::Not) {
-        found.push(tokens.expect(TokenKind::Not, Role::Operator)?)?;
-    }
-    Ok(found)
-}
 
 /// The operand behind these NOTs.
 #[tactic(auto, using(crate::proofs::Lists::with_nots_last))]
@@ -51,13 +39,13 @@ impl<
     G: Fn(Global, &mut Cursor<'_>, usize) -> Result<Boxed<Query>, ParseError>,
 > Levels<F, G> {
     /// `{NOT} equality`
-    #[tactic(auto, using(crate::proofs::Straight::negation_is))]
+    #[tactic(auto, using(crate::proofs::Straight::nots_first))]
     pub(crate) fn negation(&self, tokens: &mut Cursor<'_>) -> Result<Boxed<Expr>, ParseError>
         requires exprs { Nests spec.expr self.now.operands.depth (F.pre self.now.operands.inner) (F.post self.now.operands.inner) }
         requires queries { Nests query self.now.operands.depth (G.pre self.now.operands.query) (G.post self.now.operands.query) }
         ensures { Gives (reads Name rules self.now.operands.depth spec.negation tokens.old.counts tokens.old.rest.now) result tokens.new.counts tokens.new.rest.now }
     {
-        let nots = nots(self.operands.alloc, tokens)?;
+        let nots = prefixes(self.operands.alloc, tokens, &[TokenKind::Not])?;
         let operand = self.equality(tokens)?;
         with_nots(self.operands.alloc, nots, operand)
     }

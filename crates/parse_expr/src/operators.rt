@@ -1,7 +1,7 @@
 // Operators, from the tightest on (SQL Language Expressions, Operators, and Parse-Affecting Attributes).
 
-ghost use Rattle.std.specs.Prelude.{ℕ, ◌≡◌, IfOk, IfErr};
-ghost use Rattle.sql_grammar.specs.Rules.{reads};
+ghost use Rattle.std.specs.Prelude.{ℕ, true, ◌≡◌, ◌≤◌, IfOk, IfErr};
+ghost use Rattle.sql_grammar.specs.Rules.{is_clear, reads};
 ghost use Rattle.sql_grammar.specs.Grammar as spec;
 ghost use Rattle.sql_grammar.specs.Grammar.{Name};
 ghost use Rattle.sql_grammar.specs.Bodies.{rules};
@@ -9,6 +9,7 @@ ghost use Rattle.sql_grammar.specs.Queries.{query};
 ghost use Rattle.parse_cursor.specs.Gives.{Gives, apply_one, apply_to};
 ghost use Rattle.parse_cursor.specs.declared.error.ParseError.TheVariants as error;
 ghost use Rattle.parse_operand.specs.Nests.{Nests};
+ghost use Rattle.parse_expr.specs.Parts as part;
 
 use crate::precedence::Levels;
 use parse_cursor::{Cursor, ParseError, boxed, name};
@@ -17,7 +18,12 @@ use sql_tree::{BinaryOp, Expr, Query, Token, TokenKind, UnaryOp};
 use sqlite_items::{Boxed, Items};
 use std::alloc::Global;
 
+/// How many levels of operators join operands: `||`, products, sums, bits and relations.
+pub(crate) const LEVELS: usize = 5;
+
 const SIGNS: [TokenKind; 3] = [TokenKind::Minus, TokenKind::Plus, TokenKind::Tilde];
+
+const CONCATENATIONS: [TokenKind; 1] = [TokenKind::DoubleBar];
 
 const PRODUCTS: [TokenKind; 3] = [TokenKind::Star, TokenKind::Slash, TokenKind::Percent];
 
@@ -60,14 +66,19 @@ pub(crate) fn binary(
     boxed(alloc, Expr::Binary(op, left, right))
 }
 
-/// `{- | + | ~}`
-#[tactic(auto, using(crate::proofs::Lists::signs_steps))]
-fn signs(alloc: Global, tokens: &mut Cursor<'_>) -> Result<Items<Token>, ParseError>
-    ensures { (d : ℕ) → Gives (reads Name rules d spec.signs tokens.old.counts tokens.old.rest.now) result tokens.new.counts tokens.new.rest.now }
+/// Any number of these operators, which stand in front of an operand.
+#[tactic(auto, using(crate::proofs::Lists::prefixes_steps))]
+pub(crate) fn prefixes(
+    alloc: Global,
+    tokens: &mut Cursor<'_>,
+    kinds: &[TokenKind],
+) -> Result<Items<Token>, ParseError>
+    requires clear { is_clear Name rules (part.prefixes kinds.now) ≡ true }
+    ensures { (d : ℕ) → Gives (reads Name rules d (part.prefixes kinds.now) tokens.old.counts tokens.old.rest.now) result tokens.new.counts tokens.new.rest.now }
 {
     let mut found = Items::new(alloc);
-    while tokens.sees_any(&SIGNS) {
-        found.push(tokens.expect_any(&SIGNS, Role::Operator)?)?;
+    while tokens.sees_any(kinds) {
+        found.push(tokens.expect_any(kinds, Role::Operator)?)?;
     }
     Ok(found)
 }
@@ -122,180 +133,93 @@ impl<
     G: Fn(Global, &mut Cursor<'_>, usize) -> Result<Boxed<Query>, ParseError>,
 > Levels<F, G> {
     /// `{- | + | ~} primary`
-    #[tactic(auto, using(crate::proofs::Straight::signed_primary_is))]
+    #[tactic(auto, using(crate::proofs::Straight::signs_first))]
     pub(crate) fn signed_primary(&self, tokens: &mut Cursor<'_>) -> Result<Boxed<Expr>, ParseError>
         requires exprs { Nests spec.expr self.now.operands.depth (F.pre self.now.operands.inner) (F.post self.now.operands.inner) }
         requires queries { Nests query self.now.operands.depth (G.pre self.now.operands.query) (G.post self.now.operands.query) }
         ensures { Gives (reads Name rules self.now.operands.depth spec.signed_primary tokens.old.counts tokens.old.rest.now) result tokens.new.counts tokens.new.rest.now }
     {
-        let signs = signs(self.operands.alloc, tokens)?;
+        let signs = prefixes(self.operands.alloc, tokens, &SIGNS)?;
         let operand = self.operands.primary(tokens)?;
         with_signs(self.operands.alloc, signs, operand)
     }
 
-    /// `signed {COLLATE name}`
-    #[tactic(auto, using(crate::proofs::Suffixed::collated_is))]
-    pub(crate) fn collated(&self, tokens: &mut Cursor<'_>) -> Result<Boxed<Expr>, ParseError>
+    /// A signed primary and what stands behind it, up to this level.
+    #[cycle(levels)]
+    #[tactic(auto, using(crate::proofs::Joined::operand_is))]
+    fn operand(&self, tokens: &mut Cursor<'_>, level: usize) -> Result<Boxed<Expr>, ParseError>
         requires exprs { Nests spec.expr self.now.operands.depth (F.pre self.now.operands.inner) (F.post self.now.operands.inner) }
         requires queries { Nests query self.now.operands.depth (G.pre self.now.operands.query) (G.post self.now.operands.query) }
-        ensures { Gives (reads Name rules self.now.operands.depth spec.collated tokens.old.counts tokens.old.rest.now) result tokens.new.counts tokens.new.rest.now }
+        requires level { level ≤ 5 }
+        ensures { Gives (reads Name rules self.now.operands.depth (part.operand level) tokens.old.counts tokens.old.rest.now) result tokens.new.counts tokens.new.rest.now }
     {
         let left = self.signed_primary(tokens)?;
-        collations(self.operands.alloc, tokens, left)
+        self.behind(tokens, left, level)
     }
 
-    /// `collated {|| collated}`
-    #[tactic(auto, using(crate::proofs::Suffixed::concatenation_is))]
-    pub(crate) fn concatenation(&self, tokens: &mut Cursor<'_>) -> Result<Boxed<Expr>, ParseError>
-        requires exprs { Nests spec.expr self.now.operands.depth (F.pre self.now.operands.inner) (F.post self.now.operands.inner) }
-        requires queries { Nests query self.now.operands.depth (G.pre self.now.operands.query) (G.post self.now.operands.query) }
-        ensures { Gives (reads Name rules self.now.operands.depth spec.concatenation tokens.old.counts tokens.old.rest.now) result tokens.new.counts tokens.new.rest.now }
-    {
-        let left = self.collated(tokens)?;
-        self.more_concatenation(tokens, left)
-    }
-
-    /// `{|| collated}` behind its left operand
-    #[tactic(auto, using(crate::proofs::Suffixed::concatenation_steps))]
-    pub(crate) fn more_concatenation(
+    /// What stands behind a signed primary, up to this level: COLLATE, and the operators of each level below it with their right operands.
+    #[cycle(levels)]
+    #[tactic(auto, using(crate::proofs::Joined::behind_steps))]
+    pub(crate) fn behind(
         &self,
         tokens: &mut Cursor<'_>,
-        mut left: Boxed<Expr>,
+        left: Boxed<Expr>,
+        level: usize,
     ) -> Result<Boxed<Expr>, ParseError>
         requires exprs { Nests spec.expr self.now.operands.depth (F.pre self.now.operands.inner) (F.post self.now.operands.inner) }
         requires queries { Nests query self.now.operands.depth (G.pre self.now.operands.query) (G.post self.now.operands.query) }
-        ensures { Gives (apply_to left (reads Name rules self.now.operands.depth spec.more_concatenation tokens.old.counts tokens.old.rest.now)) result tokens.new.counts tokens.new.rest.now }
+        requires level { level ≤ 5 }
+        ensures { Gives (part.behind self.now.operands.depth level left tokens.old.counts tokens.old.rest.now) result tokens.new.counts tokens.new.rest.now }
     {
-        while tokens.sees(TokenKind::DoubleBar) {
-            tokens.expect(TokenKind::DoubleBar, Role::Operator)?;
-            let right = self.collated(tokens)?;
-            left = binary(self.operands.alloc, BinaryOp::Concatenate, left, right)?;
+        if level == 0 {
+            return collations(self.operands.alloc, tokens, left);
         }
-        Ok(left)
-    }
-
-    /// `concatenation {(* | / | %) concatenation}`
-    #[tactic(auto, using(crate::proofs::Suffixed::product_is))]
-    pub(crate) fn product(&self, tokens: &mut Cursor<'_>) -> Result<Boxed<Expr>, ParseError>
-        requires exprs { Nests spec.expr self.now.operands.depth (F.pre self.now.operands.inner) (F.post self.now.operands.inner) }
-        requires queries { Nests query self.now.operands.depth (G.pre self.now.operands.query) (G.post self.now.operands.query) }
-        ensures { Gives (reads Name rules self.now.operands.depth spec.product tokens.old.counts tokens.old.rest.now) result tokens.new.counts tokens.new.rest.now }
-    {
-        let left = self.concatenation(tokens)?;
-        self.more_product(tokens, left)
-    }
-
-    /// `{(* | / | %) concatenation}` behind its left operand
-    #[tactic(auto, using(crate::proofs::Suffixed::product_steps))]
-    pub(crate) fn more_product(
-        &self,
-        tokens: &mut Cursor<'_>,
-        mut left: Boxed<Expr>,
-    ) -> Result<Boxed<Expr>, ParseError>
-        requires exprs { Nests spec.expr self.now.operands.depth (F.pre self.now.operands.inner) (F.post self.now.operands.inner) }
-        requires queries { Nests query self.now.operands.depth (G.pre self.now.operands.query) (G.post self.now.operands.query) }
-        ensures { Gives (apply_to left (reads Name rules self.now.operands.depth spec.more_product tokens.old.counts tokens.old.rest.now)) result tokens.new.counts tokens.new.rest.now }
-    {
-        while tokens.sees_any(&PRODUCTS) {
-            let sign = tokens.expect_any(&PRODUCTS, Role::Operator)?;
-            let op = product_op(sign.kind);
-            let right = self.concatenation(tokens)?;
-            left = binary(self.operands.alloc, op, left, right)?;
+        let below = level - 1;
+        let signs = operators(below);
+        let mut joined = self.behind(tokens, left, below)?;
+        while tokens.sees_any(signs) {
+            let sign = tokens.expect_any(signs, Role::Operator)?;
+            let right = self.operand(tokens, below)?;
+            let op = operator(below, sign.kind);
+            joined = binary(self.operands.alloc, op, joined, right)?;
         }
-        Ok(left)
+        Ok(joined)
     }
 
-    /// `product {(+ | -) product}`
-    #[tactic(auto, using(crate::proofs::Suffixed::sum_is))]
-    pub(crate) fn sum(&self, tokens: &mut Cursor<'_>) -> Result<Boxed<Expr>, ParseError>
-        requires exprs { Nests spec.expr self.now.operands.depth (F.pre self.now.operands.inner) (F.post self.now.operands.inner) }
-        requires queries { Nests query self.now.operands.depth (G.pre self.now.operands.query) (G.post self.now.operands.query) }
-        ensures { Gives (reads Name rules self.now.operands.depth spec.sum tokens.old.counts tokens.old.rest.now) result tokens.new.counts tokens.new.rest.now }
-    {
-        let left = self.product(tokens)?;
-        self.more_sum(tokens, left)
-    }
-
-    /// `{(+ | -) product}` behind its left operand
-    #[tactic(auto, using(crate::proofs::Suffixed::sum_steps))]
-    pub(crate) fn more_sum(
-        &self,
-        tokens: &mut Cursor<'_>,
-        mut left: Boxed<Expr>,
-    ) -> Result<Boxed<Expr>, ParseError>
-        requires exprs { Nests spec.expr self.now.operands.depth (F.pre self.now.operands.inner) (F.post self.now.operands.inner) }
-        requires queries { Nests query self.now.operands.depth (G.pre self.now.operands.query) (G.post self.now.operands.query) }
-        ensures { Gives (apply_to left (reads Name rules self.now.operands.depth spec.more_sum tokens.old.counts tokens.old.rest.now)) result tokens.new.counts tokens.new.rest.now }
-    {
-        while tokens.sees_any(&SUMS) {
-            let sign = tokens.expect_any(&SUMS, Role::Operator)?;
-            let op = sum_op(sign.kind);
-            let right = self.product(tokens)?;
-            left = binary(self.operands.alloc, op, left, right)?;
-        }
-        Ok(left)
-    }
-
-    /// `sum {(& | | | << | >>) sum}`
-    #[tactic(auto, using(crate::proofs::Suffixed::bits_is))]
-    pub(crate) fn bits(&self, tokens: &mut Cursor<'_>) -> Result<Boxed<Expr>, ParseError>
-        requires exprs { Nests spec.expr self.now.operands.depth (F.pre self.now.operands.inner) (F.post self.now.operands.inner) }
-        requires queries { Nests query self.now.operands.depth (G.pre self.now.operands.query) (G.post self.now.operands.query) }
-        ensures { Gives (reads Name rules self.now.operands.depth spec.bits tokens.old.counts tokens.old.rest.now) result tokens.new.counts tokens.new.rest.now }
-    {
-        let left = self.sum(tokens)?;
-        self.more_bits(tokens, left)
-    }
-
-    /// `{(& | | | << | >>) sum}` behind its left operand
-    #[tactic(auto, using(crate::proofs::Suffixed::bits_steps))]
-    pub(crate) fn more_bits(
-        &self,
-        tokens: &mut Cursor<'_>,
-        mut left: Boxed<Expr>,
-    ) -> Result<Boxed<Expr>, ParseError>
-        requires exprs { Nests spec.expr self.now.operands.depth (F.pre self.now.operands.inner) (F.post self.now.operands.inner) }
-        requires queries { Nests query self.now.operands.depth (G.pre self.now.operands.query) (G.post self.now.operands.query) }
-        ensures { Gives (apply_to left (reads Name rules self.now.operands.depth spec.more_bits tokens.old.counts tokens.old.rest.now)) result tokens.new.counts tokens.new.rest.now }
-    {
-        while tokens.sees_any(&BITS) {
-            let sign = tokens.expect_any(&BITS, Role::Operator)?;
-            let op = bits_op(sign.kind);
-            let right = self.sum(tokens)?;
-            left = binary(self.operands.alloc, op, left, right)?;
-        }
-        Ok(left)
-    }
-
-    /// `bits {(< | <= | > | >=) bits}`
-    #[tactic(auto, using(crate::proofs::Suffixed::relation_is))]
+    /// An operand of a test: all operators up to `bits {(< | <= | > | >=) bits}`.
+    #[tactic(auto, using(crate::proofs::Joined::relation_is))]
     pub(crate) fn relation(&self, tokens: &mut Cursor<'_>) -> Result<Boxed<Expr>, ParseError>
         requires exprs { Nests spec.expr self.now.operands.depth (F.pre self.now.operands.inner) (F.post self.now.operands.inner) }
         requires queries { Nests query self.now.operands.depth (G.pre self.now.operands.query) (G.post self.now.operands.query) }
         ensures { Gives (reads Name rules self.now.operands.depth spec.relation tokens.old.counts tokens.old.rest.now) result tokens.new.counts tokens.new.rest.now }
     {
-        let left = self.bits(tokens)?;
-        self.more_relation(tokens, left)
+        self.operand(tokens, LEVELS)
     }
+}
 
-    /// `{(< | <= | > | >=) bits}` behind its left operand
-    #[tactic(auto, using(crate::proofs::Suffixed::relation_steps))]
-    pub(crate) fn more_relation(
-        &self,
-        tokens: &mut Cursor<'_>,
-        mut left: Boxed<Expr>,
-    ) -> Result<Boxed<Expr>, ParseError>
-        requires exprs { Nests spec.expr self.now.operands.depth (F.pre self.now.operands.inner) (F.post self.now.operands.inner) }
-        requires queries { Nests query self.now.operands.depth (G.pre self.now.operands.query) (G.post self.now.operands.query) }
-        ensures { Gives (apply_to left (reads Name rules self.now.operands.depth spec.more_relation tokens.old.counts tokens.old.rest.now)) result tokens.new.counts tokens.new.rest.now }
-    {
-        while tokens.sees_any(&RELATIONS) {
-            let sign = tokens.expect_any(&RELATIONS, Role::Operator)?;
-            let op = relation_op(sign.kind);
-            let right = self.bits(tokens)?;
-            left = binary(self.operands.alloc, op, left, right)?;
-        }
-        Ok(left)
+/// The operators of a level, from the tightest on.
+fn operators(level: usize) -> &'static [TokenKind]
+    ensures { result.now ≡ part.operators level }
+{
+    match level {
+        0 => &CONCATENATIONS,
+        1 => &PRODUCTS,
+        2 => &SUMS,
+        3 => &BITS,
+        _ => &RELATIONS,
+    }
+}
+
+/// What an operator of a level does.
+fn operator(level: usize, kind: TokenKind) -> BinaryOp
+    ensures { result ≡ part.operator level kind }
+{
+    match level {
+        0 => BinaryOp::Concatenate,
+        1 => product_op(kind),
+        2 => sum_op(kind),
+        3 => bits_op(kind),
+        _ => relation_op(kind),
     }
 }
 

@@ -129,8 +129,24 @@ impl<
         binary(self.operands.alloc, op, left, right)
     }
 
+    /// `word relation`
+    #[tactic(auto, using(crate::proofs::Straight::relation_behind_is))]
+    pub(crate) fn relation_behind(
+        &self,
+        tokens: &mut Cursor<'_>,
+        word: TokenKind,
+        role: Role,
+    ) -> Result<Boxed<Expr>, ParseError>
+        requires exprs { Nests spec.expr self.now.operands.depth (F.pre self.now.operands.inner) (F.post self.now.operands.inner) }
+        requires queries { Nests query self.now.operands.depth (G.pre self.now.operands.query) (G.post self.now.operands.query) }
+        ensures { Gives (reads Name rules self.now.operands.depth (part.relation_behind role word) tokens.old.counts tokens.old.rest.now) result tokens.new.counts tokens.new.rest.now }
+    {
+        tokens.expect(word, role)?;
+        self.relation(tokens)
+    }
+
     /// `BETWEEN relation AND relation`
-    #[tactic(auto, unfolding(sql_grammar::specs::Grammar::between))]
+    #[tactic(auto, using(crate::proofs::Straight::between_is))]
     pub(crate) fn between(
         &self,
         tokens: &mut Cursor<'_>,
@@ -141,23 +157,21 @@ impl<
         requires queries { Nests query self.now.operands.depth (G.pre self.now.operands.query) (G.post self.now.operands.query) }
         ensures { Gives (apply_one left (reads Name rules self.now.operands.depth (spec.between role) tokens.old.counts tokens.old.rest.now)) result tokens.new.counts tokens.new.rest.now }
     {
-        tokens.expect(TokenKind::Between, role)?;
-        let low = self.relation(tokens)?;
-        tokens.expect(TokenKind::And, Role::Quiet)?;
-        let high = self.relation(tokens)?;
+        let low = self.relation_behind(tokens, TokenKind::Between, role)?;
+        let high = self.relation_behind(tokens, TokenKind::And, Role::Quiet)?;
         boxed(self.operands.alloc, Expr::Between(left, low, high))
     }
 
     /// `[ESCAPE relation]`
-    #[tactic(auto, unfolding(crate::specs::Parts::escape))]
+    #[tactic(auto, using(crate::proofs::Straight::escapes))]
     pub(crate) fn escape(&self, tokens: &mut Cursor<'_>) -> Result<Option<Boxed<Expr>>, ParseError>
         requires exprs { Nests spec.expr self.now.operands.depth (F.pre self.now.operands.inner) (F.post self.now.operands.inner) }
         requires queries { Nests query self.now.operands.depth (G.pre self.now.operands.query) (G.post self.now.operands.query) }
         ensures { Gives (reads Name rules self.now.operands.depth part.escape tokens.old.counts tokens.old.rest.now) result tokens.new.counts tokens.new.rest.now }
     {
         if tokens.sees(TokenKind::Escape) {
-            tokens.expect(TokenKind::Escape, Role::Quiet)?;
-            Ok(Some(self.relation(tokens)?))
+            let escape = self.relation_behind(tokens, TokenKind::Escape, Role::Quiet)?;
+            Ok(Some(escape))
         } else {
             Ok(None)
         }
@@ -175,8 +189,7 @@ impl<
         requires queries { Nests query self.now.operands.depth (G.pre self.now.operands.query) (G.post self.now.operands.query) }
         ensures { Gives (apply_one left (reads Name rules self.now.operands.depth (spec.like role) tokens.old.counts tokens.old.rest.now)) result tokens.new.counts tokens.new.rest.now }
     {
-        tokens.expect(TokenKind::Like, role)?;
-        let pattern = self.relation(tokens)?;
+        let pattern = self.relation_behind(tokens, TokenKind::Like, role)?;
         match self.escape(tokens) {
             Ok(escape) => boxed(self.operands.alloc, Expr::Like(left, pattern, escape)),
             Err(error) => Err(error),
@@ -184,7 +197,7 @@ impl<
     }
 
     /// `GLOB relation`
-    #[tactic(auto, unfolding(sql_grammar::specs::Grammar::glob))]
+    #[tactic(auto, using(crate::proofs::Straight::glob_is))]
     pub(crate) fn glob(
         &self,
         tokens: &mut Cursor<'_>,
@@ -195,8 +208,7 @@ impl<
         requires queries { Nests query self.now.operands.depth (G.pre self.now.operands.query) (G.post self.now.operands.query) }
         ensures { Gives (apply_one left (reads Name rules self.now.operands.depth (spec.glob role) tokens.old.counts tokens.old.rest.now)) result tokens.new.counts tokens.new.rest.now }
     {
-        tokens.expect(TokenKind::Glob, role)?;
-        let pattern = self.relation(tokens)?;
+        let pattern = self.relation_behind(tokens, TokenKind::Glob, role)?;
         binary(self.operands.alloc, BinaryOp::Glob, left, pattern)
     }
 

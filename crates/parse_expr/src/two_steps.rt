@@ -8,7 +8,7 @@ ghost use Rattle.sql_grammar.specs.Queries.{query};
 ghost use Rattle.parse_cursor.specs.Gives.{Gives, apply_one};
 ghost use Rattle.parse_operand.specs.Nests.{Nests};
 
-use crate::operators::collations;
+use crate::operators::LEVELS;
 use crate::precedence::Levels;
 use parse_cursor::{Cursor, ParseError, sees_name};
 use sql_tree::{Expr, Query};
@@ -30,12 +30,7 @@ impl<
         requires queries { Nests query self.now.operands.depth (G.pre self.now.operands.query) (G.post self.now.operands.query) }
         ensures { Gives (apply_one left (reads Name rules self.now.operands.depth spec.tails tokens.old.counts tokens.old.rest.now)) result tokens.new.counts tokens.new.rest.now }
     {
-        let collated = collations(self.operands.alloc, tokens, left)?;
-        let concatenation = self.more_concatenation(tokens, collated)?;
-        let product = self.more_product(tokens, concatenation)?;
-        let sum = self.more_sum(tokens, product)?;
-        let bits = self.more_bits(tokens, sum)?;
-        let relation = self.more_relation(tokens, bits)?;
+        let relation = self.behind(tokens, left, LEVELS)?;
         let equality = self.tests(tokens, relation)?;
         let conjunction = self.more_conjunction(tokens, equality)?;
         self.more_expr(tokens, conjunction)

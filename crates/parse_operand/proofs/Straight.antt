@@ -74,8 +74,6 @@ pub filter_none : (d : ℕ) (c : Counts) (ts : List Token) → starts (kind.Filt
 unfolding filter in_condition
 filter_none d c ts none = maybe_none role.Quiet kind.Filter in_condition d c ts none
 
-pub ruleset filters = (filter_some, filter_none)
-
 pub call_is : (function : Token) (d : ℕ) (c : Counts) (ts : List Token) → apply_one function (reads Name rules d call c ts) ≡ (reads Name rules d in_arguments c ts >>= λ a e rest. reads Name rules d filter e rest >>= λ f g end. Done (tree.Call function a.0 a.1 f) g end)
 unfolding call in_arguments
 call_is function d c ts = apply_both (reads Name rules d in_arguments) (reads Name rules d filter) (λ p n. tree.Call n p.0.0 p.0.1 p.1) function c ts

@@ -151,26 +151,18 @@ impl<F: Fn(Global, &mut Cursor<'_>, usize) -> Result<Boxed<Expr>, ParseError>, G
         tokens.close(found, TokenKind::RightParen, Role::Outward)
     }
 
-    /// `( WHERE expr )`
-    #[tactic(auto, using(crate::proofs::Bracketed::in_condition_is))]
-    pub(crate) fn in_condition(&self, tokens: &mut Cursor<'_>) -> Result<Boxed<Expr>, ParseError>
-        requires exprs { Nests spec.expr self.now.depth (F.pre self.now.inner) (F.post self.now.inner) }
-        ensures { Gives (reads Name rules self.now.depth part.in_condition tokens.old.counts tokens.old.rest.now) result tokens.new.counts tokens.new.rest.now }
-    {
-        tokens.open(self.depth, TokenKind::LeftParen, Role::Inward)?;
-        let found = self.behind(tokens, TokenKind::Where)?;
-        tokens.close(found, TokenKind::RightParen, Role::Outward)
-    }
-
     /// `[FILTER ( WHERE expr )]`
-    #[tactic(auto, using(crate::proofs::Straight::filters))]
+    #[tactic(auto, using(crate::proofs::Wrapped::filters))]
     pub(crate) fn filter(&self, tokens: &mut Cursor<'_>) -> Result<Option<Boxed<Expr>>, ParseError>
         requires exprs { Nests spec.expr self.now.depth (F.pre self.now.inner) (F.post self.now.inner) }
         ensures { Gives (reads Name rules self.now.depth spec.filter tokens.old.counts tokens.old.rest.now) result tokens.new.counts tokens.new.rest.now }
     {
         if tokens.sees(TokenKind::Filter) {
             tokens.expect(TokenKind::Filter, Role::Quiet)?;
-            Ok(Some(self.in_condition(tokens)?))
+            tokens.open(self.depth, TokenKind::LeftParen, Role::Inward)?;
+            let found = self.behind(tokens, TokenKind::Where)?;
+            let condition = tokens.close(found, TokenKind::RightParen, Role::Outward)?;
+            Ok(Some(condition))
         } else {
             Ok(None)
         }

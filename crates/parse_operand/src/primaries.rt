@@ -150,25 +150,16 @@ impl<F: Fn(Global, &mut Cursor<'_>, usize) -> Result<Boxed<Expr>, ParseError>, G
         tokens.close(found, TokenKind::End, Role::Outward)
     }
 
-    /// `( IGNORE | ABORT , text )`
-    #[tactic(auto, using(crate::proofs::Bracketed::in_raise_is))]
-    pub(crate) fn in_raise(&self, tokens: &mut Cursor<'_>) -> Result<Boxed<Expr>, ParseError>
-        requires exprs { Nests spec.expr self.now.depth (F.pre self.now.inner) (F.post self.now.inner) }
-        ensures { Gives (reads Name rules self.now.depth part.in_raise tokens.old.counts tokens.old.rest.now) result tokens.new.counts tokens.new.rest.now }
-    {
-        tokens.open(self.depth, TokenKind::LeftParen, Role::Inward)?;
-        let found = raise_what(self.alloc, tokens)?;
-        tokens.close(found, TokenKind::RightParen, Role::Outward)
-    }
-
     /// `RAISE ( IGNORE | ABORT , text )`
-    #[tactic(auto, using(crate::proofs::Straight::raising_is))]
+    #[tactic(auto, using(crate::proofs::Wrapped::raising_steps))]
     pub(crate) fn raising(&self, tokens: &mut Cursor<'_>) -> Result<Boxed<Expr>, ParseError>
         requires exprs { Nests spec.expr self.now.depth (F.pre self.now.inner) (F.post self.now.inner) }
         ensures { Gives (reads Name rules self.now.depth spec.raising tokens.old.counts tokens.old.rest.now) result tokens.new.counts tokens.new.rest.now }
     {
         tokens.expect(TokenKind::Raise, Role::Quiet)?;
-        self.in_raise(tokens)
+        tokens.open(self.depth, TokenKind::LeftParen, Role::Inward)?;
+        let found = raise_what(self.alloc, tokens)?;
+        tokens.close(found, TokenKind::RightParen, Role::Outward)
     }
 }
 

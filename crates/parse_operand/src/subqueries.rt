@@ -63,25 +63,16 @@ impl<
         tokens.close(found, TokenKind::RightParen, Role::Outward)
     }
 
-    /// `( query )`
-    #[tactic(auto, using(crate::proofs::Bracketed::in_query_is))]
-    pub(crate) fn in_query(&self, tokens: &mut Cursor<'_>) -> Result<Boxed<Query>, ParseError>
-        requires queries { Nests query self.now.depth (G.pre self.now.query) (G.post self.now.query) }
-        ensures { Gives (reads Name rules self.now.depth part.in_query tokens.old.counts tokens.old.rest.now) result tokens.new.counts tokens.new.rest.now }
-    {
-        tokens.open(self.depth, TokenKind::LeftParen, Role::Inward)?;
-        let found = self.inner_query(tokens)?;
-        tokens.close(found, TokenKind::RightParen, Role::Outward)
-    }
-
     /// `EXISTS ( query )`
-    #[tactic(auto, using(crate::proofs::Straight::existing_is))]
+    #[tactic(auto, using(crate::proofs::Wrapped::existing_steps))]
     pub(crate) fn existing(&self, tokens: &mut Cursor<'_>) -> Result<Boxed<Expr>, ParseError>
         requires queries { Nests query self.now.depth (G.pre self.now.query) (G.post self.now.query) }
         ensures { Gives (reads Name rules self.now.depth spec.existing tokens.old.counts tokens.old.rest.now) result tokens.new.counts tokens.new.rest.now }
     {
         tokens.expect(TokenKind::Exists, Role::Quiet)?;
-        let query = self.in_query(tokens)?;
+        tokens.open(self.depth, TokenKind::LeftParen, Role::Inward)?;
+        let found = self.inner_query(tokens)?;
+        let query = tokens.close(found, TokenKind::RightParen, Role::Outward)?;
         boxed(self.alloc, Expr::Exists(query))
     }
 

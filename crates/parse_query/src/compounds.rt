@@ -69,8 +69,10 @@ impl<
         ensures { Gives (reads Name rules self.now.clauses.levels.operands.depth spec.compound_part tokens.old.counts tokens.old.rest.now) result tokens.new.counts tokens.new.rest.now }
     {
         let op = compound_op(tokens)?;
-        let (is_select, part) = self.core(tokens)?;
-        Ok((is_select, CompoundPart { op, part }))
+        match self.core(tokens) {
+            Ok((is_select, part)) => Ok((is_select, CompoundPart { op, part })),
+            Err(why) => Err(why),
+        }
     }
 
     /// `core {comp core}`
@@ -80,10 +82,16 @@ impl<
         requires queries { Nests query self.now.clauses.levels.operands.depth (G.pre self.now.clauses.levels.operands.query) (G.post self.now.clauses.levels.operands.query) }
         ensures { Gives (reads Name rules self.now.clauses.levels.operands.depth part.found_parts tokens.old.counts tokens.old.rest.now) result tokens.new.counts tokens.new.rest.now }
     {
-        let (mut ends_in_select, first) = self.core(tokens)?;
+        let (mut ends_in_select, first) = match self.core(tokens) {
+            Ok(found) => found,
+            Err(why) => return Err(why),
+        };
         let mut others = Items::new(self.clauses.levels.operands.alloc);
         while tokens.sees_any(&COMPOUNDS) {
-            let (is_select, part) = self.compound_part(tokens)?;
+            let (is_select, part) = match self.compound_part(tokens) {
+                Ok(found) => found,
+                Err(why) => return Err(why),
+            };
             ends_in_select = is_select;
             others.push(part)?;
         }

@@ -140,8 +140,10 @@ impl<
             return Ok(None);
         }
         let word = tokens.expect_any(&SECOND, Role::Outside)?;
-        let second = self.clauses.levels.expr(tokens)?.into_inner();
-        Ok(Some((word, second)))
+        match self.clauses.levels.expr(tokens) {
+            Ok(second) => Ok(Some((word, second.into_inner()))),
+            Err(why) => Err(why),
+        }
     }
 
     /// `expr [(OFFSET | ,) expr]`
@@ -151,9 +153,14 @@ impl<
         requires queries { Nests query self.now.clauses.levels.operands.depth (G.pre self.now.clauses.levels.operands.query) (G.post self.now.clauses.levels.operands.query) }
         ensures { Gives (reads Name rules self.now.clauses.levels.operands.depth spec.row_limit tokens.old.counts tokens.old.rest.now) result tokens.new.counts tokens.new.rest.now }
     {
-        let first = self.clauses.levels.expr(tokens)?.into_inner();
-        let second = self.second_limit(tokens)?;
-        Ok(limit_of(first, second))
+        let first = match self.clauses.levels.expr(tokens) {
+            Ok(found) => found.into_inner(),
+            Err(why) => return Err(why),
+        };
+        match self.second_limit(tokens) {
+            Ok(second) => Ok(limit_of(first, second)),
+            Err(why) => Err(why),
+        }
     }
 
     /// `[LIMIT expr [(OFFSET | ,) expr]]`
@@ -167,7 +174,10 @@ impl<
             return Ok(None);
         }
         tokens.expect(TokenKind::Limit, Role::Outside)?;
-        Ok(Some(self.row_limit(tokens)?))
+        match self.row_limit(tokens) {
+            Ok(limit) => Ok(Some(limit)),
+            Err(why) => Err(why),
+        }
     }
 
     /// `[ORDER BY ..] [LIMIT ..]`
@@ -180,9 +190,14 @@ impl<
         requires queries { Nests query self.now.clauses.levels.operands.depth (G.pre self.now.clauses.levels.operands.query) (G.post self.now.clauses.levels.operands.query) }
         ensures { Gives (reads Name rules self.now.clauses.levels.operands.depth spec.ordering tokens.old.counts tokens.old.rest.now) result tokens.new.counts tokens.new.rest.now }
     {
-        let order_by = self.order_by(tokens)?;
-        let limit = self.limit(tokens)?;
-        Ok((order_by, limit))
+        let order_by = match self.order_by(tokens) {
+            Ok(found) => found,
+            Err(why) => return Err(why),
+        };
+        match self.limit(tokens) {
+            Ok(limit) => Ok((order_by, limit)),
+            Err(why) => Err(why),
+        }
     }
 
     /// What stands behind a part: an order and a limit, if it is a SELECT.

@@ -50,8 +50,10 @@ impl<
             TokenKind::LeftParen,
             Role::Opening,
         )?;
-        let row = self.clauses.levels.operands.exprs(tokens)?;
-        tokens.close(row, TokenKind::RightParen, Role::Closing)
+        match self.clauses.levels.operands.exprs(tokens) {
+            Ok(row) => tokens.close(row, TokenKind::RightParen, Role::Closing),
+            Err(why) => Err(why),
+        }
     }
 }
 
@@ -92,19 +94,33 @@ impl<
         ensures { Gives (reads Name rules self.now.clauses.levels.operands.depth spec.select_core tokens.old.counts tokens.old.rest.now) result tokens.new.counts tokens.new.rest.now }
     {
         let distinct = distinct(tokens)?;
-        let results = self.clauses.results(tokens)?;
-        let from = self.clauses.from(tokens)?;
-        let filter = self.clauses.filter_by(tokens)?;
-        let group_by = self.group_by(tokens)?;
-        let having = self.having(tokens)?;
-        Ok(SelectCore {
-            distinct,
-            results,
-            from,
-            filter,
-            group_by,
-            having,
-        })
+        let results = match self.clauses.results(tokens) {
+            Ok(found) => found,
+            Err(why) => return Err(why),
+        };
+        let from = match self.clauses.from(tokens) {
+            Ok(found) => found,
+            Err(why) => return Err(why),
+        };
+        let filter = match self.clauses.filter_by(tokens) {
+            Ok(found) => found,
+            Err(why) => return Err(why),
+        };
+        let group_by = match self.group_by(tokens) {
+            Ok(found) => found,
+            Err(why) => return Err(why),
+        };
+        match self.having(tokens) {
+            Ok(having) => Ok(SelectCore {
+                distinct,
+                results,
+                from,
+                filter,
+                group_by,
+                having,
+            }),
+            Err(why) => Err(why),
+        }
     }
 
     /// `SELECT [DISTINCT | ALL] result {, result} [FROM ..] [WHERE ..] [GROUP BY ..] [HAVING ..]` (SELECT)
@@ -137,8 +153,14 @@ impl<
         ensures { Gives (reads Name rules self.now.clauses.levels.operands.depth spec.core tokens.old.counts tokens.old.rest.now) result tokens.new.counts tokens.new.rest.now }
     {
         if tokens.sees(TokenKind::Select) {
-            return Ok((true, QueryPart::Select(self.select(tokens)?)));
+            return match self.select(tokens) {
+                Ok(found) => Ok((true, QueryPart::Select(found))),
+                Err(why) => Err(why),
+            };
         }
-        Ok((false, QueryPart::Values(self.values(tokens)?)))
+        match self.values(tokens) {
+            Ok(rows) => Ok((false, QueryPart::Values(rows))),
+            Err(why) => Err(why),
+        }
     }
 }

@@ -93,9 +93,18 @@ impl<
         requires queries { Nests query self.now.clauses.levels.operands.depth (G.pre self.now.clauses.levels.operands.query) (G.post self.now.clauses.levels.operands.query) }
         ensures { Gives (reads Name rules self.now.clauses.levels.operands.depth spec.query tokens.old.counts tokens.old.rest.now) result tokens.new.counts tokens.new.rest.now }
     {
-        let with = self.common_tables(tokens)?;
-        let parts = self.parts(tokens)?;
-        let (order_by, limit) = self.ordering_behind(tokens, parts.ends_in_select)?;
+        let with = match self.common_tables(tokens) {
+            Ok(found) => found,
+            Err(why) => return Err(why),
+        };
+        let parts = match self.parts(tokens) {
+            Ok(found) => found,
+            Err(why) => return Err(why),
+        };
+        let (order_by, limit) = match self.ordering_behind(tokens, parts.ends_in_select) {
+            Ok(found) => found,
+            Err(why) => return Err(why),
+        };
         let query = Query {
             with,
             first: parts.first,

@@ -37,18 +37,33 @@ fn command(alloc: Global, tokens: &mut Cursor<'_>, depth: usize) -> Result<Comma
     ensures { Gives (reads Name rules depth spec.command tokens.old.counts tokens.old.rest.now) result tokens.new.counts tokens.new.rest.now }
 {
     if sees_row_command(tokens) {
-        return Ok(Command::Rows(row_command(alloc, tokens, depth)?));
+        return match row_command(alloc, tokens, depth) {
+            Ok(found) => Ok(Command::Rows(found)),
+            Err(why) => Err(why),
+        };
     }
     if tokens.sees(TokenKind::Create) {
-        return Ok(Command::Create(create(alloc, tokens, depth)?));
+        return match create(alloc, tokens, depth) {
+            Ok(found) => Ok(Command::Create(found)),
+            Err(why) => Err(why),
+        };
     }
     if tokens.sees(TokenKind::Drop) {
-        return Ok(Command::Remove(remove(tokens)?));
+        return match remove(tokens) {
+            Ok(found) => Ok(Command::Remove(found)),
+            Err(why) => Err(why),
+        };
     }
     if tokens.sees_any(&TRANSACTIONS) {
-        return Ok(Command::Transaction(transaction(tokens)?));
+        return match transaction(tokens) {
+            Ok(found) => Ok(Command::Transaction(found)),
+            Err(why) => Err(why),
+        };
     }
-    Ok(Command::Pragma(pragma(tokens, depth)?))
+    match pragma(tokens, depth) {
+        Ok(found) => Ok(Command::Pragma(found)),
+        Err(why) => Err(why),
+    }
 }
 
 /// `[QUERY PLAN]`
@@ -93,8 +108,10 @@ fn semicolon(tokens: &mut Cursor<'_>) -> Result<Option<Token>, ParseError>
 fn ended(tokens: &mut Cursor<'_>, found: Statement) -> Result<Statement, ParseError>
     ensures { (d : ℕ) → Gives (part.ended found (reads Name rules d spec.semicolon tokens.old.counts tokens.old.rest.now)) result tokens.new.counts tokens.new.rest.now }
 {
-    semicolon(tokens)?;
-    Ok(found)
+    match semicolon(tokens) {
+        Ok(_) => Ok(found),
+        Err(why) => Err(why),
+    }
 }
 
 /// Parses the statement that the next tokens are, with the `;` that may end it, as far as it goes (SQL As Understood By SQLite), where
@@ -108,8 +125,10 @@ pub fn statement(
     ensures { Gives (reads Name rules depth spec.statement tokens.old.counts tokens.old.rest.now) result tokens.new.counts tokens.new.rest.now }
 {
     let explain = explain(tokens)?;
-    let command = command(alloc, tokens, depth)?;
-    ended(tokens, Statement { explain, command })
+    match command(alloc, tokens, depth) {
+        Ok(command) => ended(tokens, Statement { explain, command }),
+        Err(why) => Err(why),
+    }
 }
 
 /// Parses the tokens of a text of so many bytes as one statement (SQL As Understood By SQLite), which a `;` may end: its tree, or the

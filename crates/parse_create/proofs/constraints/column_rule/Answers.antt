@@ -27,25 +27,25 @@ pub returns-then-sees-4 : goal.returns-then-sees-4
 unfolding column_rule_of null unique_column
 returns-then-sees-4 c = grind (arith, constraint_firsts)
 
-pub returns-in_err-check : goal.returns-in_err-check
+pub returns-in-Err : goal.returns-in-Err
 unfolding column_rule_of null unique_column
-returns-in_err-check c = grind (arith, constraint_firsts)
+returns-in-Err c = grind (arith, constraint_firsts)
 
-pub returns-then-sees-5 : goal.returns-then-sees-5
+pub returns-in-Ok : goal.returns-in-Ok
 unfolding column_rule_of null unique_column
-returns-then-sees-5 c = grind (arith, constraint_firsts)
+returns-in-Ok c = grind (arith, constraint_firsts)
 
 pub returns-in_err-expect-3 : goal.returns-in_err-expect-3
 unfolding column_rule_of null unique_column
 returns-in_err-expect-3 c = grind (arith, constraint_firsts)
 
-pub returns-in_err-value : goal.returns-in_err-value
+pub returns-in-Err-default_value : goal.returns-in-Err-default_value
 unfolding column_rule_of null unique_column
-returns-in_err-value c = grind (arith, constraint_firsts)
+returns-in-Err-default_value c = grind (arith, constraint_firsts)
 
-pub returns-then-sees-6 : goal.returns-then-sees-6
+pub returns-in-Ok-default_value : goal.returns-in-Ok-default_value
 unfolding column_rule_of null unique_column
-returns-then-sees-6 c = grind (arith, constraint_firsts)
+returns-in-Ok-default_value c = grind (arith, constraint_firsts)
 
 pub returns-in_err-collate : goal.returns-in_err-collate
 unfolding column_rule_of null unique_column

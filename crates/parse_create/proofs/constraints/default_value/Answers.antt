@@ -19,10 +19,10 @@ pub returns-in_err-number : goal.returns-in_err-number
 unfolding default_value
 returns-in_err-number c = grind (arith, first_in_expression)
 
-pub returns-in_err-signed_literal : goal.returns-in_err-signed_literal
+pub returns-in-Err : goal.returns-in-Err
 unfolding default_value
-returns-in_err-signed_literal c = grind (arith, first_in_expression)
+returns-in-Err c = grind (arith, first_in_expression)
 
-pub returns : goal.returns
+pub returns-in-Ok : goal.returns-in-Ok
 unfolding default_value
-returns c = grind (arith, first_in_expression)
+returns-in-Ok c = grind (arith, first_in_expression)

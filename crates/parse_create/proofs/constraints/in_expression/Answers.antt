@@ -5,8 +5,8 @@ use Rattle.parse_create.proofs.constraints.in_expression.Goals as goal
 pub returns-in_err-open : goal.returns-in_err-open
 returns-in_err-open c = grind (arith, in_expression_is)
 
-pub returns-in_err-found : goal.returns-in_err-found
-returns-in_err-found c = grind (arith, in_expression_is)
+pub returns-in-Err : goal.returns-in-Err
+returns-in-Err c = grind (arith, in_expression_is)
 
-pub returns : goal.returns
-returns c = grind (arith, in_expression_is)
+pub returns-in-Ok : goal.returns-in-Ok
+returns-in-Ok c = grind (arith, in_expression_is)

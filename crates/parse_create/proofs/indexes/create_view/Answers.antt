@@ -14,8 +14,8 @@ returns-in_err-columns c = grind (arith, create_view_is)
 pub returns-in_err-expect-2 : goal.returns-in_err-expect-2
 returns-in_err-expect-2 c = grind (arith, create_view_is)
 
-pub returns-in_err-query : goal.returns-in_err-query
-returns-in_err-query c = grind (arith, create_view_is)
+pub returns-in-Err : goal.returns-in-Err
+returns-in-Err c = grind (arith, create_view_is)
 
-pub returns : goal.returns
-returns c = grind (arith, create_view_is)
+pub returns-in-Ok : goal.returns-in-Ok
+returns-in-Ok c = grind (arith, create_view_is)

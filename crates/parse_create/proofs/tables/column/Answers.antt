@@ -8,8 +8,8 @@ returns-in_err-name c = grind (arith, column_is)
 pub returns-in_err-type_name : goal.returns-in_err-type_name
 returns-in_err-type_name c = grind (arith, column_is)
 
-pub returns-in_err-constraints : goal.returns-in_err-constraints
-returns-in_err-constraints c = grind (arith, column_is)
+pub returns-in-Err : goal.returns-in-Err
+returns-in-Err c = grind (arith, column_is)
 
-pub returns : goal.returns
-returns c = grind (arith, column_is)
+pub returns-in-Ok : goal.returns-in-Ok
+returns-in-Ok c = grind (arith, column_is)

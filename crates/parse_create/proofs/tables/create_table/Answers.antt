@@ -8,8 +8,8 @@ returns-in_err-expect c = grind (arith, create_table_is)
 pub returns-in_err-header : goal.returns-in_err-header
 returns-in_err-header c = grind (arith, create_table_is)
 
-pub returns-in_err-table : goal.returns-in_err-table
-returns-in_err-table c = grind (arith, create_table_is)
+pub returns-in-Err : goal.returns-in-Err
+returns-in-Err c = grind (arith, create_table_is)
 
-pub returns : goal.returns
-returns c = grind (arith, create_table_is)
+pub returns-in-Ok : goal.returns-in-Ok
+returns-in-Ok c = grind (arith, create_table_is)

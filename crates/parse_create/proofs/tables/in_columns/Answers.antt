@@ -5,8 +5,8 @@ use Rattle.parse_create.proofs.tables.in_columns.Goals as goal
 pub returns-in_err-open : goal.returns-in_err-open
 returns-in_err-open c = grind (arith, in_columns_is)
 
-pub returns-in_err-columns : goal.returns-in_err-columns
-returns-in_err-columns c = grind (arith, in_columns_is)
+pub returns-in-Err : goal.returns-in-Err
+returns-in-Err c = grind (arith, in_columns_is)
 
-pub returns : goal.returns
-returns c = grind (arith, in_columns_is)
+pub returns-in-Ok : goal.returns-in-Ok
+returns-in-Ok c = grind (arith, in_columns_is)

@@ -8,8 +8,8 @@ returns-in_err-expect c = grind (arith, create_trigger_is)
 pub returns-in_err-header : goal.returns-in_err-header
 returns-in_err-header c = grind (arith, create_trigger_is)
 
-pub returns-in_err-trigger : goal.returns-in_err-trigger
-returns-in_err-trigger c = grind (arith, create_trigger_is)
+pub returns-in-Err : goal.returns-in-Err
+returns-in-Err c = grind (arith, create_trigger_is)
 
-pub returns : goal.returns
-returns c = grind (arith, create_trigger_is)
+pub returns-in-Ok : goal.returns-in-Ok
+returns-in-Ok c = grind (arith, create_trigger_is)

@@ -6,10 +6,10 @@ pub returns-in_err-expect : goal.returns-in_err-expect
 unfolding trigger_body
 returns-in_err-expect c = grind arith
 
-pub returns-in_err-commands : goal.returns-in_err-commands
+pub returns-in-Err : goal.returns-in-Err
 unfolding trigger_body
-returns-in_err-commands c = grind arith
+returns-in-Err c = grind arith
 
-pub returns : goal.returns
+pub returns-in-Ok : goal.returns-in-Ok
 unfolding trigger_body
-returns c = grind arith
+returns-in-Ok c = grind arith

@@ -14,11 +14,11 @@ returns-in_err-table c = grind (arith, trigger_parts_is)
 pub returns-in_err-for_each_row : goal.returns-in_err-for_each_row
 returns-in_err-for_each_row c = grind (arith, trigger_parts_is)
 
-pub returns-in_err-condition : goal.returns-in_err-condition
-returns-in_err-condition c = grind (arith, trigger_parts_is)
+pub returns-in-Err : goal.returns-in-Err
+returns-in-Err c = grind (arith, trigger_parts_is)
 
-pub returns-in_err-body : goal.returns-in_err-body
-returns-in_err-body c = grind (arith, trigger_parts_is)
+pub returns-in-Err-trigger_body : goal.returns-in-Err-trigger_body
+returns-in-Err-trigger_body c = grind (arith, trigger_parts_is)
 
-pub returns : goal.returns
-returns c = grind (arith, trigger_parts_is)
+pub returns-in-Ok-trigger_body : goal.returns-in-Ok-trigger_body
+returns-in-Ok-trigger_body c = grind (arith, trigger_parts_is)

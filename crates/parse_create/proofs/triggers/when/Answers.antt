@@ -6,13 +6,13 @@ pub returns-in_err-expect : goal.returns-in_err-expect
 unfolding when
 returns-in_err-expect c = grind arith
 
-pub returns-in_err-expr : goal.returns-in_err-expr
+pub returns-in-Err : goal.returns-in-Err
 unfolding when
-returns-in_err-expr c = grind arith
+returns-in-Err c = grind arith
 
-pub returns-in_ok-expr : goal.returns-in_ok-expr
+pub returns-in-Ok : goal.returns-in-Ok
 unfolding when
-returns-in_ok-expr c = grind arith
+returns-in-Ok c = grind arith
 
 pub returns-else-sees : goal.returns-else-sees
 unfolding when

@@ -14,10 +14,10 @@ pub returns-in_err-table : goal.returns-in_err-table
 unfolding delete delete_parts
 returns-in_err-table c = grind arith
 
-pub returns-in_err-filter : goal.returns-in_err-filter
+pub returns-in-Err : goal.returns-in-Err
 unfolding delete delete_parts
-returns-in_err-filter c = grind arith
+returns-in-Err c = grind arith
 
-pub returns : goal.returns
+pub returns-in-Ok : goal.returns-in-Ok
 unfolding delete delete_parts
-returns c = grind arith
+returns-in-Ok c = grind arith

@@ -18,10 +18,10 @@ pub returns-in_err-columns : goal.returns-in_err-columns
 unfolding insert
 returns-in_err-columns c = grind arith
 
-pub returns-in_err-source : goal.returns-in_err-source
+pub returns-in-Err : goal.returns-in-Err
 unfolding insert
-returns-in_err-source c = grind arith
+returns-in-Err c = grind arith
 
-pub returns : goal.returns
+pub returns-in-Ok : goal.returns-in-Ok
 unfolding insert
-returns c = grind arith
+returns-in-Ok c = grind arith

@@ -2,13 +2,13 @@ use Rattle.std.proofs.Common.{arith}
 use Rattle.sql_grammar.specs.Writes.{insert_source_of}
 use Rattle.parse_create.proofs.writes.insert_source.Goals as goal
 
-pub returns-in_err-query : goal.returns-in_err-query
+pub returns-in-Err : goal.returns-in-Err
 unfolding insert_source_of
-returns-in_err-query c = grind arith
+returns-in-Err c = grind arith
 
-pub returns-then-sees_query : goal.returns-then-sees_query
+pub returns-in-Ok : goal.returns-in-Ok
 unfolding insert_source_of
-returns-then-sees_query c = grind arith
+returns-in-Ok c = grind arith
 
 pub returns-in_err-expect : goal.returns-in_err-expect
 unfolding insert_source_of

@@ -3,34 +3,34 @@ use Rattle.parse_create.proofs.Clear.{write_firsts}
 use Rattle.sql_grammar.specs.Writes.{row_command}
 use Rattle.parse_create.proofs.writes.row_command.Goals as goal
 
-pub returns-in_err-query : goal.returns-in_err-query
+pub returns-in-Err : goal.returns-in-Err
 unfolding row_command
-returns-in_err-query c = grind (arith, write_firsts)
+returns-in-Err c = grind (arith, write_firsts)
 
-pub returns-then-sees_query : goal.returns-then-sees_query
+pub returns-in-Ok : goal.returns-in-Ok
 unfolding row_command
-returns-then-sees_query c = grind (arith, write_firsts)
+returns-in-Ok c = grind (arith, write_firsts)
 
-pub returns-in_err-insert : goal.returns-in_err-insert
+pub returns-in-Err-insert : goal.returns-in-Err-insert
 unfolding row_command
-returns-in_err-insert c = grind (arith, write_firsts)
+returns-in-Err-insert c = grind (arith, write_firsts)
 
-pub returns-then-sees : goal.returns-then-sees
+pub returns-in-Ok-insert : goal.returns-in-Ok-insert
 unfolding row_command
-returns-then-sees c = grind (arith, write_firsts)
+returns-in-Ok-insert c = grind (arith, write_firsts)
 
-pub returns-in_err-update : goal.returns-in_err-update
+pub returns-in-Err-update : goal.returns-in-Err-update
 unfolding row_command
-returns-in_err-update c = grind (arith, write_firsts)
+returns-in-Err-update c = grind (arith, write_firsts)
 
-pub returns-then-sees-3 : goal.returns-then-sees-3
+pub returns-in-Ok-update : goal.returns-in-Ok-update
 unfolding row_command
-returns-then-sees-3 c = grind (arith, write_firsts)
+returns-in-Ok-update c = grind (arith, write_firsts)
 
-pub returns-in_err-delete : goal.returns-in_err-delete
+pub returns-in-Err-delete : goal.returns-in-Err-delete
 unfolding row_command
-returns-in_err-delete c = grind (arith, write_firsts)
+returns-in-Err-delete c = grind (arith, write_firsts)
 
-pub returns : goal.returns
+pub returns-in-Ok-delete : goal.returns-in-Ok-delete
 unfolding row_command
-returns c = grind (arith, write_firsts)
+returns-in-Ok-delete c = grind (arith, write_firsts)

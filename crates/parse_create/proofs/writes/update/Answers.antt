@@ -14,11 +14,11 @@ returns-in_err-table c = grind (arith, update_is)
 pub returns-in_err-expect-2 : goal.returns-in_err-expect-2
 returns-in_err-expect-2 c = grind (arith, update_is)
 
-pub returns-in_err-assignments : goal.returns-in_err-assignments
-returns-in_err-assignments c = grind (arith, update_is)
+pub returns-in-Err : goal.returns-in-Err
+returns-in-Err c = grind (arith, update_is)
 
-pub returns-in_err-filter : goal.returns-in_err-filter
-returns-in_err-filter c = grind (arith, update_is)
+pub returns-in-Err-filter_by : goal.returns-in-Err-filter_by
+returns-in-Err-filter_by c = grind (arith, update_is)
 
-pub returns : goal.returns
-returns c = grind (arith, update_is)
+pub returns-in-Ok-filter_by : goal.returns-in-Ok-filter_by
+returns-in-Ok-filter_by c = grind (arith, update_is)

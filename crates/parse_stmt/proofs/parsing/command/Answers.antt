@@ -3,42 +3,42 @@ use Rattle.parse_stmt.proofs.Clear.{command_firsts}
 use Rattle.sql_grammar.specs.Statements.{command}
 use Rattle.parse_stmt.proofs.parsing.command.Goals as goal
 
-pub returns-in_err-row_command : goal.returns-in_err-row_command
+pub returns-in-Err : goal.returns-in-Err
 unfolding command
-returns-in_err-row_command c = grind (arith, command_firsts)
+returns-in-Err c = grind (arith, command_firsts)
 
-pub returns-then-sees_row_command : goal.returns-then-sees_row_command
+pub returns-in-Ok : goal.returns-in-Ok
 unfolding command
-returns-then-sees_row_command c = grind (arith, command_firsts)
+returns-in-Ok c = grind (arith, command_firsts)
 
-pub returns-in_err-create : goal.returns-in_err-create
+pub returns-in-Err-create : goal.returns-in-Err-create
 unfolding command
-returns-in_err-create c = grind (arith, command_firsts)
+returns-in-Err-create c = grind (arith, command_firsts)
 
-pub returns-then-sees : goal.returns-then-sees
+pub returns-in-Ok-create : goal.returns-in-Ok-create
 unfolding command
-returns-then-sees c = grind (arith, command_firsts)
+returns-in-Ok-create c = grind (arith, command_firsts)
 
-pub returns-in_err-remove : goal.returns-in_err-remove
+pub returns-in-Err-remove : goal.returns-in-Err-remove
 unfolding command
-returns-in_err-remove c = grind (arith, command_firsts)
+returns-in-Err-remove c = grind (arith, command_firsts)
 
-pub returns-then-sees-2 : goal.returns-then-sees-2
+pub returns-in-Ok-remove : goal.returns-in-Ok-remove
 unfolding command
-returns-then-sees-2 c = grind (arith, command_firsts)
+returns-in-Ok-remove c = grind (arith, command_firsts)
 
-pub returns-in_err-transaction : goal.returns-in_err-transaction
+pub returns-in-Err-transaction : goal.returns-in-Err-transaction
 unfolding command
-returns-in_err-transaction c = grind (arith, command_firsts)
+returns-in-Err-transaction c = grind (arith, command_firsts)
 
-pub returns-then-sees_any : goal.returns-then-sees_any
+pub returns-in-Ok-transaction : goal.returns-in-Ok-transaction
 unfolding command
-returns-then-sees_any c = grind (arith, command_firsts)
+returns-in-Ok-transaction c = grind (arith, command_firsts)
 
-pub returns-in_err-pragma : goal.returns-in_err-pragma
+pub returns-in-Err-pragma : goal.returns-in-Err-pragma
 unfolding command
-returns-in_err-pragma c = grind (arith, command_firsts)
+returns-in-Err-pragma c = grind (arith, command_firsts)
 
-pub returns : goal.returns
+pub returns-in-Ok-pragma : goal.returns-in-Ok-pragma
 unfolding command
-returns c = grind (arith, command_firsts)
+returns-in-Ok-pragma c = grind (arith, command_firsts)

@@ -8,20 +8,20 @@ returns-in_err-expect g c = grind (arith, behind_first_names)
 pub returns-then-sees : goal.returns-then-sees
 returns-then-sees g c = grind (arith, behind_first_names)
 
-pub returns-in_err-shown : goal.returns-in_err-shown
-returns-in_err-shown g c = grind (arith, behind_first_names)
+pub returns-in-Err : goal.returns-in-Err
+returns-in-Err g c = grind (arith, behind_first_names)
 
-pub returns-in_err-alias : goal.returns-in_err-alias
-returns-in_err-alias g c = grind (arith, behind_first_names)
+pub returns-in-Err-alias : goal.returns-in-Err-alias
+returns-in-Err-alias g c = grind (arith, behind_first_names)
 
-pub returns-then-sees-2 : goal.returns-then-sees-2
-returns-then-sees-2 g c = grind (arith, behind_first_names)
+pub returns-in-Ok-alias : goal.returns-in-Ok-alias
+returns-in-Ok-alias g c = grind (arith, behind_first_names)
 
-pub returns-in_err-shown-2 : goal.returns-in_err-shown-2
-returns-in_err-shown-2 g c = grind (arith, behind_first_names)
+pub returns-in-Err-spanned_tails : goal.returns-in-Err-spanned_tails
+returns-in-Err-spanned_tails g c = grind (arith, behind_first_names)
 
-pub returns-in_err-alias-2 : goal.returns-in_err-alias-2
-returns-in_err-alias-2 g c = grind (arith, behind_first_names)
+pub returns-in-Err-alias-2 : goal.returns-in-Err-alias-2
+returns-in-Err-alias-2 g c = grind (arith, behind_first_names)
 
-pub returns : goal.returns
-returns g c = grind (arith, behind_first_names)
+pub returns-in-Ok-alias-2 : goal.returns-in-Ok-alias-2
+returns-in-Ok-alias-2 g c = grind (arith, behind_first_names)

@@ -8,8 +8,8 @@ returns-then-not-sees g c = grind (arith, expr_after_steps)
 pub returns-in_err-expect : goal.returns-in_err-expect
 returns-in_err-expect g c = grind (arith, expr_after_steps)
 
-pub returns-in_err-expr : goal.returns-in_err-expr
-returns-in_err-expr g c = grind (arith, expr_after_steps)
+pub returns-in-Err : goal.returns-in-Err
+returns-in-Err g c = grind (arith, expr_after_steps)
 
-pub returns : goal.returns
-returns g c = grind (arith, expr_after_steps)
+pub returns-in-Ok : goal.returns-in-Ok
+returns-in-Ok g c = grind (arith, expr_after_steps)

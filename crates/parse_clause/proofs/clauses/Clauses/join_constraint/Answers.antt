@@ -5,11 +5,11 @@ use Rattle.parse_clause.proofs.clauses.Clauses.join_constraint.Goals as goal
 pub returns-in_err-expect : goal.returns-in_err-expect
 returns-in_err-expect g c = grind (arith, join_constraints)
 
-pub returns-in_err-expr : goal.returns-in_err-expr
-returns-in_err-expr g c = grind (arith, join_constraints)
+pub returns-in-Err : goal.returns-in-Err
+returns-in-Err g c = grind (arith, join_constraints)
 
-pub returns-then-sees : goal.returns-then-sees
-returns-then-sees g c = grind (arith, join_constraints)
+pub returns-in-Ok : goal.returns-in-Ok
+returns-in-Ok g c = grind (arith, join_constraints)
 
 pub returns-in_err-expect-2 : goal.returns-in_err-expect-2
 returns-in_err-expect-2 g c = grind (arith, join_constraints)

@@ -2,10 +2,10 @@ use Rattle.std.proofs.Common.{arith}
 use Rattle.sql_grammar.specs.Queries.{spanned_expr}
 use Rattle.parse_clause.proofs.clauses.Clauses.spanned_expr.Goals as goal
 
-pub returns-in_err-expr : goal.returns-in_err-expr
+pub returns-in-Err : goal.returns-in-Err
 unfolding spanned_expr
-returns-in_err-expr g c = grind arith
+returns-in-Err g c = grind arith
 
-pub returns : goal.returns
+pub returns-in-Ok : goal.returns-in-Ok
 unfolding spanned_expr
-returns g c = grind arith
+returns-in-Ok g c = grind arith

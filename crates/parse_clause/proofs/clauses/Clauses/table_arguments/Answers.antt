@@ -8,8 +8,8 @@ returns-then-not-sees g c = grind (arith, maybe_table_arguments_steps)
 pub returns-in_err-open : goal.returns-in_err-open
 returns-in_err-open g c = grind (arith, maybe_table_arguments_steps)
 
-pub returns-in_err-found : goal.returns-in_err-found
-returns-in_err-found g c = grind (arith, maybe_table_arguments_steps)
+pub returns-in-Err : goal.returns-in-Err
+returns-in-Err g c = grind (arith, maybe_table_arguments_steps)
 
-pub returns : goal.returns
-returns g c = grind (arith, maybe_table_arguments_steps)
+pub returns-in-Ok : goal.returns-in-Ok
+returns-in-Ok g c = grind (arith, maybe_table_arguments_steps)

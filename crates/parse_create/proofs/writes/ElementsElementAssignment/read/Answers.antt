@@ -10,10 +10,10 @@ pub returns-in_err-expect : goal.returns-in_err-expect
 unfolding assignment
 returns-in_err-expect c = grind arith
 
-pub returns-in_err-value : goal.returns-in_err-value
+pub returns-in-Err : goal.returns-in-Err
 unfolding assignment
-returns-in_err-value c = grind arith
+returns-in-Err c = grind arith
 
-pub returns : goal.returns
+pub returns-in-Ok : goal.returns-in-Ok
 unfolding assignment
-returns c = grind arith
+returns-in-Ok c = grind arith

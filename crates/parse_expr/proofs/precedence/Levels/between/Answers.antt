@@ -1,23 +1,18 @@
 use Rattle.std.proofs.Common.{arith}
-use Rattle.sql_grammar.specs.Grammar.{between}
+use Rattle.parse_expr.proofs.Straight.{between_is}
 use Rattle.parse_expr.proofs.precedence.Levels.between.Goals as goal
 
-pub returns-in_err-expect : goal.returns-in_err-expect
-unfolding between
-returns-in_err-expect g c = grind arith
+pub relation_behind-requires : goal.relation_behind-requires
+relation_behind-requires g c = record { exprs = c.requires.exprs; queries = c.requires.queries }
 
 pub returns-in_err-low : goal.returns-in_err-low
-unfolding between
-returns-in_err-low g c = grind arith
+returns-in_err-low g c = grind (arith, between_is)
 
-pub returns-in_err-expect-2 : goal.returns-in_err-expect-2
-unfolding between
-returns-in_err-expect-2 g c = grind arith
+pub relation_behind-requires-2 : goal.relation_behind-requires-2
+relation_behind-requires-2 g c = record { exprs = c.requires.exprs; queries = c.requires.queries }
 
 pub returns-in_err-high : goal.returns-in_err-high
-unfolding between
-returns-in_err-high g c = grind arith
+returns-in_err-high g c = grind (arith, between_is)
 
 pub returns : goal.returns
-unfolding between
-returns g c = grind arith
+returns g c = grind (arith, between_is)

@@ -7,3 +7,9 @@ returns-in_err-left g c = grind (arith, conjunction_is)
 
 pub returns : goal.returns
 returns g c = grind (arith, conjunction_is)
+
+pub negation-requires : goal.negation-requires
+negation-requires g c = record { exprs = c.requires.exprs; queries = c.requires.queries }
+
+pub more_conjunction-requires : goal.more_conjunction-requires
+more_conjunction-requires g c = record { exprs = c.requires.exprs; queries = c.requires.queries }

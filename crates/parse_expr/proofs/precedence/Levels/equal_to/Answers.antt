@@ -13,3 +13,6 @@ returns-in_err-right g c = grind arith
 pub returns : goal.returns
 unfolding equal_to
 returns g c = grind arith
+
+pub relation-requires : goal.relation-requires
+relation-requires g c = record { exprs = c.requires.exprs; queries = c.requires.queries }

@@ -16,3 +16,6 @@ returns-in_err-right g c = grind (arith, is_test_is)
 
 pub returns : goal.returns
 returns g c = grind (arith, is_test_is)
+
+pub relation-requires : goal.relation-requires
+relation-requires g c = record { exprs = c.requires.exprs; queries = c.requires.queries }

@@ -7,3 +7,6 @@ returns-in_err-expect g c = grind (arith, member_of_is)
 
 pub returns : goal.returns
 returns g c = grind (arith, member_of_is)
+
+pub in_members-requires : goal.in_members-requires
+in_members-requires g c = record { exprs = c.requires.exprs; queries = c.requires.queries }

@@ -20,3 +20,6 @@ loop-tokens-preserved g c = grind (arith, conjunction_steps)
 
 pub returns : goal.returns
 returns g c = grind (arith, conjunction_steps)
+
+pub negation-requires : goal.negation-requires
+negation-requires g c = record { exprs = c.requires.exprs; queries = c.requires.queries }

@@ -20,3 +20,6 @@ loop-tokens-preserved g c = grind (arith, expr_steps)
 
 pub returns : goal.returns
 returns g c = grind (arith, expr_steps)
+
+pub conjunction-requires : goal.conjunction-requires
+conjunction-requires g c = record { exprs = c.requires.exprs; queries = c.requires.queries }

@@ -13,3 +13,6 @@ returns-in_err-expect g c = grind (arith, negateds)
 
 pub returns : goal.returns
 returns g c = grind (arith, negateds)
+
+pub positive_test-requires : goal.positive_test-requires
+positive_test-requires g c = record { exprs = c.requires.exprs; queries = c.requires.queries }

@@ -7,3 +7,6 @@ returns-in_err-expect g c = grind (arith, opposed_is)
 
 pub returns : goal.returns
 returns g c = grind (arith, opposed_is)
+
+pub negated-requires : goal.negated-requires
+negated-requires g c = record { exprs = c.requires.exprs; queries = c.requires.queries }

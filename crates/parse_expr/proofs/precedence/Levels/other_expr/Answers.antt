@@ -7,3 +7,6 @@ returns-then-sees_name g c = grind (arith, other_expr_cases)
 
 pub returns : goal.returns
 returns g c = grind (arith, other_expr_cases)
+
+pub expr-requires : goal.expr-requires
+expr-requires g c = record { exprs = c.requires.exprs; queries = c.requires.queries }

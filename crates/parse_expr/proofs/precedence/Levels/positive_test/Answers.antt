@@ -18,3 +18,15 @@ returns-then-sees-3 g c = grind (arith, positive_test_firsts)
 pub returns-else-sees-3 : goal.returns-else-sees-3
 unfolding positive_test
 returns-else-sees-3 g c = grind (arith, positive_test_firsts)
+
+pub between-requires : goal.between-requires
+between-requires g c = record { exprs = c.requires.exprs; queries = c.requires.queries }
+
+pub like-requires : goal.like-requires
+like-requires g c = record { exprs = c.requires.exprs; queries = c.requires.queries }
+
+pub glob-requires : goal.glob-requires
+glob-requires g c = record { exprs = c.requires.exprs; queries = c.requires.queries }
+
+pub member_of-requires : goal.member_of-requires
+member_of-requires g c = record { exprs = c.requires.exprs; queries = c.requires.queries }

@@ -13,3 +13,6 @@ loop-tokens-preserved g c = grind (arith, equality_steps)
 
 pub returns : goal.returns
 returns g c = grind (arith, equality_steps)
+
+pub test-requires : goal.test-requires
+test-requires g c = record { exprs = c.requires.exprs; queries = c.requires.queries }

@@ -7,3 +7,6 @@ returns-in_err-expect g c = grind (arith, behind_is)
 
 pub returns : goal.returns
 returns g c = grind (arith, behind_is)
+
+pub inner-requires : goal.inner-requires
+inner-requires g c = record { exprs = c.requires.exprs; «open» = c.requires.«open» }

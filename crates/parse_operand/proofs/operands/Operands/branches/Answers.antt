@@ -10,3 +10,9 @@ returns-in_err-other g c = grind (arith, branches_are)
 
 pub returns : goal.returns
 returns g c = grind (arith, branches_are)
+
+pub arms-requires : goal.arms-requires
+arms-requires g c = record { exprs = c.requires.exprs; «open» = c.requires.«open» }
+
+pub otherwise-requires : goal.otherwise-requires
+otherwise-requires g c = record { exprs = c.requires.exprs; «open» = c.requires.«open» }

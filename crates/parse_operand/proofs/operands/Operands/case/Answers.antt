@@ -10,3 +10,12 @@ returns-in_err-operand g c = grind (arith, case_steps)
 
 pub returns : goal.returns
 returns g c = grind (arith, case_steps)
+
+pub branches-requires : goal.branches-requires
+branches-requires g c = record { exprs = c.requires.exprs; «open» = c.requires.«open» }
+
+pub inner-requires : goal.inner-requires
+inner-requires g c = record { exprs = c.requires.exprs; «open» = c.requires.«open» }
+
+pub branches-requires-2 : goal.branches-requires-2
+branches-requires-2 g c = record { exprs = c.requires.exprs; «open» = c.requires.«open» }

@@ -10,3 +10,6 @@ returns-in_err-found g c = grind (arith, choosing_is)
 
 pub returns : goal.returns
 returns g c = grind (arith, choosing_is)
+
+pub case-requires : goal.case-requires
+case-requires g c = record { exprs = c.requires.exprs; «open» = c.in_ok-open.ensures.«open» }

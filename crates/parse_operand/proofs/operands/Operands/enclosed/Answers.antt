@@ -10,3 +10,6 @@ returns-in_err-found g c = grind (arith, enclosed_is)
 
 pub returns : goal.returns
 returns g c = grind (arith, enclosed_is)
+
+pub inside_parentheses-requires : goal.inside_parentheses-requires
+inside_parentheses-requires g c = record { exprs = c.requires.exprs; queries = c.requires.queries; «open» = c.in_ok-open.ensures.«open» }

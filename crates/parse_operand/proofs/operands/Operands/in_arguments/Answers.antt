@@ -10,3 +10,6 @@ returns-in_err-found g c = grind (arith, in_arguments_is)
 
 pub returns : goal.returns
 returns g c = grind (arith, in_arguments_is)
+
+pub inside_arguments-requires : goal.inside_arguments-requires
+inside_arguments-requires g c = record { exprs = c.requires.exprs; «open» = c.in_ok-open.ensures.«open» }

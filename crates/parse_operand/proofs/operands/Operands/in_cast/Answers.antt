@@ -10,3 +10,6 @@ returns-in_err-parts g c = grind (arith, in_cast_is)
 
 pub returns : goal.returns
 returns g c = grind (arith, in_cast_is)
+
+pub inside_cast-requires : goal.inside_cast-requires
+inside_cast-requires g c = record { exprs = c.requires.exprs; «open» = c.in_ok-open.ensures.«open» }

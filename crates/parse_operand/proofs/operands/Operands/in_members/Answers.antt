@@ -10,3 +10,6 @@ returns-in_err-found g c = grind (arith, in_members_is)
 
 pub returns : goal.returns
 returns g c = grind (arith, in_members_is)
+
+pub inside_members-requires : goal.inside_members-requires
+inside_members-requires g c = record { exprs = c.requires.exprs; queries = c.requires.queries; «open» = c.in_ok-open.ensures.«open» }

@@ -7,3 +7,6 @@ returns-then-sees_arguments g c = grind (arith, arguments_steps)
 
 pub returns-else-sees_arguments : goal.returns-else-sees_arguments
 returns-else-sees_arguments g c = grind (arith, arguments_steps)
+
+pub some_arguments-requires : goal.some_arguments-requires
+some_arguments-requires g c = record { exprs = c.requires.exprs; «open» = c.requires.«open» }

@@ -17,3 +17,6 @@ returns-in_err-to g c = grind arith
 pub returns : goal.returns
 unfolding inside_cast
 returns g c = grind arith
+
+pub inner-requires : goal.inner-requires
+inner-requires g c = record { exprs = c.requires.exprs; «open» = c.requires.«open» }

@@ -13,3 +13,9 @@ returns-in_err-members g c = grind (arith, members_steps)
 
 pub returns : goal.returns
 returns g c = grind (arith, members_steps)
+
+pub inner_query-requires : goal.inner_query-requires
+inner_query-requires g c = record { queries = c.requires.queries; «open» = c.requires.«open» }
+
+pub listed_members-requires : goal.listed_members-requires
+listed_members-requires g c = record { exprs = c.requires.exprs; «open» = c.requires.«open» }

@@ -10,3 +10,9 @@ returns-then-sees_query g c = grind (arith, parentheses_steps)
 
 pub returns : goal.returns
 returns g c = grind (arith, parentheses_steps)
+
+pub inner_query-requires : goal.inner_query-requires
+inner_query-requires g c = record { queries = c.requires.queries; «open» = c.requires.«open» }
+
+pub inner-requires : goal.inner-requires
+inner-requires g c = record { exprs = c.requires.exprs; «open» = c.requires.«open» }

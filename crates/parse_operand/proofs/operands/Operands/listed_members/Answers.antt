@@ -7,3 +7,6 @@ returns-then-sees_expr g c = grind (arith, listed_steps)
 
 pub returns-else-sees_expr : goal.returns-else-sees_expr
 returns-else-sees_expr g c = grind (arith, listed_steps)
+
+pub exprs-requires : goal.exprs-requires
+exprs-requires g c = record { exprs = c.requires.exprs; «open» = c.requires.«open» }

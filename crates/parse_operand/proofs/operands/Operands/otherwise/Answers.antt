@@ -10,3 +10,6 @@ returns-in_ok-behind g c = grind (arith, otherwise_steps)
 
 pub returns-else-sees : goal.returns-else-sees
 returns-else-sees g c = grind (arith, otherwise_steps)
+
+pub behind-requires : goal.behind-requires
+behind-requires g c = record { exprs = c.requires.exprs; «open» = c.requires.«open» }

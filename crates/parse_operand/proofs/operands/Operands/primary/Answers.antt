@@ -34,3 +34,6 @@ returns-then-sees-5 g c = grind (arith, primary_firsts)
 pub returns-else-sees-5 : goal.returns-else-sees-5
 unfolding primary
 returns-else-sees-5 g c = grind (arith, primary_firsts)
+
+pub enclosed-requires : goal.enclosed-requires
+enclosed-requires g c = record { exprs = c.requires.exprs; queries = c.requires.queries }

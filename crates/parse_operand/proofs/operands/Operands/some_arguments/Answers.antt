@@ -29,3 +29,9 @@ returns-in_err-exprs-2 g c = grind arith
 pub returns : goal.returns
 unfolding some_arguments
 returns g c = grind arith
+
+pub exprs-requires : goal.exprs-requires
+exprs-requires g c = record { exprs = c.requires.exprs; «open» = c.requires.«open» }
+
+pub exprs-requires-2 : goal.exprs-requires-2
+exprs-requires-2 g c = record { exprs = c.requires.exprs; «open» = c.requires.«open» }

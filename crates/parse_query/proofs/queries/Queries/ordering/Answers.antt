@@ -2,11 +2,11 @@ use Rattle.std.proofs.Common.{arith}
 use Rattle.parse_query.proofs.OrderingSteps.{ordering_is}
 use Rattle.parse_query.proofs.queries.Queries.ordering.Goals as goal
 
-pub returns-in_err-order_by : goal.returns-in_err-order_by
-returns-in_err-order_by g c = grind (arith, ordering_is)
+pub returns-in-Err : goal.returns-in-Err
+returns-in-Err g c = grind (arith, ordering_is)
 
-pub returns-in_err-limit : goal.returns-in_err-limit
-returns-in_err-limit g c = grind (arith, ordering_is)
+pub returns-in-Err-limit : goal.returns-in-Err-limit
+returns-in-Err-limit g c = grind (arith, ordering_is)
 
-pub returns : goal.returns
-returns g c = grind (arith, ordering_is)
+pub returns-in-Ok-limit : goal.returns-in-Ok-limit
+returns-in-Ok-limit g c = grind (arith, ordering_is)

@@ -8,8 +8,8 @@ returns-then-not-sees_any g c = grind (arith, second_limits)
 pub returns-in_err-word : goal.returns-in_err-word
 returns-in_err-word g c = grind (arith, second_limits)
 
-pub returns-in_err-expr : goal.returns-in_err-expr
-returns-in_err-expr g c = grind (arith, second_limits)
+pub returns-in-Err : goal.returns-in-Err
+returns-in-Err g c = grind (arith, second_limits)
 
-pub returns : goal.returns
-returns g c = grind (arith, second_limits)
+pub returns-in-Ok : goal.returns-in-Ok
+returns-in-Ok g c = grind (arith, second_limits)

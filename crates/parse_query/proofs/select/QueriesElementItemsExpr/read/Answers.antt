@@ -5,8 +5,8 @@ use Rattle.parse_query.proofs.select.QueriesElementItemsExpr.read.Goals as goal
 pub returns-in_err-open : goal.returns-in_err-open
 returns-in_err-open g c = grind (arith, one_row_is)
 
-pub returns-in_err-row : goal.returns-in_err-row
-returns-in_err-row g c = grind (arith, one_row_is)
+pub returns-in-Err : goal.returns-in-Err
+returns-in-Err g c = grind (arith, one_row_is)
 
-pub returns : goal.returns
-returns g c = grind (arith, one_row_is)
+pub returns-in-Ok : goal.returns-in-Ok
+returns-in-Ok g c = grind (arith, one_row_is)

@@ -1,9 +1,0 @@
-use Rattle.std.proofs.Common.{arith}
-use Rattle.parse_expr.proofs.Suffixed.{bits_is}
-use Rattle.parse_expr.proofs.precedence.Levels.bits.Goals as goal
-
-pub returns-in_err-left : goal.returns-in_err-left
-returns-in_err-left g c = grind (arith, bits_is)
-
-pub returns : goal.returns
-returns g c = grind (arith, bits_is)

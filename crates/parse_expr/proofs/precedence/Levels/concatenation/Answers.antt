@@ -1,9 +1,0 @@
-use Rattle.std.proofs.Common.{arith}
-use Rattle.parse_expr.proofs.Suffixed.{concatenation_is}
-use Rattle.parse_expr.proofs.precedence.Levels.concatenation.Goals as goal
-
-pub returns-in_err-left : goal.returns-in_err-left
-returns-in_err-left g c = grind (arith, concatenation_is)
-
-pub returns : goal.returns
-returns g c = grind (arith, concatenation_is)
