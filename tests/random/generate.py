@@ -122,8 +122,15 @@ def literal(choose, bare):
     return choose.choice(["", "", "-", "+"]) + found if found.isdigit() else found
 
 
-if __name__ == "__main__":
+# Each operand of a BETWEEN stands twice in what it means, and so do its causes.
+NESTED = "SELECT 1.5" + " BETWEEN 0 AND 1" * 60 + ";\n"
+
+
+def scripts():
     source = random.Random(SEED)
-    for number in range(SCRIPTS):
-        text = script(source)
+    return [script(source) for number in range(SCRIPTS)] + [NESTED]
+
+
+if __name__ == "__main__":
+    for text in scripts():
         print(json.dumps({"sql": text, "lines": lines_of(text)}))

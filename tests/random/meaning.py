@@ -72,6 +72,20 @@ class Bound:
         self.conjuncts = [value]
 
 
+def once(a):
+    """The same, looked at once for each row: what stands twice in a rule would else double with each level."""
+    seen = []
+
+    def value(row):
+        if not seen or seen[0] is not row:
+            seen[:] = [row, a.value(row)]
+        return seen[1]
+
+    found = Bound(value, (), a.affinity, a.form)
+    found.collation, found.conjuncts = a.collation, a.conjuncts
+    return found
+
+
 def sides_of(a, b):
     return Sides(a.affinity, b.affinity, a.collation or b.collation or "BINARY")
 
@@ -210,6 +224,7 @@ class Parser:
         return self.member(a) if op == "IN" else None
 
     def between(self, a, low, high):
+        a = once(a)
         above, below = compared(">=", a, low), compared("<=", a, high)
         found = Bound(lambda row: conjunction(above.value(row), below.value(row)), (a, low, high))
         found.conjuncts = [above.value, below.value]

@@ -426,7 +426,7 @@ def type_of(v):
 
 # name: (function of the values, the least and the most arguments)
 FUNCTIONS = {
-    "abs": (absolute, 1, 1), "char": (char, 0, None), "hex": (lambda v: made((to_blob(v) or b"").hex().upper()), 1, 1),
+    "abs": (absolute, 1, 1), "char": (char, 1, None), "hex": (lambda v: made((to_blob(v) or b"").hex().upper()), 1, 1),
     "instr": (unless_null(instr), 2, 2), "length": (length, 1, 1), "lower": (lambda v: on_text(folded, v), 1, 1),
     "upper": (lambda v: on_text(lambda t: "".join(c.upper() if c.isascii() else c for c in t), v), 1, 1),
     "ltrim": (trim(left_trimmed), 1, 2), "rtrim": (trim(right_trimmed), 1, 2),

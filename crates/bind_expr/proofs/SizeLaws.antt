@@ -1,11 +1,12 @@
 -- A bound expression is at most twice as large as the tree that it is bound from, and what it is split into four times.
-use Rattle.std.proofs.Common.{rules, arith, subst, ◌≡◌, ℕ, true, false, if◌then◌else◌, unwrap_or, ◌+◌, ◌*◌, ◌≤◌, Bool, List, [], ◌∷◌, ◌++◌, map, length, Option, Some, None, Result, Ok, Err, refl, sym, ap, ◌∙◌}
+use Rattle.std.proofs.Common.{rules, arith, subst, ◌≡◌, ℕ, true, false, if◌then◌else◌, unwrap_or, ◌+◌, ◌*◌, ◌≤◌, Bool, List, [], ◌∷◌, ◌++◌, map, length, Option, Some, None, Result, Ok, Err, IfOk, refl, sym, ap, ◌∙◌}
 use Rattle.std.specs.Option.{option_map}
 use Rattle.eng_value.specs.declared.affinity.Affinity.{Affinity}
 use Rattle.eng_value.specs.declared.built.Built.{Built}
 use Rattle.eng_value.specs.declared.builtin.Builtin.{Builtin}
 use Rattle.eng_value.specs.declared.builtin.Builtin.TheVariants as builtin
 use Rattle.eng_value.specs.declared.built.Built.TheVariants as built
+use Rattle.eng_value.specs.declared.cause.Cause.{Cause}
 use Rattle.eng_value.specs.declared.compare_op.CompareOp.TheVariants as compare
 use Rattle.eng_value.specs.declared.operators.BinaryOperator.TheVariants as binary
 use Rattle.eng_value.specs.declared.operators.UnaryOperator.TheVariants as unary
@@ -16,7 +17,7 @@ use Rattle.sql_meaning.specs.declared.column.TableEntry.{TableEntry}
 use Rattle.sql_meaning.specs.Names.{is_same_name}
 use Rattle.sql_meaning.specs.Spelled.{name_at, literal_at}
 use Rattle.bind_expr.specs.declared.part.BoundPart.{BoundPart}
-use Rattle.bind_expr.specs.Parts.{part_in, unsplit, whole}
+use Rattle.bind_expr.specs.Parts.{part_in, unsplit, whole, Binds}
 use Rattle.bind_expr.proofs.Clauses.{bound_of-Literal, bound_of-Parameter, bound_of-Column, bound_of-TableColumn, bound_of-Unary, bound_of-Binary, bound_of-Between, bound_of-Like, bound_of-In, bound_of-Collate, bound_of-Cast, bound_of-Call, bound_of-Case, bound_of-InQuery, bound_of-Subquery, bound_of-Exists, bound_of-RaiseIgnore, bound_of-RaiseAbort, arm_bound-is}
 use Rattle.eng_value.specs.declared.operators.BinaryOperator.{BinaryOperator}
 use Rattle.eng_value.specs.declared.operators.Sides.{Sides}
@@ -25,7 +26,7 @@ use Rattle.sql_tree.specs.declared.expr.Arguments.{Arguments}
 use Rattle.sql_tree.specs.declared.expr.Arm.{Arm as SyntaxArm, roll-Arm, map-Arm}
 use Rattle.sql_tree.specs.declared.expr.BinaryOp.{BinaryOp}
 use Rattle.sql_tree.specs.declared.expr.BinaryOp.TheVariants as op
-use Rattle.sql_tree.specs.declared.expr.Expr.{Expr, ind-Expr, map-Expr, roll-Expr, the_lemmas}
+use Rattle.sql_tree.specs.declared.expr.Expr.{Expr, fold-roll-Expr, ind-Expr, map-Expr, roll-Expr, the_lemmas}
 use Rattle.sql_tree.specs.declared.expr.Expr.TheOpen.{Expr-F, Arm-F}
 use Rattle.sql_tree.specs.declared.expr.Expr.TheVariants.{rolls-Literal, rolls-Parameter, rolls-Column, rolls-TableColumn, rolls-Unary, rolls-Binary, rolls-Between, rolls-Like, rolls-In, rolls-Collate, rolls-Cast, rolls-Call, rolls-Case, rolls-InQuery, rolls-Subquery, rolls-Exists, rolls-RaiseIgnore, rolls-RaiseAbort}
 use Rattle.sql_tree.specs.declared.expr.Expr.TheVariants as x
@@ -47,7 +48,7 @@ use Rattle.sql_tree.specs.declared.expr.UnaryOp.TheVariants as sign
 use Rattle.sql_tree.specs.declared.token.Token.{Token}
 use Rattle.sql_tree.specs.Sizes.{total, or_0, size_of, size_of_arm}
 use Rattle.sql_meaning.specs.declared.bound.BoundArm.{BoundArm, roll-BoundArm}
-use Rattle.sql_meaning.specs.declared.bound.BoundExpr.{BoundExpr, the_lemmas as the_bound_lemmas}
+use Rattle.sql_meaning.specs.declared.bound.BoundExpr.{BoundExpr, fold-roll-BoundExpr, the_lemmas as the_bound_lemmas}
 use Rattle.sql_meaning.specs.declared.bound.BoundExpr.TheVariants as e
 use Rattle.sql_meaning.specs.declared.bound.BoundMatch.{BoundMatch, roll-BoundMatch}
 use Rattle.sql_meaning.specs.declared.bound.Literal.{Literal}
@@ -57,88 +58,88 @@ use Rattle.sql_meaning.specs.Sizes.{nodes_of, nodes_of_arm, nodes_of_match, all_
 -- ---- sizes, clause by clause
 
 pub size-Unary : (o : UnaryOp) (a : Expr) → size_of (x.Unary o a) ≡ 1 + size_of a
-size-Unary o a = search (rules, the_lemmas)
+size-Unary o a = rw (← x.rolls-Unary o a, fold-roll-Expr) refl
 
 pub size-Binary : (o : BinaryOp) (a b : Expr) → size_of (x.Binary o a b) ≡ 1 + size_of a + size_of b
-size-Binary o a b = search (rules, the_lemmas)
+size-Binary o a b = rw (← x.rolls-Binary o a b, fold-roll-Expr) refl
 
 pub size-Between : (a b c : Expr) → size_of (x.Between a b c) ≡ 1 + size_of a + size_of b + size_of c
-size-Between a b c = search (rules, the_lemmas)
+size-Between a b c = rw (← x.rolls-Between a b c, fold-roll-Expr) refl
 
 pub size-Like : (a b : Expr) (c : Option Expr) → size_of (x.Like a b c) ≡ 1 + size_of a + size_of b + or_0 (option_map size_of c)
-size-Like a b None = search (rules, the_lemmas)
-size-Like a b (Some c) = search (rules, the_lemmas)
+size-Like a b None = rw (← x.rolls-Like a b None, fold-roll-Expr) refl
+size-Like a b (Some c) = rw (← x.rolls-Like a b (Some c), fold-roll-Expr) refl
 
 pub size-In : (a : Expr) (others : List Expr) → size_of (x.In a others) ≡ 1 + size_of a + total (map size_of others)
-size-In a others = search (rules, the_lemmas)
+size-In a others = rw (← x.rolls-In a others, fold-roll-Expr) refl
 
 pub size-Collate : (a : Expr) (t : Token) → size_of (x.Collate a t) ≡ 1 + size_of a
-size-Collate a t = search (rules, the_lemmas)
+size-Collate a t = rw (← x.rolls-Collate a t, fold-roll-Expr) refl
 
 pub size-Cast : (a : Expr) (t : TypeName) → size_of (x.Cast a t) ≡ 1 + size_of a
-size-Cast a t = search (rules, the_lemmas)
+size-Cast a t = rw (← x.rolls-Cast a t, fold-roll-Expr) refl
 
 pub size-Call : (t : Token) (how : Arguments) (args : List Expr) (filter : Option Expr) → size_of (x.Call t how args filter) ≡ 1 + total (map size_of args) + or_0 (option_map size_of filter)
-size-Call t how args None = search (rules, the_lemmas)
-size-Call t how args (Some c) = search (rules, the_lemmas)
+size-Call t how args None = rw (← x.rolls-Call t how args None, fold-roll-Expr) refl
+size-Call t how args (Some c) = rw (← x.rolls-Call t how args (Some c), fold-roll-Expr) refl
 
 pub size-Case : (a : Option Expr) (arms : List SyntaxArm) (otherwise : Option Expr)
     → size_of (x.Case a arms otherwise) ≡ 2 + or_0 (option_map size_of a) + total (map size_of_arm arms) + or_0 (option_map size_of otherwise)
-size-Case None arms None = search (rules, the_lemmas)
-size-Case None arms (Some c) = search (rules, the_lemmas)
-size-Case (Some a) arms None = search (rules, the_lemmas)
-size-Case (Some a) arms (Some c) = search (rules, the_lemmas)
+size-Case None arms None = rw (← x.rolls-Case None arms None, fold-roll-Expr) refl
+size-Case None arms (Some c) = rw (← x.rolls-Case None arms (Some c), fold-roll-Expr) refl
+size-Case (Some a) arms None = rw (← x.rolls-Case (Some a) arms None, fold-roll-Expr) refl
+size-Case (Some a) arms (Some c) = rw (← x.rolls-Case (Some a) arms (Some c), fold-roll-Expr) refl
 
 pub size-Literal : (t : Token) → size_of (x.Literal t) ≡ 1
-size-Literal t = search (rules, the_lemmas)
+size-Literal t = rw (← x.rolls-Literal t, fold-roll-Expr) refl
 
 pub size-Parameter : (t : Token) → size_of (x.Parameter t) ≡ 1
-size-Parameter t = search (rules, the_lemmas)
+size-Parameter t = rw (← x.rolls-Parameter t, fold-roll-Expr) refl
 
 pub size-Column : (t : Token) → size_of (x.Column t) ≡ 1
-size-Column t = search (rules, the_lemmas)
+size-Column t = rw (← x.rolls-Column t, fold-roll-Expr) refl
 
 pub size-TableColumn : (t c : Token) → size_of (x.TableColumn t c) ≡ 1
-size-TableColumn t c = search (rules, the_lemmas)
+size-TableColumn t c = rw (← x.rolls-TableColumn t c, fold-roll-Expr) refl
 
 pub size-arm : (condition shown : Expr) → size_of_arm (roll-Arm (record { condition = condition; value = shown })) ≡ 1 + size_of condition + size_of shown
 size-arm condition shown = search (rules, the_lemmas)
 
 pub nodes-Literal : (l : Literal) → nodes_of (e.Literal l) ≡ 1
-nodes-Literal l = search (rules, the_bound_lemmas)
+nodes-Literal l = rw (← e.rolls-Literal l, fold-roll-BoundExpr) refl
 
 pub nodes-Column : (item place : ℕ) → nodes_of (e.Column item place) ≡ 1
-nodes-Column item place = search (rules, the_bound_lemmas)
+nodes-Column item place = rw (← e.rolls-Column item place, fold-roll-BoundExpr) refl
 
 pub nodes-Parameter : (number : ℕ) → nodes_of (e.Parameter number) ≡ 1
-nodes-Parameter number = search (rules, the_bound_lemmas)
+nodes-Parameter number = rw (← e.rolls-Parameter number, fold-roll-BoundExpr) refl
 
 pub nodes-Unary : (o : UnaryOperator) (a : BoundExpr) → nodes_of (e.Unary o a) ≡ 1 + nodes_of a
-nodes-Unary o a = search (rules, the_bound_lemmas)
+nodes-Unary o a = rw (← e.rolls-Unary o a, fold-roll-BoundExpr) refl
 
 pub nodes-Binary : (o : BinaryOperator) (a b : BoundExpr) → nodes_of (e.Binary o a b) ≡ 1 + nodes_of a + nodes_of b
-nodes-Binary o a b = search (rules, the_bound_lemmas)
+nodes-Binary o a b = rw (← e.rolls-Binary o a b, fold-roll-BoundExpr) refl
 
 pub nodes-LikeEscaped : (a b c : BoundExpr) → nodes_of (e.LikeEscaped a b c) ≡ 1 + nodes_of a + nodes_of b + nodes_of c
-nodes-LikeEscaped a b c = search (rules, the_bound_lemmas)
+nodes-LikeEscaped a b c = rw (← e.rolls-LikeEscaped a b c, fold-roll-BoundExpr) refl
 
 pub nodes-Between : (above below : Sides) (a low high : BoundExpr) → nodes_of (e.Between above below a low high) ≡ 1 + nodes_of a + nodes_of low + nodes_of high
-nodes-Between above below a low high = search (rules, the_bound_lemmas)
+nodes-Between above below a low high = rw (← e.rolls-Between above below a low high, fold-roll-BoundExpr) refl
 
 pub nodes-In : (sides : Sides) (a : BoundExpr) (others : List BoundExpr) → nodes_of (e.In sides a others) ≡ 1 + nodes_of a + all_nodes others
-nodes-In sides a others = search (rules, the_bound_lemmas)
+nodes-In sides a others = rw (← e.rolls-In sides a others, fold-roll-BoundExpr) refl
 
 pub nodes-Coalesce : (es : List BoundExpr) → nodes_of (e.Coalesce es) ≡ 1 + all_nodes es
-nodes-Coalesce es = search (rules, the_bound_lemmas)
+nodes-Coalesce es = rw (← e.rolls-Coalesce es, fold-roll-BoundExpr) refl
 
 pub nodes-Choose : (arms : List BoundArm) (otherwise : BoundExpr) → nodes_of (e.Choose arms otherwise) ≡ 1 + total (map nodes_of_arm arms) + nodes_of otherwise
-nodes-Choose arms otherwise = search (rules, the_bound_lemmas)
+nodes-Choose arms otherwise = rw (← e.rolls-Choose arms otherwise, fold-roll-BoundExpr) refl
 
 pub nodes-Match : (a : BoundExpr) (arms : List BoundMatch) (otherwise : BoundExpr) → nodes_of (e.Match a arms otherwise) ≡ 1 + nodes_of a + total (map nodes_of_match arms) + nodes_of otherwise
-nodes-Match a arms otherwise = search (rules, the_bound_lemmas)
+nodes-Match a arms otherwise = rw (← e.rolls-Match a arms otherwise, fold-roll-BoundExpr) refl
 
 pub nodes-Call : (f : Builtin) (collation : Built) (args : List BoundExpr) → nodes_of (e.Call f collation args) ≡ 1 + all_nodes args
-nodes-Call f collation args = search (rules, the_bound_lemmas)
+nodes-Call f collation args = rw (← e.rolls-Call f collation args, fold-roll-BoundExpr) refl
 
 pub nodes-arm : (condition shown : BoundExpr) → nodes_of_arm (roll-BoundArm (record { condition = condition; value = shown })) ≡ 1 + nodes_of condition + nodes_of shown
 nodes-arm condition shown = search (rules, the_bound_lemmas)
@@ -540,3 +541,7 @@ appended_nodes e s old new h =
     let w = found (bound_of e s) (λ b. Ok (old ++ b.conjuncts)) new h in
     let same : old ++ w.0.conjuncts ≡ new = let k = w.2 in cc in
     rw (← same) (omega (arith, all_nodes-append old w.0.conjuncts, conjunct_nodes e s w.0 w.1))
+
+pub bound_nodes : (e : Expr) (s : Scope) (r : Result BoundPart Cause) → Binds (bound_of e s) r → IfOk r (λ p. nodes_of p.tree ≤ 2 * size_of e)
+bound_nodes e s (Ok p) h = part_nodes e s p h
+bound_nodes e s (Err why) h = tt

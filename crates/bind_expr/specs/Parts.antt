@@ -48,6 +48,11 @@ collated a c = record a { collation = Some c; form = Plain; conjuncts = a.tree �
 abbrev pub itself : {A : Type 0} → A → A
 itself a = a
 
+-- a refusal is want of memory
+abbrev pub caused : {A E : Type 0} → Result A E → Result A Cause
+caused (Ok a) = Ok a
+caused (Err e) = Err cause.Mem
+
 -- the result is what is meant, or memory was wanting
 abbrev pub Gives : {A B : Type 0} → (B → A) → Result A Cause → Result B Cause → Type 0
 Gives seen meant (Ok found) = meant ≡ Ok (seen found)

@@ -12,7 +12,7 @@ use crate::columns::{column, table_column};
 use crate::groups::Group;
 use crate::leaves::{collate, literal_part, parameter_part};
 use crate::operators::{between, binary, cast, like, member, unary};
-use crate::part::BoundPart;
+use crate::part::{BoundPart, caused};
 use crate::scope::Scope;
 use bind_name::affinity_of_type;
 use eng_value::Cause;
@@ -28,35 +28,35 @@ pub(crate) fn bind(alloc: Global, scope: &Scope<'_>, e: &Expr) -> Result<BoundPa
     ensures { Binds (bound_of e.now scope.now) result }
 {
     match e {
-        Expr::Literal(token) => Ok(literal_part(alloc, scope.text(), token)?),
+        Expr::Literal(token) => caused(literal_part(alloc, scope.text(), token)),
         Expr::Parameter(token) => Ok(parameter_part(token)),
         Expr::Column(token) => column(alloc, scope, token),
         Expr::TableColumn(table, token) => table_column(alloc, scope, table, token),
         Expr::Unary(op, a) => {
             let a = bind(alloc, scope, a.get())?;
-            Ok(unary(alloc, *op, a)?)
+            caused(unary(alloc, *op, a))
         }
         Expr::Binary(op, a, b) => {
             let a = bind(alloc, scope, a.get())?;
             let b = bind(alloc, scope, b.get())?;
-            Ok(binary(alloc, *op, a, b)?)
+            caused(binary(alloc, *op, a, b))
         }
         Expr::Between(a, low, high) => {
             let a = bind(alloc, scope, a.get())?;
             let low = bind(alloc, scope, low.get())?;
             let high = bind(alloc, scope, high.get())?;
-            Ok(between(alloc, a, low, high)?)
+            caused(between(alloc, a, low, high))
         }
         Expr::Like(a, b, escape) => {
             let a = bind(alloc, scope, a.get())?;
             let b = bind(alloc, scope, b.get())?;
             let escape = bind_option(alloc, scope, escape)?;
-            Ok(like(alloc, a, b, escape)?)
+            caused(like(alloc, a, b, escape))
         }
         Expr::In(a, others) => {
             let a = bind(alloc, scope, a.get())?;
             let others = bind_all(alloc, scope, others.as_slice())?;
-            Ok(member(alloc, a, others)?)
+            caused(member(alloc, a, others))
         }
         Expr::Collate(a, token) => {
             let a = bind(alloc, scope, a.get())?;
@@ -65,7 +65,7 @@ pub(crate) fn bind(alloc: Global, scope: &Scope<'_>, e: &Expr) -> Result<BoundPa
         Expr::Cast(a, type_name) => {
             let a = bind(alloc, scope, a.get())?;
             let to = affinity_of_type(alloc, scope.text(), type_name)?;
-            Ok(cast(alloc, to, a)?)
+            caused(cast(alloc, to, a))
         }
         Expr::Call(token, how, args, _) => bind_call(alloc, scope, token, *how, args.as_slice()),
         Expr::Case(operand, arms, otherwise) => match operand {
@@ -73,12 +73,12 @@ pub(crate) fn bind(alloc: Global, scope: &Scope<'_>, e: &Expr) -> Result<BoundPa
                 let operand = bind(alloc, scope, operand.get())?;
                 let arms = bind_matches(alloc, scope, &operand, arms.as_slice())?;
                 let otherwise = bind_option(alloc, scope, otherwise)?;
-                Ok(choose_match(alloc, operand, arms, otherwise)?)
+                caused(choose_match(alloc, operand, arms, otherwise))
             }
             None => {
                 let arms = bind_choices(alloc, scope, arms.as_slice())?;
                 let otherwise = bind_option(alloc, scope, otherwise)?;
-                Ok(choose(alloc, arms, otherwise)?)
+                caused(choose(alloc, arms, otherwise))
             }
         },
         Expr::InQuery(_, _) => Err(Cause::NotYet),
@@ -130,7 +130,7 @@ fn bind_call(
 {
     let f = function_called(alloc, scope.text(), token, how, args.len())?;
     let args = bind_all(alloc, scope, args)?;
-    Ok(call(alloc, f, args)?)
+    caused(call(alloc, f, args))
 }
 
 /// Binds an arm of a CASE.

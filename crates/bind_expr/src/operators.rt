@@ -45,7 +45,7 @@ fn unary_over(
 fn negative(alloc: Global, a: BoundPart) -> Result<BoundPart, AllocError>
     ensures { IfOk result (λ p. whole p ≡ negative_bound (form_of a.form) (whole a)) }
 {
-    if a.form == Form::LeastMagnitude {
+    if let Form::LeastMagnitude = a.form {
         let least = Literal::Value(Value::Integer(i64::MIN));
         return Ok(BoundPart::bare(None, BoundExpr::Literal(least)));
     }

@@ -2,15 +2,15 @@
 ghost use Rattle.std.specs.Prelude.{◌≡◌, unwrap_or, IfOk};
 ghost use Rattle.eng_value.specs.declared.built.Built.TheVariants as built;
 ghost use Rattle.sql_meaning.specs.Binding.{or_else, sides_of};
-ghost use Rattle.bind_expr.specs.Parts.{bare, whole};
+ghost use Rattle.bind_expr.specs.Parts.{bare, caused, whole};
 
-use eng_value::{Affinity, Built, Sides};
+use eng_value::{Affinity, Built, Cause, Sides};
 use sql_meaning::BoundExpr;
 use sqlite_items::Boxed;
 use std::alloc::{AllocError, Global};
 
 /// What an operator asks of an operand beside its value.
-#[derive(Clone, Copy, Debug, PartialEq, Eq)]
+#[derive(Clone, Copy)]
 pub enum Form {
     Plain,
     /// 9223372036854775808, which a minus in front makes the least integer.
@@ -21,7 +21,7 @@ pub enum Form {
 
 /// An expression whose names are bound: its tree, its affinity, the collation of the leftmost COLLATE in it, and its form
 /// (Datatypes In SQLite, sections 3.2 and 7.1).
-#[derive(Debug, Drop)]
+#[derive(Drop)]
 pub struct BoundPart {
     pub tree: BoundExpr,
     pub affinity: Affinity,
@@ -40,6 +40,16 @@ impl BoundPart {
             collation,
             form: Form::Plain,
         }
+    }
+}
+
+/// What only want of memory refuses, with that as its cause.
+pub(crate) fn caused(made: Result<BoundPart, AllocError>) -> Result<BoundPart, Cause>
+    ensures { result ≡ caused made }
+{
+    match made {
+        Ok(part) => Ok(part),
+        Err(_) => Err(Cause::Mem),
     }
 }
 

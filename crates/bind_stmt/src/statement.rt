@@ -12,7 +12,7 @@ use sql_tree::{Command, RowCommand, Statement};
 use std::alloc::Global;
 
 /// A statement whose names are bound.
-#[derive(Debug, Drop)]
+#[derive(Drop)]
 pub enum Bound {
     /// The entry of the table that is created.
     CreateTable(TableEntry),

@@ -8,7 +8,7 @@ use crate::scanning::{number_len, sign_len, trimmed, whole_len, without_space};
 
 /// What a text is between white space (Datatypes In SQLite, section 3): no number, an integer of 64 bits, or another
 /// number, which SQLite would hold as a REAL.
-#[derive(Clone, Copy, Debug, PartialEq, Eq)]
+#[derive(Clone, Copy, PartialEq, Eq)]
 pub enum TextKind {
     NoNumber,
     Whole(i64),

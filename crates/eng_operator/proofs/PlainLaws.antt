@@ -7,11 +7,8 @@ use Rattle.eng_value.specs.declared.out.Out.TheVariants.{Good}
 use Rattle.eng_value.specs.declared.value.Value.TheVariants.{Integer}
 use Rattle.eng_value.specs.Casts.{beside}
 use Rattle.eng_value.specs.Outs.{truth_value}
+use Rattle.eng_operator.specs.Plain.{is_text}
 use Rattle.eng_value.specs.Truths.{and_of, both, one_of_both, or_of, out_of, truth_in, truth_of}
-
-abbrev is_text : Affinity → Bool
-is_text affinity.Text = true
-is_text a = false
 
 -- an integer stays beside all but TEXT
 pub kept_beside : (other own : Affinity) → is_text other ≡ false → (n : ℤ) → beside other own (Integer n) ≡ Integer n

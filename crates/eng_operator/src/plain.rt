@@ -1,5 +1,6 @@
 // The operators on two integers and on two texts, where the result is an integer: the most common cases, which need no memory.
-ghost use Rattle.std.specs.Prelude.{◌≡◌, ℤ, true, IfSome};
+ghost use Rattle.std.specs.Prelude.{◌≡◌, ◌⊎◌, ℤ, true, false, not, IfSome, IfNone};
+ghost use Rattle.eng_operator.specs.Plain.{is_integer, is_integer_value, is_of_integers, is_of_texts, is_text, keep_integers};
 ghost use Rattle.eng_value.specs.Applied.{binary_of};
 ghost use Rattle.eng_value.specs.Casts.{beside};
 ghost use Rattle.eng_value.specs.Comparisons.{comparison, globbed, liked};
@@ -13,11 +14,12 @@ ghost use Rattle.eng_value.specs.declared.value.Value.TheVariants.{Integer};
 use crate::bits::of_bits;
 use eng_value::{Affinity, ArithmeticOp, BinaryOperator, CompareOp, IntegerOp, Sides, Text, Value};
 
-/// What an operator gives for two integers, where that is an integer and neither of the two is compared as a text. None says
-/// nothing of what it gives: `binary` then answers.
+/// What an operator gives for two integers; None exactly where it is no integer, or the operator is none that looks at two integers as
+/// they are: `binary` then answers.
 #[tactic(auto, unfolding(eng_value::specs::Operators::arithmetic_of, eng_value::specs::Operators::integers_of, eng_value::specs::Comparisons::comparison_of))]
 pub fn binary_of_integers(op: &BinaryOperator, a: i64, b: i64) -> Option<i64>
-    ensures { IfSome result (λ n. binary_of op.now (Good (Integer a)) (Good (Integer b)) ≡ Good (Integer n)) }
+    ensures some { IfSome result (λ n. binary_of op.now (Good (Integer a)) (Good (Integer b)) ≡ Good (Integer n)) }
+    ensures none { IfNone result ((is_of_integers op.now ≡ false) ⊎ (is_integer (binary_of op.now (Good (Integer a)) (Good (Integer b))) ≡ false)) }
 {
     match op {
         BinaryOperator::Arithmetic(op) => arithmetic(*op, a, b),
@@ -29,10 +31,11 @@ pub fn binary_of_integers(op: &BinaryOperator, a: i64, b: i64) -> Option<i64>
     }
 }
 
-/// The same of two texts.
+/// The same of two texts: 1 or 0 for LIKE and GLOB, and None exactly for the others.
 #[tactic(auto, unfolding(eng_value::specs::Comparisons::like_of, eng_value::specs::Comparisons::glob_of))]
 pub fn binary_of_texts(op: &BinaryOperator, a: &Text, b: &Text) -> Option<i64>
-    ensures { IfSome result (λ n. binary_of op.now (Good (sql.Text a.now)) (Good (sql.Text b.now)) ≡ Good (Integer n)) }
+    ensures some { IfSome result (λ n. binary_of op.now (Good (sql.Text a.now)) (Good (sql.Text b.now)) ≡ Good (Integer n)) }
+    ensures none { IfNone result (is_of_texts op.now ≡ false) }
 {
     match op {
         BinaryOperator::Like => Some(like(a.as_str(), b.as_str())),
@@ -42,7 +45,8 @@ pub fn binary_of_texts(op: &BinaryOperator, a: &Text, b: &Text) -> Option<i64>
 }
 
 fn arithmetic(op: ArithmeticOp, a: i64, b: i64) -> Option<i64>
-    ensures { IfSome result (λ n. of_integers op a b ≡ Good (Integer n)) }
+    ensures some { IfSome result (λ n. of_integers op a b ≡ Good (Integer n)) }
+    ensures none { IfNone result (is_integer (of_integers op a b) ≡ false) }
 {
     match op {
         ArithmeticOp::Add => a.checked_add(b),
@@ -54,7 +58,8 @@ fn arithmetic(op: ArithmeticOp, a: i64, b: i64) -> Option<i64>
 }
 
 fn integers(op: IntegerOp, a: i64, b: i64) -> Option<i64>
-    ensures { IfSome result (λ n. of_bits op a b ≡ Integer n) }
+    ensures some { IfSome result (λ n. of_bits op a b ≡ Integer n) }
+    ensures none { IfNone result (is_integer_value (of_bits op a b) ≡ false) }
 {
     match of_bits(op, a, b) {
         Value::Integer(n) => Some(n),
@@ -63,7 +68,8 @@ fn integers(op: IntegerOp, a: i64, b: i64) -> Option<i64>
 }
 
 fn comparison(op: CompareOp, sides: Sides, a: i64, b: i64) -> Option<i64>
-    ensures { IfSome result (λ n. comparison op sides (Integer a) (Integer b) ≡ Integer n) }
+    ensures some { IfSome result (λ n. comparison op sides (Integer a) (Integer b) ≡ Integer n) }
+    ensures none { IfNone result (keep_integers sides ≡ false) }
 {
     if keeps_integers(sides.right, sides.left) && keeps_integers(sides.left, sides.right) {
         Some(truth(op.passes(a.cmp(&b))))
@@ -87,7 +93,8 @@ fn glob(text: &str, pattern: &str) -> i64
 // Whether an integer of an affinity stays as it is beside the other affinity. Only TEXT changes one.
 #[tactic(auto, using(crate::proofs::PlainLaws::kept_beside))]
 fn keeps_integers(other: Affinity, own: Affinity) -> bool
-    ensures { result ≡ true → (n : ℤ) → beside other own (Integer n) ≡ Integer n }
+    ensures kept { result ≡ true → (n : ℤ) → beside other own (Integer n) ≡ Integer n }
+    ensures test { result ≡ not (is_text other) }
 {
     !matches!(other, Affinity::Text)
 }

@@ -5,7 +5,7 @@ ghost use Rattle.eng_record.specs.declared.record_error.RecordErr.TheVariants.{M
 use std::alloc::{AllocError, AllocFailed};
 
 /// What is wrong with the bytes: the first fault from left to right, in the header and then in the bodies.
-#[derive(Clone, Copy, Debug, PartialEq, Eq)]
+#[derive(Clone, Copy, PartialEq, Eq)]
 pub enum RecordErr {
     /// The bytes or the header end inside a varint or a body.
     Short,

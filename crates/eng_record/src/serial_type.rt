@@ -9,7 +9,7 @@ ghost use Rattle.eng_record.specs.Columns.{body_len as len_of_body};
 use eng_value::Value;
 
 /// The kind of a value in a record and how many bytes its body takes (Database File Format, section 2.1).
-#[derive(Clone, Copy, Debug, PartialEq, Eq)]
+#[derive(Clone, Copy, PartialEq, Eq)]
 pub(crate) enum SerialType {
     Null,
     /// An integer in so many bytes: 1, 2, 3, 4, 6 or 8.

@@ -1,5 +1,6 @@
 pub mod Arguments
 pub mod Called
+pub mod Characters
 pub mod Extremes
 pub mod Parts
 pub mod Places

@@ -4,7 +4,7 @@ ghost use Rattle.eng_value.specs.Functions.{call_of, instr_of, on_two};
 ghost use Rattle.eng_scalar.specs.Arguments.{IsFirst};
 
 use crate::arguments::any_null;
-use crate::characters::{char_text, length, lower, unicode, upper};
+use crate::characters::{OfText, char_text, length, on_text};
 use crate::choosing::{first_known, iif};
 use crate::extremes::{Extreme, best, unless_equal};
 use crate::numbers::abs;
@@ -54,20 +54,20 @@ fn call_of_some(
     match (f, any_null(args)) {
         (Builtin::Abs, _) => Ok(abs(alloc, first)),
         (Builtin::Char, _) => char_text(alloc, args),
-        (Builtin::Coalesce | Builtin::IfNull, _) => Ok(Out::Good(first_known(args)?)),
+        (Builtin::Coalesce | Builtin::IfNull, _) => first_known(args),
         (Builtin::Hex, _) => hex(alloc, first),
         (Builtin::Iif, _) => iif(alloc, args),
         (Builtin::Length, _) => length(alloc, first),
-        (Builtin::Lower, _) => lower(alloc, first),
-        (Builtin::NullIf, _) => Ok(Out::Good(unless_equal(args, keys)?)),
+        (Builtin::Lower, _) => on_text(alloc, OfText::Lower, first),
+        (Builtin::NullIf, _) => unless_equal(args, keys),
         (Builtin::Quote, _) => quote(alloc, first),
         (Builtin::TypeOf, _) => type_of(alloc, first),
-        (Builtin::Unicode, _) => unicode(alloc, first),
-        (Builtin::Upper, _) => upper(alloc, first),
+        (Builtin::Unicode, _) => on_text(alloc, OfText::Unicode, first),
+        (Builtin::Upper, _) => on_text(alloc, OfText::Upper, first),
         (Builtin::ZeroBlob, _) => zeroblob(alloc, first),
         (_, true) => Ok(Out::Good(Value::Null)),
-        (Builtin::Max, false) => Ok(Out::Good(best(Extreme::Largest, args, keys)?)),
-        (Builtin::Min, false) => Ok(Out::Good(best(Extreme::Smallest, args, keys)?)),
+        (Builtin::Max, false) => best(Extreme::Largest, args, keys),
+        (Builtin::Min, false) => best(Extreme::Smallest, args, keys),
         (Builtin::Instr, false) => place(alloc, args),
         (Builtin::Trim | Builtin::TrimLeft | Builtin::TrimRight, false) => trim(alloc, f, args),
         (Builtin::Replace, false) => replace(alloc, args),

@@ -1,15 +1,19 @@
 // Characters, and the letters of a text.
-ghost use Rattle.std.specs.Prelude.{◌≡◌, IfOk, length, map, pos, string_bytes, encode_utf8_all};
+ghost use Rattle.std.specs.Prelude.{◌≡◌, IfOk, map};
+ghost use Rattle.std.specs.Char.{to_ascii_uppercase};
 ghost use Rattle.std.specs.Str.{chars};
-ghost use Rattle.eng_value.specs.Functions.{char_of, char_of_number, first_char, int_of, length_of_value, lower_of, on_text, unicode_of, upper_of};
+ghost use Rattle.eng_scalar.specs.Characters.{of_text};
+ghost use Rattle.eng_text.specs.Texts.{folded};
+ghost use Rattle.eng_value.specs.Functions.{char_of, char_of_number, first_char, length_of_value, on_text};
 ghost use Rattle.eng_value.specs.Operators.{made};
 ghost use Rattle.eng_value.specs.declared.out.Out.TheVariants.{Good};
 ghost use Rattle.eng_value.specs.declared.value.Value.TheVariants as sql;
 
 use crate::arguments::{Argument, int_of, text_of};
 use crate::text_ends::count;
+use crate::trimming::trim_spaces;
 use eng_text::fold;
-use eng_value::{Cause, MAX_VALUE_BYTES, Out, Text, Value};
+use eng_value::{Builtin, Cause, MAX_VALUE_BYTES, Out, Text, Value};
 use std::alloc::{AllocError, Global};
 
 /// The text of the characters that these numbers stand for (Built-in Scalar SQL Functions, "char"). A number that is no character
@@ -36,14 +40,41 @@ fn char_of_number(n: i64) -> char
     }
 }
 
-/// The number of the first character, NULL where there is none (Built-in Scalar SQL Functions, "unicode").
-pub(crate) fn unicode(alloc: Global, value: &Value) -> Result<Out, AllocError>
-    ensures { IfOk result (λ out. out ≡ unicode_of value.now) }
+/// A function of one text.
+#[derive(Clone, Copy)]
+pub(crate) enum OfText {
+    /// The number of the first character, NULL where there is none (Built-in Scalar SQL Functions, "unicode").
+    Unicode,
+    /// How many characters it has ("length").
+    Length,
+    /// The text with the letters of ASCII in lower case ("lower").
+    Lower,
+    /// The text with the letters of ASCII in upper case ("upper").
+    Upper,
+    /// The text without the spaces at its ends ("trim", "ltrim" and "rtrim").
+    Trim(Builtin),
+}
+
+/// What a function of one text gives for an argument that is cast to TEXT.
+pub(crate) fn on_text(alloc: Global, f: OfText, value: &Value) -> Result<Out, AllocError>
+    ensures { IfOk result (λ out. out ≡ on_text (of_text f) value.now) }
 {
     match &text_of(alloc, value)? {
         Argument::Null => Ok(Out::Good(Value::Null)),
-        Argument::Text(text) => Ok(Out::Good(first_char(text))),
+        Argument::Text(text) => of_text(alloc, f, text),
         Argument::NotText => Ok(Out::bad(alloc, Cause::NotText)),
+    }
+}
+
+fn of_text(alloc: Global, f: OfText, text: &str) -> Result<Out, AllocError>
+    ensures { IfOk result (λ out. out ≡ of_text f text.now) }
+{
+    match f {
+        OfText::Unicode => Ok(Out::Good(first_char(text))),
+        OfText::Length => Ok(Out::Good(Value::Integer(count(text) as i64))),
+        OfText::Lower => lower(alloc, text),
+        OfText::Upper => upper(alloc, text),
+        OfText::Trim(which) => trim_spaces(alloc, which, text),
     }
 }
 
@@ -56,52 +87,24 @@ fn first_char(text: &str) -> Value
     }
 }
 
+fn lower(alloc: Global, text: &str) -> Result<Out, AllocError>
+    ensures { IfOk result (λ out. out ≡ Good (sql.Text (folded text.now))) }
+{
+    Ok(Out::Good(Value::Text(Text::new(fold(alloc, text)?))))
+}
+
+fn upper(alloc: Global, text: &str) -> Result<Out, AllocError>
+    ensures { IfOk result (λ out. out ≡ Good (sql.Text (map to_ascii_uppercase text.now))) }
+{
+    Ok(Out::Good(Value::Text(Text::new(text.to_ascii_uppercase(alloc)?))))
+}
+
 /// How many characters a text has, and how many bytes a blob (Built-in Scalar SQL Functions, "length").
 pub(crate) fn length(alloc: Global, value: &Value) -> Result<Out, AllocError>
     ensures { IfOk result (λ out. out ≡ length_of_value value.now) }
 {
     match value {
         Value::Blob(blob) => Ok(Out::Good(Value::Integer(blob.as_slice().len() as i64))),
-        other => length_of_text(alloc, other),
-    }
-}
-
-fn length_of_text(alloc: Global, value: &Value) -> Result<Out, AllocError>
-    ensures { IfOk result (λ out. out ≡ on_text (λ t. Good (sql.Integer (pos (length (chars t))))) value.now) }
-{
-    match &text_of(alloc, value)? {
-        Argument::Null => Ok(Out::Good(Value::Null)),
-        Argument::Text(text) => Ok(Out::Good(Value::Integer(count_of_chars(text)))),
-        Argument::NotText => Ok(Out::bad(alloc, Cause::NotText)),
-    }
-}
-
-fn count_of_chars(text: &str) -> i64
-    ensures { result ≡ pos (length (chars text.now)) }
-{
-    count(text) as i64
-}
-
-/// The text with the letters of ASCII in lower case (Built-in Scalar SQL Functions, "lower").
-pub(crate) fn lower(alloc: Global, value: &Value) -> Result<Out, AllocError>
-    ensures { IfOk result (λ out. out ≡ lower_of value.now) }
-{
-    match &text_of(alloc, value)? {
-        Argument::Null => Ok(Out::Good(Value::Null)),
-        Argument::Text(text) => Ok(Out::Good(Value::Text(Text::new(fold(alloc, text)?)))),
-        Argument::NotText => Ok(Out::bad(alloc, Cause::NotText)),
-    }
-}
-
-/// The text with the letters of ASCII in upper case (Built-in Scalar SQL Functions, "upper").
-pub(crate) fn upper(alloc: Global, value: &Value) -> Result<Out, AllocError>
-    ensures { IfOk result (λ out. out ≡ upper_of value.now) }
-{
-    match &text_of(alloc, value)? {
-        Argument::Null => Ok(Out::Good(Value::Null)),
-        Argument::Text(text) => {
-            Ok(Out::Good(Value::Text(Text::new(text.as_str().to_ascii_uppercase(alloc)?))))
-        }
-        Argument::NotText => Ok(Out::bad(alloc, Cause::NotText)),
+        other => on_text(alloc, OfText::Length, other),
     }
 }

@@ -9,15 +9,22 @@ use eng_value::{Out, Truth, Value, to_number};
 use std::alloc::{AllocError, Global};
 
 /// The first argument that is not NULL (Built-in Scalar SQL Functions, "coalesce" and "ifnull").
-pub(crate) fn first_known(args: &[Value]) -> Result<Value, AllocError>
-    ensures { IfOk result (λ value. value ≡ first_known args.now) }
+pub(crate) fn first_known(args: &[Value]) -> Result<Out, AllocError>
+    ensures { IfOk result (λ out. out ≡ Good (first_known args.now)) }
 {
     for arg in args {
         if !is_null(arg) {
-            return arg.clone();
+            return good(arg);
         }
     }
-    Ok(Value::Null)
+    Ok(Out::Good(Value::Null))
+}
+
+/// A copy of an argument.
+pub(crate) fn good(value: &Value) -> Result<Out, AllocError>
+    ensures { IfOk result (λ out. out ≡ Good value.now) }
+{
+    Ok(Out::Good(value.clone()?))
 }
 
 /// The second argument where the first is true, else the third (Built-in Scalar SQL Functions, "iif").
@@ -41,8 +48,8 @@ fn choice(condition: Truth, a: &Value, b: &Value) -> Result<Out, AllocError>
     ensures { IfOk result (λ out. out ≡ chosen condition (Good a.now) (Good b.now)) }
 {
     match condition {
-        Truth::True => Ok(Out::Good(a.clone()?)),
-        Truth::False | Truth::Unknown => Ok(Out::Good(b.clone()?)),
+        Truth::True => good(a),
+        Truth::False | Truth::Unknown => good(b),
         Truth::Failed(causes) => Ok(Out::Bad(causes)),
     }
 }

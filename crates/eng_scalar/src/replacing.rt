@@ -6,6 +6,7 @@ ghost use Rattle.eng_scalar.specs.Texts.{on_both_given, on_given};
 ghost use Rattle.eng_scalar.specs.Replacements.{replacement};
 
 use crate::arguments::text_of;
+use crate::choosing::good;
 use crate::texts::given;
 use eng_value::{Cause, MAX_VALUE_BYTES, Out, Text, Value};
 use std::alloc::{AllocError, Global};
@@ -41,7 +42,7 @@ fn replace_old(alloc: Global, x: &Value, old: &str, z: &Value) -> Result<Out, Al
     ensures { IfOk result (λ out. out ≡ replaced_in x.now old.now z.now) }
 {
     if old.is_empty() {
-        Ok(Out::Good(x.clone()?))
+        good(x)
     } else {
         replace_in_texts(alloc, x, old, z)
     }

@@ -3,12 +3,13 @@ ghost use Rattle.std.specs.Prelude.{◌≡◌, ◌==◌, codes, encode_utf8_all,
 ghost use Rattle.std.specs.List.{list_any};
 ghost use Rattle.std.specs.Option.{option_map};
 ghost use Rattle.std.specs.Str.{chars};
-ghost use Rattle.eng_value.specs.Functions.{on_text, on_texts, text_of_chars, trim_by, trim_of, without_back, without_front};
+ghost use Rattle.eng_value.specs.Functions.{on_texts, text_of_chars, trim_by, trim_of, without_back, without_front};
 ghost use Rattle.eng_value.specs.declared.out.Out.TheVariants.{Good};
 ghost use Rattle.eng_scalar.specs.Texts.{on_both_given};
 ghost use Rattle.eng_scalar.specs.Trims.{trimmed};
 
-use crate::arguments::{Argument, text_of};
+use crate::arguments::text_of;
+use crate::characters::{OfText, on_text};
 use crate::text_ends::last_char;
 use crate::texts::given;
 use eng_text::first_char;
@@ -21,21 +22,18 @@ pub(crate) fn trim(alloc: Global, which: Builtin, args: &[Value]) -> Result<Out,
     ensures { IfOk result (λ out. out ≡ trim_of which args.now) }
 {
     match args {
-        [x] => trim_spaces(alloc, which, x),
+        [x] => on_text(alloc, OfText::Trim(which), x),
         [x, y, ..] => trim_these(alloc, which, x, y),
         [] => Ok(Out::Good(Value::Null)),
     }
 }
 
+/// A text without the spaces at its ends.
 #[tactic(auto, using(crate::proofs::TrimLaws::chars_space))]
-fn trim_spaces(alloc: Global, which: Builtin, value: &Value) -> Result<Out, AllocError>
-    ensures { IfOk result (λ out. out ≡ on_text (λ t. Good (text_of_chars (trim_by which (codes " ") (chars t)))) value.now) }
+pub(crate) fn trim_spaces(alloc: Global, which: Builtin, text: &str) -> Result<Out, AllocError>
+    ensures { IfOk result (λ out. out ≡ Good (text_of_chars (trim_by which (codes " ") (chars text.now)))) }
 {
-    match &text_of(alloc, value)? {
-        Argument::Null => Ok(Out::Good(Value::Null)),
-        Argument::Text(text) => trim_text(alloc, which, text, " "),
-        Argument::NotText => Ok(Out::bad(alloc, Cause::NotText)),
-    }
+    trim_text(alloc, which, text, " ")
 }
 
 fn trim_these(alloc: Global, which: Builtin, x: &Value, y: &Value) -> Result<Out, AllocError>

@@ -6,3 +6,4 @@ pub mod PieceLaws
 pub mod ReplaceLaws
 pub mod SearchLaws
 pub mod SetLaws
+pub mod RangeLaws

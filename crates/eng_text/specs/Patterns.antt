@@ -1,6 +1,6 @@
 -- What the patterns of LIKE and GLOB match (SQL Language Expressions, "The LIKE, GLOB, REGEXP, MATCH, and extract operators").
-use Rattle.std.specs.Prelude.{◌≡◌, ℕ, Bool, true, false, not, ◌&&◌, ◌||◌, ◌==◌, nat_le, List, [], ◌∷◌, Option, Some, None, if◌then◌else◌, is_some, unwrap_or, codes, refl}
-use Rattle.std.specs.List.{list_any}
+use Rattle.std.specs.Prelude.{◌≡◌, ◌≤◌, ⊤, ◌++◌, ℕ, Bool, true, false, not, ◌&&◌, ◌||◌, ◌==◌, nat_le, List, [], ◌∷◌, Option, Some, None, if◌then◌else◌, is_some, unwrap_or, codes, refl}
+use Rattle.std.specs.List.{flat_map, list_any}
 use Rattle.std.specs.Char.{to_ascii_lowercase}
 
 -- ---- patterns
@@ -142,6 +142,29 @@ abbrev pub glob_escaped : List ℕ → List ℕ
 glob_escaped [] = []
 glob_escaped (c ∷ cs) = if c == 0x2a || c == 0x3f || c == 0x5b then 0x5b ∷ c ∷ 0x5d ∷ glob_escaped cs else c ∷ glob_escaped cs
 
+-- ---- writing ranges as a set of GLOB
+
+-- `a-z`
+abbrev pub range_text : ℕ × ℕ → List ℕ
+range_text r = r.0 ∷ 0x2d ∷ r.1 ∷ []
+
+-- `[a-zA-Z]`, and `[^a-zA-Z]`
+abbrev pub set_of : List (ℕ × ℕ) → List ℕ
+set_of ranges = 0x5b ∷ flat_map range_text ranges ++ 0x5d ∷ []
+
+abbrev pub other_set_of : List (ℕ × ℕ) → List ℕ
+other_set_of ranges = 0x5b ∷ 0x5e ∷ flat_map range_text ranges ++ 0x5d ∷ []
+
+-- from a character to one that is not below it, neither of them `]`
+pub record IsWritable (r : ℕ × ℕ) : Type 0 where
+  pub ordered : r.0 ≤ r.1
+  pub first : (r.0 == 0x5d) ≡ false
+  pub last : (r.1 == 0x5d) ≡ false
+
+abbrev pub AreWritable : List (ℕ × ℕ) → Type 0
+AreWritable [] = ⊤
+AreWritable (r ∷ ranges) = IsWritable r × AreWritable ranges
+
 -- ---- examples
 
 likes : (is_like None (codes "A_") (codes "ab") ≡ true) × (is_like None (codes "%5%") (codes "x15") ≡ true) × (is_like None (codes "%a%b") (codes "xAyyabB") ≡ true) × (is_like None (codes "a%b") (codes "abc") ≡ false)
@@ -165,3 +188,6 @@ globs = (refl, refl, refl, refl)
 sets : (is_glob (codes "[]a]") (codes "]") ≡ true) × (is_glob (codes "[a") (codes "a") ≡ false) × (is_glob (codes "[a-]") (codes "-") ≡ true) × (is_glob (codes "[^]]") (codes "a") ≡ true) × (is_glob (codes "[]-a]") (codes "-") ≡ true) × (is_glob (codes "x[]") (codes "x]") ≡ false)
 unfolding is_glob
 sets = (refl, refl, refl, refl, refl, refl)
+
+sets_written : (set_of ((0x61, 0x7a) ∷ (0x30, 0x39) ∷ []) ≡ codes "[a-z0-9]") × (other_set_of ((0x61, 0x7a) ∷ []) ≡ codes "[^a-z]")
+sets_written = (refl, refl)

@@ -1,6 +1,7 @@
 // What patterns and replacements promise whoever uses them. Nothing here runs: each contract is a law.
-ghost use Rattle.std.specs.Prelude.{◌≡◌, ◌<◌, ℕ, List, [], ◌∷◌, length, Option, Some, true, false};
-ghost use Rattle.eng_text.specs.Patterns.{is_escape, is_glob, is_like, escaped, glob_escaped, backslash, percent};
+ghost use Rattle.std.specs.Prelude.{◌≡◌, ◌<◌, ◌==◌, ℕ, List, [], ◌∷◌, length, not, Option, Some, true, false};
+ghost use Rattle.std.specs.List.{list_any};
+ghost use Rattle.eng_text.specs.Patterns.{AreWritable, in_range, other_set_of, set_of, is_escape, is_glob, is_like, escaped, glob_escaped, backslash, percent};
 ghost use Rattle.eng_text.specs.Pieces.{AreBetween, IsFirstPlace, joined};
 ghost use Rattle.eng_text.specs.Texts.{folded, place_of, replaced};
 
@@ -22,6 +23,20 @@ pub fn escaped_matches_but_for_case()
 pub fn glob_escaped_matches_itself()
     ensures itself { (text : List ℕ) → is_glob (glob_escaped text) text ≡ true }
     ensures only { (text other : List ℕ) → is_glob (glob_escaped text) other ≡ true → other ≡ text }
+{}
+
+/// A set of GLOB that is written of ranges matches the characters of its ranges and no others, and with `^` in front of them exactly
+/// the others. It matches no text but of one character. A first range begins with no `^`, unless one stands in front.
+#[tactic(auto, using(crate::proofs::RangeLaws::set_matches, crate::proofs::RangeLaws::other_set_matches, crate::proofs::RangeLaws::set_is_one, crate::proofs::RangeLaws::other_set_is_one))]
+pub fn sets_match_their_ranges()
+    ensures characters { (r : ℕ × ℕ) (ranges : List (ℕ × ℕ)) (c : ℕ) → AreWritable (r ∷ ranges) → (r.0 == 0x5e) ≡ false
+        → is_glob (set_of (r ∷ ranges)) (c ∷ []) ≡ list_any (in_range c) (r ∷ ranges) }
+    ensures others { (r : ℕ × ℕ) (ranges : List (ℕ × ℕ)) (c : ℕ) → AreWritable (r ∷ ranges)
+        → is_glob (other_set_of (r ∷ ranges)) (c ∷ []) ≡ not (list_any (in_range c) (r ∷ ranges)) }
+    ensures one { (r : ℕ × ℕ) (ranges : List (ℕ × ℕ)) (text : List ℕ) → AreWritable (r ∷ ranges) → (r.0 == 0x5e) ≡ false
+        → is_glob (set_of (r ∷ ranges)) text ≡ true → length text ≡ 1 }
+    ensures one_other { (r : ℕ × ℕ) (ranges : List (ℕ × ℕ)) (text : List ℕ) → AreWritable (r ∷ ranges)
+        → is_glob (other_set_of (r ∷ ranges)) text ≡ true → length text ≡ 1 }
 {}
 
 /// `%` matches each text in LIKE, where it is not the escape.

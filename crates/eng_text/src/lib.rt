@@ -21,7 +21,7 @@ pub use folding::fold;
 pub use head::first_char;
 pub use laws::{
     escaped_matches_but_for_case, escaped_matches_itself, glob_escaped_matches_itself,
-    percent_matches_all, place_is_first, replaced_by_pieces,
+    percent_matches_all, place_is_first, replaced_by_pieces, sets_match_their_ranges,
 };
 pub use patterns::{glob, like};
 pub use replacing::replace;

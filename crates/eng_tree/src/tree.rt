@@ -10,7 +10,7 @@ use std::mem;
 
 /// A finite map from keys to values, both of them byte strings. Contracts see its pairs in the order of their keys, and its
 /// room: how many pairs fit in the memory that it holds.
-#[derive(Debug, Drop)]
+#[derive(Drop)]
 pub struct Tree {
     entries: Vec<(Bytes, Bytes)>,
 }

@@ -1,12 +1,12 @@
 -- Laws of sets of causes.
-use Rattle.std.proofs.Common.{◌≡◌, ℕ, nat_eq, if◌then◌else◌, List, [], ◌∷◌, ◌++◌, map, ◌||◌, nat_cmp, Bool, true, false, refl, sym, ap, ◌∙◌}
-use Rattle.std.specs.Cmp.Lexicographic.{slice_cmp, nat_list_cmp_total}
+use Rattle.std.proofs.Common.{◌≡◌, ℕ, ◌+◌, cond, length-append, nat_eq, if◌then◌else◌, List, [], ◌∷◌, ◌++◌, map, ◌||◌, nat_cmp, Bool, true, false, refl, sym, ap, ◌∙◌, subst}
+use Rattle.std.specs.Cmp.Lexicographic.{slice_cmp, nat_list_cmp_total, texts_ties}
 use Rattle.std.specs.FinSet as set
 use Rattle.std.specs.Ordering.{eq_by_cmp, is_eq}
 use Rattle.std.proofs.Math.Bool.{or_assoc, or_comm, or-false}
 use Rattle.std.proofs.lemmas.Cmp.{tied_itself}
 use Rattle.std.specs.Cmp.{Equal-is}
-use Rattle.std.proofs.lemmas.List.{append_assoc}
+use Rattle.std.proofs.lemmas.List.{append_assoc, map-append}
 use Rattle.std.specs.declared.cmp.Ordering.TheVariants.{Equal}
 use Rattle.eng_value.specs.declared.cause.Cause.{Cause}
 use Rattle.eng_value.specs.declared.cause.Cause.TheVariants.{NotYet, Mem, Interrupted, SinkFault, Real, Overflow, NotText, Escape, TooBig, Full, Unknown, Exists, Reserved, Arity, Misuse, Limit, Syntax}
@@ -14,7 +14,8 @@ use Rattle.eng_value.specs.declared.cause.LimitKind.{LimitKind}
 use Rattle.eng_value.specs.declared.cause.LimitKind.TheVariants as limit
 use Rattle.eng_value.specs.declared.cause.NameKind.{NameKind}
 use Rattle.eng_value.specs.declared.cause.NameKind.TheVariants as kind
-use Rattle.eng_value.specs.Causes.{CauseSet, cause_key, kind_key, limit_key, only, has_cause}
+use Rattle.std.specs.List.{list_any}
+use Rattle.eng_value.specs.Causes.{CauseSet, StandOnce, cause_key, has_cause, is_same_cause, kind_key, limit_key, only}
 
 -- the set of a list of causes
 abbrev pub set_of : List Cause → CauseSet
@@ -51,41 +52,36 @@ union-comm s t = same_causes _ _ (λ q. set.contains-union nat_list_cmp_total s 
 pub union-assoc : (s t u : CauseSet) → set.union s (set.union t u) ≡ set.union (set.union s t) u
 union-assoc s t u = same_causes _ _ (λ q. simp (set.contains-union nat_list_cmp_total) (sym (or_assoc (set.contains s q) (set.contains t q) (set.contains u q))))
 
--- what a key tells behind its number
-abbrev first_or_0 : List ℕ → ℕ
-first_or_0 [] = 0
-first_or_0 (n ∷ rest) = n
-
-abbrev rest_of : List ℕ → List ℕ
-rest_of [] = []
-rest_of (n ∷ rest) = rest
-
+-- the cause of a number, a detail and a name
 abbrev kind_of : ℕ → NameKind
 kind_of n = if nat_eq n 0 then kind.Table else if nat_eq n 1 then kind.Column else if nat_eq n 2 then kind.Function else kind.Collation
 
 abbrev limit_of : ℕ → LimitKind
 limit_of n = if nat_eq n 0 then limit.Columns else if nat_eq n 1 then limit.Nestings else if nat_eq n 2 then limit.Operators else limit.Parts
 
--- the cause of a key
-abbrev cause_of : List ℕ → Cause
-cause_of [] = NotYet
-cause_of (n ∷ rest) =
+abbrev cause_by : ℕ → ℕ → List ℕ → Cause
+cause_by n detail name =
     if nat_eq n 1 then Mem else
-    if nat_eq n 2 then Interrupted (first_or_0 rest) else
+    if nat_eq n 2 then Interrupted detail else
     if nat_eq n 3 then SinkFault else
-    if nat_eq n 4 then Full rest else
+    if nat_eq n 4 then Full name else
     if nat_eq n 5 then Real else
     if nat_eq n 6 then Overflow else
     if nat_eq n 7 then NotText else
     if nat_eq n 8 then Escape else
     if nat_eq n 9 then TooBig else
-    if nat_eq n 10 then Limit (limit_of (first_or_0 rest)) else
-    if nat_eq n 11 then Reserved rest else
-    if nat_eq n 12 then Arity rest else
-    if nat_eq n 13 then Misuse rest else
-    if nat_eq n 14 then Unknown (kind_of (first_or_0 rest)) (rest_of rest) else
-    if nat_eq n 15 then Exists (kind_of (first_or_0 rest)) (rest_of rest) else
-    if nat_eq n 16 then Syntax (first_or_0 rest) else NotYet
+    if nat_eq n 10 then Limit (limit_of detail) else
+    if nat_eq n 11 then Reserved name else
+    if nat_eq n 12 then Arity name else
+    if nat_eq n 13 then Misuse name else
+    if nat_eq n 14 then Unknown (kind_of detail) name else
+    if nat_eq n 15 then Exists (kind_of detail) name else
+    if nat_eq n 16 then Syntax detail else NotYet
+
+-- the cause of a key
+abbrev cause_of : List ℕ → Cause
+cause_of (n ∷ detail ∷ name) = cause_by n detail name
+cause_of other = NotYet
 
 kind_of-kind_key : (k : NameKind) → kind_of (kind_key k) ≡ k
 kind_of-kind_key kind.Table = refl
@@ -154,3 +150,78 @@ insert-has_cause s c has = same_causes _ _ (λ q. set.contains-insert nat_list_c
     held : (q : List ℕ) (b : Bool) → eq_by_cmp (slice_cmp nat_cmp) q (cause_key c) ≡ b → (eq_by_cmp (slice_cmp nat_cmp) q (cause_key c) || set.contains s q) ≡ set.contains s q
     held q true is = rw is (sym (ap (set.contains s) (keys_tied q (cause_key c) ((Equal-is (slice_cmp nat_cmp q (cause_key c))).0 is)) ∙ has))
     held q false is = rw is refl
+
+-- ---- each stands once
+
+same-tied : (c d : Cause) → eq_by_cmp (slice_cmp nat_cmp) (cause_key c) (cause_key d) ≡ is_same_cause c d
+same-tied c d = sym (texts_ties (cause_key c) (cause_key d))
+
+-- a set holds what stands in its list
+pub has_cause-set_of : (causes : List Cause) (c : Cause) → has_cause (set_of causes) c ≡ list_any (is_same_cause c) causes
+has_cause-set_of [] c = set.contains-empty (slice_cmp nat_cmp) (cause_key c)
+has_cause-set_of (d ∷ causes) c =
+    set.contains-insert nat_list_cmp_total (set_of causes) (cause_key d) (cause_key c)
+    ∙ ap (λ b. b || has_cause (set_of causes) c) (same-tied c d)
+    ∙ ap (λ b. is_same_cause c d || b) (has_cause-set_of causes c)
+
+-- as the code of `contains` looks for one
+pub first_is : (s : CauseSet) (first : Cause) (others : List Cause) (c : Cause) (found : Bool) → set_of (first ∷ others) ≡ s → found ≡ is_same_cause c first → found ≡ true → found ≡ has_cause s c
+first_is s first others c found whole is holds =
+    holds ∙ sym (ap (λ t. has_cause t c) (sym whole) ∙ has_cause-set_of (first ∷ others) c ∙ ap (λ b. b || list_any (is_same_cause c) others) (sym is ∙ holds))
+
+pub others_are : (s : CauseSet) (first : Cause) (others : List Cause) (c : Cause) (same found : Bool) → set_of (first ∷ others) ≡ s → same ≡ is_same_cause c first → same ≡ false → found ≡ list_any (is_same_cause c) others → found ≡ has_cause s c
+others_are s first others c same found whole is differs some =
+    some ∙ sym (ap (λ t. has_cause t c) (sym whole) ∙ has_cause-set_of (first ∷ others) c ∙ ap (λ b. b || list_any (is_same_cause c) others) (sym is ∙ differs))
+
+-- one more behind the others is one more in the set
+pub set_of-push : (causes : List Cause) (c : Cause) → set_of (causes ++ c ∷ []) ≡ set.insert (set_of causes) (cause_key c)
+set_of-push causes c =
+    ap (λ ks. set.from_list ks) (map-append cause_key causes (c ∷ []))
+    ∙ set.from_list_push nat_list_cmp_total (set.slice_cmp-IsAntisymmetric set.nat_cmp-IsAntisymmetric) (map cause_key causes) (cause_key c)
+
+-- what is new makes a set larger by one
+len-new : (s : CauseSet) (c : Cause) → has_cause s c ≡ false → set.len (set.insert s (cause_key c)) ≡ set.len s + 1
+len-new s c new = set.len-insert nat_list_cmp_total s (cause_key c) ∙ ap (λ b. cond b (set.len s) (set.len s + 1)) new
+
+-- one cause stands once
+pub StandOnce-one : (c : Cause) → StandOnce (c ∷ [])
+StandOnce-one c = sym (len-new set.empty c (set.contains-empty (slice_cmp nat_cmp) (cause_key c)) ∙ ap (λ n. n + 1) (set.len-empty (slice_cmp nat_cmp)))
+
+-- and what is new stands once behind the others
+pub StandOnce-push : (causes : List Cause) (c : Cause) → StandOnce causes → has_cause (set_of causes) c ≡ false → StandOnce (causes ++ c ∷ [])
+StandOnce-push causes c once new =
+    length-append causes (c ∷ []) ∙ ap (λ n. n + 1) once ∙ sym (len-new (set_of causes) c new) ∙ sym (ap (λ (s : CauseSet). set.len s) (set_of-push causes c))
+
+-- as the code of `add` puts one behind the others
+pub add-once : (s : CauseSet) (first c copy : Cause) (others more : List Cause) → set_of (first ∷ others) ≡ s → has_cause s c ≡ false → copy ≡ c → more ≡ others ++ copy ∷ [] → StandOnce (first ∷ others) → StandOnce (first ∷ more)
+add-once s first c copy others more whole new same pushed once =
+    subst (λ cs. StandOnce (first ∷ cs)) (sym (pushed ∙ ap (λ d. others ++ d ∷ []) same)) (StandOnce-push (first ∷ others) c once (ap (λ t. has_cause t c) whole ∙ new))
+
+pub add-set : (s : CauseSet) (first c copy : Cause) (others more : List Cause) → set_of (first ∷ others) ≡ s → copy ≡ c → more ≡ others ++ copy ∷ [] → set_of (first ∷ more) ≡ set.insert s (cause_key c)
+add-set s first c copy others more whole same pushed =
+    ap (λ cs. set_of (first ∷ cs)) (pushed ∙ ap (λ d. others ++ d ∷ []) same) ∙ set_of-push (first ∷ others) c ∙ ap (λ (t : CauseSet). set.insert t (cause_key c)) whole
+
+-- ---- a union, one cause after another
+
+or-swap : (a b c : Bool) → (a || (b || c)) ≡ (b || (a || c))
+or-swap true true c = refl
+or-swap true false c = refl
+or-swap false b c = refl
+
+union-insert : (s t : CauseSet) (c : Cause) → set.union s (set.insert t (cause_key c)) ≡ set.insert (set.union s t) (cause_key c)
+union-insert s t c = same_causes _ _ (λ q. simp (set.contains-union nat_list_cmp_total, set.contains-insert nat_list_cmp_total) (or-swap (set.contains s q) (eq_by_cmp (slice_cmp nat_cmp) q (cause_key c)) (set.contains t q)))
+
+insert-union : (s t : CauseSet) (c : Cause) → set.union (set.insert s (cause_key c)) t ≡ set.union s (set.insert t (cause_key c))
+insert-union s t c = union-comm (set.insert s (cause_key c)) t ∙ union-insert t s c ∙ ap (λ (u : CauseSet). set.insert u (cause_key c)) (union-comm t s) ∙ sym (union-insert s t c)
+
+-- nothing more
+pub union-none : (s : CauseSet) → set.union s (set_of []) ≡ s
+union-none s = same_causes _ _ (λ q. set.contains-union nat_list_cmp_total s (set_of []) q ∙ ap (λ b. set.contains s q || b) (set.contains-empty (slice_cmp nat_cmp) q) ∙ or-false (set.contains s q))
+
+-- one more
+pub union-push : (s : CauseSet) (causes : List Cause) (c : Cause) → set.union s (set_of (causes ++ c ∷ [])) ≡ set.insert (set.union s (set_of causes)) (cause_key c)
+union-push s causes c = ap (λ (t : CauseSet). set.union s t) (set_of-push causes c) ∙ union-insert s (set_of causes) c
+
+-- the first one was added before the others
+pub union-first : (s : CauseSet) (first : Cause) (others : List Cause) → set.union (set.insert s (cause_key first)) (set_of others) ≡ set.union s (set_of (first ∷ others))
+union-first s first others = insert-union s (set_of others) first

@@ -1,7 +1,7 @@
 -- Sets of causes: an error names any one of them, so their order and number do not count.
-use Rattle.std.specs.Prelude.{ℕ, List, [], ◌∷◌, Bool}
+use Rattle.std.specs.Prelude.{◌≡◌, ℕ, List, [], ◌∷◌, Bool, length, map, nat_eq}
 use Rattle.std.specs.Ordering.{nat_cmp}
-use Rattle.std.specs.Cmp.Lexicographic.{slice_cmp}
+use Rattle.std.specs.Cmp.Lexicographic.{pointwise, slice_cmp}
 use Rattle.std.specs.FinSet as set
 use Rattle.eng_value.specs.declared.cause.Cause.{Cause}
 use Rattle.eng_value.specs.declared.cause.Cause.TheVariants.{NotYet, Mem, Interrupted, SinkFault, Real, Overflow, NotText, Escape, TooBig, Full, Unknown, Exists, Reserved, Arity, Misuse, Limit, Syntax}
@@ -22,25 +22,48 @@ limit_key limit.Nestings = 1
 limit_key limit.Operators = 2
 limit_key limit.Parts = 3
 
+-- which cause it is
+abbrev pub number_of : Cause → ℕ
+number_of NotYet = 0
+number_of Mem = 1
+number_of (Interrupted n) = 2
+number_of SinkFault = 3
+number_of (Full table) = 4
+number_of Real = 5
+number_of Overflow = 6
+number_of NotText = 7
+number_of Escape = 8
+number_of TooBig = 9
+number_of (Limit k) = 10
+number_of (Reserved name) = 11
+number_of (Arity name) = 12
+number_of (Misuse name) = 13
+number_of (Unknown k name) = 14
+number_of (Exists k name) = 15
+number_of (Syntax at) = 16
+
+-- the number that it tells, or the kind
+abbrev pub detail_of : Cause → ℕ
+detail_of (Interrupted n) = n
+detail_of (Limit k) = limit_key k
+detail_of (Unknown k name) = kind_key k
+detail_of (Exists k name) = kind_key k
+detail_of (Syntax at) = at
+detail_of other = 0
+
+-- the name that it tells
+abbrev pub name_of : Cause → List ℕ
+name_of (Full table) = table
+name_of (Reserved name) = name
+name_of (Arity name) = name
+name_of (Misuse name) = name
+name_of (Unknown k name) = name
+name_of (Exists k name) = name
+name_of other = []
+
 -- no two causes have the same key
 abbrev pub cause_key : Cause → List ℕ
-cause_key NotYet = 0 ∷ []
-cause_key Mem = 1 ∷ []
-cause_key (Interrupted n) = 2 ∷ n ∷ []
-cause_key SinkFault = 3 ∷ []
-cause_key (Full table) = 4 ∷ table
-cause_key Real = 5 ∷ []
-cause_key Overflow = 6 ∷ []
-cause_key NotText = 7 ∷ []
-cause_key Escape = 8 ∷ []
-cause_key TooBig = 9 ∷ []
-cause_key (Limit k) = 10 ∷ limit_key k ∷ []
-cause_key (Reserved name) = 11 ∷ name
-cause_key (Arity name) = 12 ∷ name
-cause_key (Misuse name) = 13 ∷ name
-cause_key (Unknown k name) = 14 ∷ kind_key k ∷ name
-cause_key (Exists k name) = 15 ∷ kind_key k ∷ name
-cause_key (Syntax at) = 16 ∷ at ∷ []
+cause_key c = number_of c ∷ detail_of c ∷ name_of c
 
 -- a finite set of causes, by their keys
 abbrev pub CauseSet : Type 0
@@ -53,3 +76,11 @@ only c = set.insert set.empty (cause_key c)
 -- the cause is one of them
 abbrev pub has_cause : CauseSet → Cause → Bool
 has_cause causes c = set.contains causes (cause_key c)
+
+-- two causes are one
+abbrev pub is_same_cause : Cause → Cause → Bool
+is_same_cause c d = pointwise nat_eq (cause_key c) (cause_key d)
+
+-- each of these stands once: they are as many as their set has
+abbrev pub StandOnce : List Cause → Type 0
+StandOnce causes = length causes ≡ set.len {R = slice_cmp nat_cmp} (set.from_list (map cause_key causes))

@@ -1,5 +1,5 @@
 /// What a column or a CAST prefers its values to be (Datatypes In SQLite, section 3). `None` is that of an expression without one.
-#[derive(Clone, Copy, Debug, PartialEq, Eq)]
+#[derive(Clone, Copy, PartialEq, Eq)]
 pub enum Affinity {
     Integer,
     Numeric,

@@ -1,6 +1,6 @@
 /// The built-in functions of values (Built-in Scalar SQL Functions). In an expression coalesce, ifnull and iif do not look past
 /// the argument that decides.
-#[derive(Clone, Copy, Debug, PartialEq, Eq)]
+#[derive(Clone, Copy, PartialEq, Eq)]
 pub enum Builtin {
     Abs,
     Char,

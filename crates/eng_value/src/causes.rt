@@ -1,7 +1,7 @@
 // Why something is bad.
-ghost use Rattle.std.specs.Prelude.{◌≡◌, true, IfOk};
+ghost use Rattle.std.specs.Prelude.{◌≡◌, true, IfOk, OnOk};
 ghost use Rattle.std.specs.FinSet as set;
-ghost use Rattle.eng_value.specs.Causes.{only, has_cause};
+ghost use Rattle.eng_value.specs.Causes.{cause_key, only, has_cause};
 
 use crate::Cause;
 use std::alloc::{AllocError, Global};
@@ -9,7 +9,6 @@ use std::marker::Model;
 use std::mem;
 
 /// The causes of something bad, at least one. Contracts see their set: a refusal names any one of them.
-#[derive(Debug)]
 pub struct Causes {
     first: Cause,
     others: Vec<Cause>,
@@ -21,13 +20,15 @@ impl Model for Causes {
     ghost use Rattle.std.specs.Cmp.Lexicographic.{slice_cmp};
     ghost use Rattle.std.specs.FinSet as set;
     ghost use Rattle.std.specs.Coded.{coded_ℕ, coded_list};
-    ghost use Rattle.eng_value.specs.Causes.{cause_key};
+    ghost use Rattle.eng_value.specs.Causes.{StandOnce, cause_key};
 
     ghost Value = { set.FinSet (slice_cmp nat_cmp) };
 
     ghost coded = { set.code (coded_list coded_ℕ) };
 
     ghost view = { λ c. set.from_list (map cause_key (c.first ∷ c.others.items)) };
+
+    ghost invariant = { λ c. StandOnce (c.first ∷ c.others.items) };
 }
 
 impl Causes {
@@ -41,19 +42,41 @@ impl Causes {
         }
     }
 
+    /// How many they are. Each stands once, so that a set never holds more than there are causes, however it came together.
+    pub fn count(&self) -> usize
+        ensures { result ≡ set.len self.now }
+    {
+        self.others.len() + 1
+    }
+
+    /// Whether a cause is one of them.
+    pub fn contains(&self, cause: &Cause) -> bool
+        ensures { result ≡ has_cause self.now cause.now }
+    {
+        cause.is_same(&self.first) || self.others.iter().any(|c| cause.is_same(c))
+    }
+
     /// The causes of both.
     pub fn union(&self, other: &Causes) -> Result<Causes, AllocError>
         ensures { IfOk result (λ causes. causes ≡ set.union self.now other.now) }
     {
-        let mut others = self.others.clone()?;
-        others.push(other.first.clone()?)?;
+        let mut all = self.clone()?;
+        all.add(&other.first)?;
         for cause in &other.others {
-            others.push(cause.clone()?)?;
+            all.add(cause)?;
         }
-        Ok(Causes {
-            first: self.first.clone()?,
-            others,
-        })
+        Ok(all)
+    }
+
+    /// Adds a cause, unless it is there.
+    fn add(&mut self, cause: &Cause) -> Result<(), AllocError>
+        ensures { OnOk result (self.new ≡ set.insert self.old (cause_key cause.now)) }
+    {
+        if self.contains(cause) {
+            return Ok(());
+        }
+        self.others.push(cause.clone()?)?;
+        Ok(())
     }
 
     /// One of them.
@@ -61,6 +84,7 @@ impl Causes {
         ensures { has_cause self result ≡ true }
     {
         let mut causes = self;
+        causes.others.clear();
         mem::replace(&mut causes.first, Cause::NotYet)
     }
 }

@@ -5,7 +5,7 @@ ghost use Rattle.eng_value.specs.Outs.{passes};
 use std::cmp::Ordering;
 
 /// A comparison of two values (SQL Language Expressions, section 2).
-#[derive(Clone, Copy, Debug, PartialEq, Eq)]
+#[derive(Clone, Copy, PartialEq, Eq)]
 pub enum CompareOp {
     Eq,
     Lt,

@@ -11,6 +11,7 @@ mod built;
 mod builtin;
 mod casts;
 mod cause;
+mod cause_key;
 mod causes;
 mod collations;
 mod compare_op;

@@ -2,7 +2,7 @@
 use crate::{Affinity, Built, CompareOp};
 
 /// The operators on two numbers that may leave the 64 bits (SQL Language Expressions, section 2).
-#[derive(Clone, Copy, Debug, PartialEq, Eq)]
+#[derive(Clone, Copy, PartialEq, Eq)]
 pub enum ArithmeticOp {
     Add,
     Subtract,
@@ -11,7 +11,7 @@ pub enum ArithmeticOp {
 }
 
 /// The operators on two values that are cast to INTEGER first.
-#[derive(Clone, Copy, Debug, PartialEq, Eq)]
+#[derive(Clone, Copy, PartialEq, Eq)]
 pub enum IntegerOp {
     Remainder,
     And,
@@ -21,7 +21,7 @@ pub enum IntegerOp {
 }
 
 /// How two sides are compared: the affinities that they have, and the collation (Datatypes In SQLite, sections 4.2 and 7.1).
-#[derive(Clone, Copy, Debug, PartialEq, Eq)]
+#[derive(Clone, Copy, PartialEq, Eq)]
 pub struct Sides {
     pub left: Affinity,
     pub right: Affinity,
@@ -29,7 +29,7 @@ pub struct Sides {
 }
 
 /// The operators with one operand, casts among them.
-#[derive(Clone, Copy, Debug, PartialEq, Eq)]
+#[derive(Clone, Copy, PartialEq, Eq)]
 pub enum UnaryOperator {
     /// Whether it is true: NULL, 1 or 0.
     Truth,
@@ -45,7 +45,7 @@ pub enum UnaryOperator {
 }
 
 /// The operators with two operands.
-#[derive(Clone, Copy, Debug, PartialEq, Eq)]
+#[derive(Clone, Copy, PartialEq, Eq)]
 pub enum BinaryOperator {
     Arithmetic(ArithmeticOp),
     Integers(IntegerOp),

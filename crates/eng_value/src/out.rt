@@ -7,7 +7,7 @@ use std::alloc::{AllocError, Global};
 
 /// A value, or what went wrong. An error is a value too: it goes where a value would go, and whether it counts is decided
 /// where the result is used.
-#[derive(Debug, Drop)]
+#[derive(Drop)]
 pub enum Out {
     Good(Value),
     Bad(Causes),

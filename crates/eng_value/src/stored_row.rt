@@ -5,7 +5,7 @@ use crate::{Row, Value};
 use std::marker::Model;
 
 /// A row of a table under its rowid (Rowid Tables).
-#[derive(Debug, Drop)]
+#[derive(Drop)]
 pub struct StoredRow {
     rowid: i64,
     values: Row,

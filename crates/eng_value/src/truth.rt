@@ -9,7 +9,7 @@ use crate::{Causes, Out, Value};
 use std::alloc::{AllocError, Global};
 
 /// The truth of a value, NULL being unknown (SQL Language Expressions, section 8), or why it is bad.
-#[derive(Debug, Drop)]
+#[derive(Drop)]
 pub enum Truth {
     True,
     False,

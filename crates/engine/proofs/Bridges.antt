@@ -1,8 +1,10 @@
 -- What statements come to whose tables go by their places is what the definitions say of tables by names.
-use Rattle.std.proofs.Common.{◌≡◌, ℕ, ◌<◌, Bool, true, false, List, [], ◌∷◌, ◌++◌, ℤ, length, map, drop, Option, Some, None, Result, Ok, Err, refl, sym, ap, ◌∙◌, arith, if◌then◌else◌}
+use Rattle.std.proofs.Common.{◌≡◌, ◌⊎◌, inl, inr, ◌||◌, ℕ, ◌<◌, Bool, true, false, List, [], ◌∷◌, ◌++◌, ℤ, length, map, drop, Option, Some, None, Result, Ok, Err, refl, sym, ap, ◌∙◌, arith, if◌then◌else◌}
 use Rattle.std.specs.List.{flat_map}
 use Rattle.std.proofs.Math.Seq.{drop-append_seam}
-use Rattle.eng_value.specs.Causes.{CauseSet}
+use Rattle.std.specs.FinSet as set
+use Rattle.std.specs.Cmp.Lexicographic.{nat_list_cmp_total}
+use Rattle.eng_value.specs.Causes.{CauseSet, cause_key, has_cause}
 use Rattle.eng_value.specs.StoredRows.{StoredRow}
 use Rattle.eng_value.specs.declared.cause.Cause.{Cause}
 use Rattle.eng_value.specs.declared.cause.Cause.TheVariants.{Reserved}
@@ -16,15 +18,33 @@ use Rattle.sql_meaning.specs.declared.column.Column.{Column}
 use Rattle.sql_meaning.specs.declared.column.TableEntry.{TableEntry}
 use Rattle.sql_meaning.specs.Binding.{◌>>=◌}
 use Rattle.sql_meaning.specs.Expression.{literal_out}
-use Rattle.sql_meaning.specs.Statement.{Query, Put, done, query_outcome, items_of, items_at, at_row, environments, put_outcome, put_source, all_put, source_of as source_meant, item_of, no_causes, refusal_of, given_of, create_outcome, is_new_table, rows_put}
+use Rattle.sql_meaning.specs.Statement.{Item, Row, Failed as Bad, IsNamed, causes_of, with_others, Query, Put, done, query_outcome, items_of, items_at, at_row, environments, put_outcome, put_source, all_put, source_of as source_meant, item_of, no_causes, refusal_of, given_of, create_outcome, is_new_table, rows_put}
 use Rattle.sql_meaning.specs.World.{State, entry_named}
 use Rattle.vm_code.specs.Machine.{World as Lists, IsOrdered, Run, rows_of}
 use Rattle.bind_stmt.specs.Binds.{IsFromAt, IsQueryAt, IsPutAt}
 use Rattle.engine.specs.Held.{state_of}
 use Rattle.engine.specs.Running.{put_count}
 use Rattle.engine.specs.Outcomes.{create_outcome_in, query_outcome_in, put_outcome_in, left_by}
+use Rattle.engine.proofs.CarryingOut.{StandsFor, stands_same}
 use Rattle.engine.proofs.Places.{place_named-rows, place_named-with_rows, place_named-within, with_rows-free}
 use Rattle.engine.proofs.Puts.{Puts, puts_rows}
+
+-- ---- bad items
+
+-- there is no bad item, or the causes of the first are among those of all
+abbrev BadSides : List Item → Type 0
+BadSides items =
+    ((refusal_of items ≡ None) × (causes_of items ≡ None))
+    ⊎ ((first : CauseSet) × (all : CauseSet) × (refusal_of items ≡ Some first) × (causes_of items ≡ Some all) × ((k : Cause) → has_cause first k ≡ true → has_cause all k ≡ true))
+
+among_others : (causes : CauseSet) (others : Option CauseSet) (k : Cause) → has_cause causes k ≡ true → has_cause (with_others causes others) k ≡ true
+among_others causes None k has = has
+among_others causes (Some others) k has = set.contains-union nat_list_cmp_total causes others (cause_key k) ∙ ap (λ b. b || has_cause others k) has
+
+bad_sides : (items : List Item) → BadSides items
+bad_sides [] = inl (refl, refl)
+bad_sides (Row row ∷ items) = bad_sides items
+bad_sides (Bad causes ∷ items) = inr (causes, with_others causes (causes_of items), refl, refl, among_others causes (causes_of items))
 
 module _ (catalog : List TableEntry) (lists : Lists) (changes : ℕ) (last : ℤ) (long : length lists ≡ length catalog) where
   abbrev state : State
@@ -54,18 +74,32 @@ module _ (catalog : List TableEntry) (lists : Lists) (changes : ℕ) (last : ℤ
       let new : drop (length (rows_of lists b.table)) all ≡ puts.new = ap (drop (length (rows_of lists b.table))) puts.behind ∙ drop-append_seam (rows_of lists b.table) puts.new in
       rw (puts.ended, puts.given, counted, puts.last last, puts.world, tables, rows, new) refl
 
-  put_by : (b : BoundInsert) (p : Put) → IsPutAt catalog p b → IsOrdered lists → (refusal : Option CauseSet) (source : List (List Value)) → put_source state p refusal source ≡ left_by catalog lists changes last (source_run b (untouched [] lists) refusal source).ending (source_run b (untouched [] lists) refusal source).shared
-  put_by b p at up (Some causes) source = refl
-  put_by b p at up None source =
+  -- a source without a bad row
+  put_good : (b : BoundInsert) (p : Put) → IsPutAt catalog p b → IsOrdered lists → (source : List (List Value)) → put_source state p None source ≡ left_by catalog lists changes last (source_run b (untouched [] lists) None source).ending (source_run b (untouched [] lists) None source).shared
+  put_good b p at up source =
       let within = place_named-within catalog p.table.name b.table at.table.first in
       let lt : b.table < length lists = omega (arith, within, long) in
       let rows = place_named-rows catalog p.table.name b.table p.table at.table.first at.table.entry lists long in
       rw rows (by_result b p at (length source) (rows_put p.table (rows_of lists b.table) source) _ (puts_rows b p.table at.name at.affinities source (untouched [] lists) up lt))
 
-  pub put_same : (p : Put) (b : BoundInsert) → IsPutAt catalog p b → IsOrdered lists → put_outcome state p ≡ put_outcome_in catalog lists changes last b
+  -- where there is one, the causes of the first are among those of all
+  put_bad : (b : BoundInsert) (p : Put) (first all : CauseSet) (source : List (List Value)) → ((k : Cause) → has_cause first k ≡ true → has_cause all k ≡ true)
+      → StandsFor (put_source state p (Some all) source) (left_by catalog lists changes last (source_run b (untouched [] lists) (Some first) source).ending (source_run b (untouched [] lists) (Some first) source).shared)
+  put_bad b p first all source among = record { refusal = named; given = refl; changed = refl; next = refl }
+    where
+      named : (why : Option Cause) → IsNamed (Some first) why → IsNamed (Some all) why
+      named None n = absurd n
+      named (Some k) n = among k n
+
+  put_by : (b : BoundInsert) (p : Put) → IsPutAt catalog p b → IsOrdered lists → (items : List Item) (source : List (List Value)) → BadSides items
+      → StandsFor (put_source state p (causes_of items) source) (left_by catalog lists changes last (source_run b (untouched [] lists) (refusal_of items) source).ending (source_run b (untouched [] lists) (refusal_of items) source).shared)
+  put_by b p at up items source (inl none) = rw (none.0, none.1) (stands_same _ _ (put_good b p at up source))
+  put_by b p at up items source (inr bad) = rw (bad.2, bad.3) (put_bad b p bad.0 bad.1 source bad.4)
+
+  pub put_same : (p : Put) (b : BoundInsert) → IsPutAt catalog p b → IsOrdered lists → StandsFor (put_outcome state p) (put_outcome_in catalog lists changes last b)
   put_same p b at up =
       let source : source_of b ≡ source_meant p = ap (map (λ (row : List Literal). item_of no_causes (map literal_out row))) at.rows in
-      rw source (put_by b p at up (refusal_of (source_meant p)) (given_of (source_meant p)))
+      rw source (put_by b p at up (source_meant p) (given_of (source_meant p)) (bad_sides (source_meant p)))
 
   -- ---- CREATE TABLE
 

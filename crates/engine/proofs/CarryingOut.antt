@@ -6,6 +6,7 @@ use Rattle.eng_value.specs.declared.cause.Cause.TheVariants as cause
 use Rattle.eng_value.proofs.CauseLaws.{has_cause-only}
 use Rattle.gen_query.specs.Queries.{ending_by}
 use Rattle.sql_meaning.specs.Statement.{IsNamed, Outcome, refused}
+use Rattle.sql_meaning.specs.Valid.{IsValid}
 use Rattle.sql_meaning.specs.World.{State}
 use Rattle.vm_code.specs.Machine.{World, Shared, Ending, Finished, Failed}
 use Rattle.engine.specs.declared.answers.Done.{Done}
@@ -72,18 +73,43 @@ carries_refused o state budget bound steps t rose why is = record {
   within = omega arith;
 }
 
--- ---- the same of an outcome that is this one, with more instructions allowed
+-- ---- the same of an outcome for which another one stands, with more instructions allowed
 
-more_cause : (o : Outcome) (budget most bound ran : ℕ) (t0 t : Option Rows) (rose : Type 0) (k : Cause) → most ≤ bound → IsCause o budget most ran t0 t rose k → IsCause o budget bound ran t0 t rose k
-more_cause o budget most bound ran t0 t rose _ le no_memory = no_memory
-more_cause o budget most bound ran t0 t rose _ le (used_up a b) = used_up a (omega arith)
-more_cause o budget most bound ran t0 t rose _ le (sink_failed r) = sink_failed r
-more_cause o budget most bound ran t0 t rose _ le (meant k names took) = meant k names took
+-- it is the same, but may name fewer of the causes
+pub record StandsFor (o p : Outcome) : Type 0 where
+  pub refusal : (why : Option Cause) → IsNamed p.refusal why → IsNamed o.refusal why
+  pub given : o.given ≡ p.given
+  pub changed : o.changed ≡ p.changed
+  pub next : o.next ≡ p.next
 
-carries_more : (o : Outcome) (old now : State) (budget most bound ran : ℕ) (t0 t : Option Rows) (rose : Type 0) (r : Result Done Cause) → most ≤ bound → Carries o old now budget most ran t0 t rose r → Carries o old now budget bound ran t0 t rose r
-carries_more o old now budget most bound ran t0 t rose (Ok d) le c = c
-carries_more o old now budget most bound ran t0 t rose (Err k) le (same, c) = (same, more_cause o budget most bound ran t0 t rose k le c)
+pub stands_same : (o p : Outcome) → o ≡ p → StandsFor o p
+stands_same o p is = subst (λ q. StandsFor q p) (sym is) (record { refusal = λ why n. n; given = refl; changed = refl; next = refl })
 
-pub carries_as : (o p : Outcome) (old now : State) (budget most bound ran : ℕ) (t0 t : Option Rows) (rose : Type 0) (r : Result Done Cause) → o ≡ p → most ≤ bound → CarriesOut p old now budget most ran t0 t rose r → CarriesOut o old now budget bound ran t0 t rose r
-carries_as o p old now budget most bound ran t0 t rose r is le c =
-    subst (λ q. CarriesOut q old now budget bound ran t0 t rose r) (sym is) (record { answer = carries_more p old now budget most bound ran t0 t rose r le c.answer; front = c.front; within = omega (arith, c.within) })
+named_none : (refusal : Option CauseSet) → IsNamed refusal None → refusal ≡ None
+named_none None n = refl
+named_none (Some causes) n = absurd n
+
+more_cause : (o p : Outcome) (budget most bound ran : ℕ) (t0 t : Option Rows) (rose : Type 0) (k : Cause) → StandsFor o p → most ≤ bound → IsCause p budget most ran t0 t rose k → IsCause o budget bound ran t0 t rose k
+more_cause o p budget most bound ran t0 t rose _ s le no_memory = no_memory
+more_cause o p budget most bound ran t0 t rose _ s le (used_up a b) = used_up a (omega arith)
+more_cause o p budget most bound ran t0 t rose _ s le (sink_failed r) = sink_failed r
+more_cause o p budget most bound ran t0 t rose _ s le (meant k names took) = meant k (s.refusal (Some k) names) (rw s.given took)
+
+carries_more : (o p : Outcome) (old now : State) (budget most bound ran : ℕ) (t0 t : Option Rows) (rose : Type 0) (r : Result Done Cause) → StandsFor o p → most ≤ bound → Carries p old now budget most ran t0 t rose r → Carries o old now budget bound ran t0 t rose r
+carries_more o p old now budget most bound ran t0 t rose (Ok d) s le c =
+    (named_none o.refusal (s.refusal None (rw c.0 tt)), c.1 ∙ sym s.next, rw s.given c.2, c.3 ∙ ap length (sym s.given), c.4 ∙ sym s.changed)
+carries_more o p old now budget most bound ran t0 t rose (Err k) s le (same, c) = (same, more_cause o p budget most bound ran t0 t rose k s le c)
+
+pub carries_as : (o p : Outcome) (old now : State) (budget most bound ran : ℕ) (t0 t : Option Rows) (rose : Type 0) (r : Result Done Cause) → StandsFor o p → most ≤ bound → CarriesOut p old now budget most ran t0 t rose r → CarriesOut o old now budget bound ran t0 t rose r
+carries_as o p old now budget most bound ran t0 t rose r s le c =
+    record { answer = carries_more o p old now budget most bound ran t0 t rose r s le c.answer; front = rw s.given c.front; within = omega (arith, c.within) }
+
+-- ---- valid states
+
+-- where the state before and the one that is meant are valid, so is the one that is left
+pub carries_valid : (o : Outcome) (old now : State) (budget bound ran : ℕ) (t0 t : Option Rows) (rose : Type 0) (r : Result Done Cause) → IsValid old → IsValid o.next → CarriesOut o old now budget bound ran t0 t rose r → IsValid now
+carries_valid o old now budget bound ran t0 t rose r before then_valid c = by r c.answer
+  where
+    by : (q : Result Done Cause) → Carries o old now budget bound ran t0 t rose q → IsValid now
+    by (Ok d) a = subst IsValid (sym a.1) then_valid
+    by (Err k) a = subst IsValid (sym a.0) before

@@ -1,5 +1,6 @@
 -- The programs of statements run within the bound that size and work give.
-use Rattle.std.proofs.Common.{◌≡◌, ℕ, ◌+◌, ◌*◌, ◌≤◌, List, [], ◌∷◌, ℤ, length, map, sum_by, Option, Some, None, Result, Ok, Err, refl, sym, ap, subst, arith}
+use Rattle.std.proofs.Common.{◌≡◌, true, ℕ, ◌+◌, ◌*◌, ◌≤◌, List, [], ◌∷◌, ℤ, length, map, sum_by, Option, Some, None, Result, Ok, Err, refl, sym, ap, subst, arith}
+use Rattle.std.specs.Result.{is_ok}
 use Rattle.std.proofs.Math.Nat.{mul-le-mul_left}
 use Rattle.std.proofs.lemmas.List.Sums.{sum_by-cons}
 use Rattle.bind_stmt.specs.declared.statement.Bound.TheVariants as bound
@@ -18,8 +19,8 @@ use Rattle.sql_meaning.specs.declared.bound.Literal.{Literal}
 use Rattle.sql_meaning.specs.declared.column.TableEntry.{TableEntry}
 use Rattle.sql_meaning.specs.Sizes.{all_nodes}
 use Rattle.sql_meaning.specs.Spelled.{name_at}
-use Rattle.sql_meaning.specs.Statement.{Query, conjuncts_of, found_table, from_table, query_in, query_of, results_behind}
-use Rattle.sql_meaning.specs.Work.{instruction_bound, opened, scan_work, table_size, work_of}
+use Rattle.sql_meaning.specs.Statement.{Query, conjuncts_of, count_of, created_entry, found_table, put_of, from_table, query_in, query_of, results_behind}
+use Rattle.sql_meaning.specs.Work.{instruction_bound, is_bound, opened, scan_work, table_size, work_of}
 use Rattle.sql_meaning.specs.World.{State, entry_named, rows_of as rows_under}
 use Rattle.sql_meaning.specs.Shapes.{Built, Creates, Inserts, Selects, Select, size_of_from}
 use Rattle.sql_tree.specs.Sizes.{total, size_of_row}
@@ -77,14 +78,21 @@ module _ (catalog : List TableEntry) (lists : Lists) (changes : ℕ) (last : ℤ
   abbrev tokens : ℕ
   tokens = length (tokens_of text)
 
-  bound_is : (s : Built) → IsStatement text s → instruction_bound state text ≡ 256 * (tokens + table_size (opened state text s)) * (work_of state text s + 1)
-  bound_is s is = rw is.derived refl
+  abbrev count : ℕ
+  count = count_of (tokens_of text)
+
+  -- what is bound runs
+  bound_is : (s : Built) → IsStatement text s → is_bound state text s ≡ true → instruction_bound state text ≡ 256 * (tokens + table_size (opened state text s)) * (work_of state text s + 1)
+  bound_is s is binds = rw (is.derived, binds) refl
+
+  is_ok-Ok : {B : Type 0} (r : Result B Cause) (b : B) → r ≡ Ok b → is_ok r ≡ true
+  is_ok-Ok r b is = rw is refl
 
   -- ---- CREATE TABLE
 
-  pub create_within : (s : Built) (t : TableEntry) → IsStatement text s → IsBound catalog text tokens s (bound.CreateTable t) → create_steps lists ≤ instruction_bound state text
+  pub create_within : (s : Built) (t : TableEntry) → IsStatement text s → IsBound catalog text count s (bound.CreateTable t) → create_steps lists ≤ instruction_bound state text
   create_within (Creates c) t is b =
-      rw (bound_is (Creates c) is) (within_size 2 tokens 0 0 (omega (arith, is.small)))
+      rw (bound_is (Creates c) is (is_ok-Ok (created_entry catalog text count c) t b)) (within_size 2 tokens 0 0 (omega (arith, is.small)))
   create_within (Inserts i) t is b = absurd b
   create_within (Selects x) t is b = absurd b
 
@@ -98,9 +106,9 @@ module _ (catalog : List TableEntry) (lists : Lists) (changes : ℕ) (last : ℤ
       let rest : map length rows ≡ map length written = cc in
       omega (arith, one, rows_few rows written rest, sum_by-cons row_steps row rows)
 
-  pub insert_within : (s : Built) (b : BoundInsert) → IsStatement text s → IsBound catalog text tokens s (bound.Insert b) → IsSmall catalog s (bound.Insert b) → put_steps b lists ≤ instruction_bound state text
+  pub insert_within : (s : Built) (b : BoundInsert) → IsStatement text s → IsBound catalog text count s (bound.Insert b) → IsSmall catalog s (bound.Insert b) → put_steps b lists ≤ instruction_bound state text
   insert_within (Inserts i) b is bound small =
-      rw (bound_is (Inserts i) is)
+      rw (bound_is (Inserts i) is (is_ok-Ok (put_of catalog text i) bound.0 bound.1))
       (within_size (put_steps b lists) tokens (table_size (opened state text (Inserts i))) (work_of state text (Inserts i)) (omega (arith, is.small, rows_few b.rows i.rows small)))
   insert_within (Creates c) b is bound small = absurd bound
   insert_within (Selects x) b is bound small = absurd bound
@@ -136,8 +144,8 @@ module _ (catalog : List TableEntry) (lists : Lists) (changes : ℕ) (last : ℤ
       let few = within_rows each tokens (table_size (opened state text (Selects x))) (rows_seen b.table lists) (omega (arith, from, small.hundred, small.conjuncts, small.results, is.small)) in
       rw (reads.named, ← rows) (omega (arith, few, steps-few b lists))
 
-  pub select_within : (s : Built) (b : BoundSelect) → IsStatement text s → IsBound catalog text tokens s (bound.Select b) → IsSmall catalog s (bound.Select b) → query_steps b lists ≤ instruction_bound state text
+  pub select_within : (s : Built) (b : BoundSelect) → IsStatement text s → IsBound catalog text count s (bound.Select b) → IsSmall catalog s (bound.Select b) → query_steps b lists ≤ instruction_bound state text
   select_within (Selects x) b is (q, meant, at) small =
-      rw (bound_is (Selects x) is) (select_from x q b x.from refl is meant at.table small)
+      rw (bound_is (Selects x) is (is_ok-Ok (query_of catalog text x) q meant)) (select_from x q b x.from refl is meant at.table small)
   select_within (Creates c) b is bound small = absurd bound
   select_within (Inserts i) b is bound small = absurd bound

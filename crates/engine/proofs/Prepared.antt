@@ -15,7 +15,7 @@ use Rattle.sql_lex.specs.Tokens.{tokens_of}
 use Rattle.sql_meaning.proofs.ShapeLaws.{built-within}
 use Rattle.sql_meaning.specs.Built.{built_of}
 use Rattle.sql_meaning.specs.Shapes.{Built}
-use Rattle.sql_meaning.specs.Statement.{answer_of, limit_kind}
+use Rattle.sql_meaning.specs.Statement.{answer_of, count_of, limit_kind}
 use Rattle.sql_meaning.specs.Work.{built_in}
 use Rattle.sql_meaning.specs.declared.column.TableEntry.{TableEntry}
 use Rattle.sql_tree.specs.declared.statement.Statement.{Statement}
@@ -65,7 +65,7 @@ module _ (catalog : List TableEntry) (text : List ℕ) where
   }
 
   -- a statement that was bound or refused
-  pub prepared : (s : Statement) (r : Result Bound Cause) → IsTreeOf s → Binds catalog text (length (tokens_of text)) s r → Prepares catalog text r
+  pub prepared : (s : Statement) (r : Result Bound Cause) → IsTreeOf s → Binds catalog text (count_of (tokens_of text)) s r → Prepares catalog text r
   unfolding BindsTo
   prepared s (Ok b) is (x, built, binds, small) = (x, statement_is s x is built, binds, small)
   prepared s (Err why) is (inl m) = inl m

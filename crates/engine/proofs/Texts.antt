@@ -14,7 +14,7 @@ use Rattle.sql_meaning.specs.declared.column.TableEntry.{TableEntry}
 use Rattle.sql_meaning.specs.Built.{built_of}
 use Rattle.sql_meaning.specs.Names.{is_reserved_name}
 use Rattle.sql_meaning.specs.Spelled.{name_at}
-use Rattle.sql_meaning.specs.Statement.{Outcome, Query, refused, carried_out, text_outcome, outcome_of, answer_of, answer_outcome, built_outcome, query_outcome, items_of, create_outcome, put_outcome, put_of, query_of, created_entry, columns_behind}
+use Rattle.sql_meaning.specs.Statement.{Outcome, Query, refused, carried_out, text_outcome, outcome_of, answer_of, answer_outcome, built_outcome, query_outcome, items_of, create_outcome, put_outcome, put_of, query_of, created_entry, columns_behind, count_of}
 use Rattle.sql_meaning.specs.World.{State, entry_named}
 use Rattle.sql_grammar.specs.Answers.{Answer, Tree, Syntax, TooMuch}
 use Rattle.sql_meaning.specs.Shapes.{Built, Creates, Inserts, Selects}
@@ -26,7 +26,7 @@ use Rattle.engine.specs.Outcomes.{create_outcome_in, query_outcome_in, put_outco
 use Rattle.engine.specs.Connected.{CarriesOut}
 use Rattle.engine.specs.Prepared.{IsStatement, IsUnfit, Prepares, Unfit}
 use Rattle.engine.specs.Taking.{Rows}
-use Rattle.engine.proofs.CarryingOut.{carries_Mem, carries_refused}
+use Rattle.engine.proofs.CarryingOut.{StandsFor, carries_Mem, carries_refused}
 use Rattle.engine.proofs.Bridges.{query_same, put_same, create_same, created_free}
 
 module _ (hosts : HostMeanings) (catalog : List TableEntry) (lists : Lists) (changes : ℕ) (last : ℤ) (params : List Value) (text : List ℕ) where
@@ -34,7 +34,7 @@ module _ (hosts : HostMeanings) (catalog : List TableEntry) (lists : Lists) (cha
   state = state_of catalog lists changes last
 
   abbrev tokens : ℕ
-  tokens = length (tokens_of text)
+  tokens = count_of (tokens_of text)
 
   text_is : (s : Built) → IsStatement text s → text_outcome hosts state params text ≡ outcome_of hosts state params text tokens s
   text_is s is = let built : built_of text is.tree ≡ Some s = ap (built_in text) (sym is.answered) ∙ is.derived in rw (is.answered, built) refl
@@ -48,9 +48,9 @@ module _ (hosts : HostMeanings) (catalog : List TableEntry) (lists : Lists) (cha
   create_is (Inserts i) t long is bound = absurd bound
   create_is (Selects q) t long is bound = absurd bound
 
-  pub insert_is : (s : Built) (b : BoundInsert) → length lists ≡ length catalog → IsOrdered lists → IsStatement text s → IsBound catalog text tokens s (bound.Insert b) → text_outcome hosts state params text ≡ put_outcome_in catalog lists changes last b
+  pub insert_is : (s : Built) (b : BoundInsert) → length lists ≡ length catalog → IsOrdered lists → IsStatement text s → IsBound catalog text tokens s (bound.Insert b) → StandsFor (text_outcome hosts state params text) (put_outcome_in catalog lists changes last b)
   insert_is (Inserts i) b long up is (p, meant, at) =
-      text_is (Inserts i) is ∙ ap (carried_out state (put_outcome state)) meant ∙ put_same catalog lists changes last long p b at up
+      subst (λ (o : Outcome). StandsFor o (put_outcome_in catalog lists changes last b)) (sym (text_is (Inserts i) is ∙ ap (carried_out state (put_outcome state)) meant)) (put_same catalog lists changes last long p b at up)
   insert_is (Creates c) b long up is bound = absurd bound
   insert_is (Selects q) b long up is bound = absurd bound
 

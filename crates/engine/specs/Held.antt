@@ -1,9 +1,10 @@
 -- What a connection holds, as the state of the definitions.
-use Rattle.std.specs.Prelude.{ℕ, List, [], ℤ, map}
+use Rattle.std.specs.Prelude.{◌≡◌, ℕ, List, [], ℤ, length, map}
 use Rattle.std.specs.List.{zip}
 use Rattle.eng_value.specs.StoredRows.{StoredRow}
 use Rattle.vm_code.specs.Machine.{World as Lists}
 use Rattle.sql_meaning.specs.declared.column.TableEntry.{TableEntry}
+use Rattle.sql_meaning.specs.Valid.{IsValid}
 use Rattle.sql_meaning.specs.World.{State}
 
 -- the rows of each table under its name: the catalog and the lists of rows have one order
@@ -19,3 +20,8 @@ state_of catalog lists changes last_rowid =
       changes = changes;
       last_rowid = last_rowid;
     }
+
+-- what is always so of what a connection holds: a list of rows for each table of the catalog, and a valid state
+pub record IsConsistent (catalog : List TableEntry) (lists : Lists) (changes : ℕ) (last_rowid : ℤ) : Type 0 where
+  pub in_line : length lists ≡ length catalog
+  pub valid : IsValid (state_of catalog lists changes last_rowid)

@@ -12,7 +12,7 @@ use Rattle.sql_lex.specs.Tokens.{tokens_of}
 use Rattle.sql_meaning.specs.declared.column.TableEntry.{TableEntry}
 use Rattle.sql_meaning.specs.Built.{built_of}
 use Rattle.sql_meaning.specs.Shapes.{Built, size_of_built}
-use Rattle.sql_meaning.specs.Statement.{answer_of, limit_kind}
+use Rattle.sql_meaning.specs.Statement.{answer_of, count_of, limit_kind}
 use Rattle.sql_meaning.specs.Work.{built_in}
 use Rattle.sql_tree.specs.declared.statement.Statement.{Statement}
 
@@ -44,6 +44,6 @@ IsUnfit text why = Unfit text (answer_of text) why
 
 -- it is bound so; or no memory was found, or it has no statement that is built, or its statement is refused
 abbrev pub Prepares : List TableEntry → List ℕ → Result Bound Cause → Type 0
-Prepares catalog text (Ok b) = (x : Built) × IsStatement text x × IsBound catalog text (length (tokens_of text)) x b × IsSmall catalog x b
+Prepares catalog text (Ok b) = (x : Built) × IsStatement text x × IsBound catalog text (count_of (tokens_of text)) x b × IsSmall catalog x b
 Prepares catalog text (Err why) =
-    (why ≡ cause.Mem) ⊎ (IsUnfit text why ⊎ ((x : Built) × IsStatement text x × IsRefused catalog text (length (tokens_of text)) x why))
+    (why ≡ cause.Mem) ⊎ (IsUnfit text why ⊎ ((x : Built) × IsStatement text x × IsRefused catalog text (count_of (tokens_of text)) x why))

@@ -7,6 +7,7 @@ ghost use Rattle.engine.specs.Taking.{Adds, AddsFront};
 ghost use Rattle.bind_stmt.specs.Binds.{place_named};
 ghost use Rattle.host_traits.specs.Faults.{Rose};
 ghost use Rattle.sql_meaning.specs.Statement.{text_outcome};
+ghost use Rattle.sql_meaning.specs.Valid.{IsValid};
 ghost use Rattle.sql_meaning.specs.Work.{instruction_bound};
 ghost use Rattle.sql_meaning.specs.World.{is_in_transaction, new_state, table_rows, with_rowid};
 ghost use Rattle.vm_code.specs.Machine.{rows_of};
@@ -23,7 +24,7 @@ use std::sync::ledger::Ledger;
 use vm_core::{Hosts, Tables};
 
 /// A connection: the tables of a database in memory, and what its statements leave behind. Contracts see the state of the
-/// definitions, and the budget of a statement in instructions.
+/// definitions, which is always valid, and the budget of a statement in instructions.
 #[derive(Drop)]
 pub struct Connection {
     database: Database,
@@ -31,9 +32,8 @@ pub struct Connection {
 }
 
 impl Model for Connection {
-    ghost use Rattle.std.specs.Prelude.{◌≡◌, length};
     ghost use Rattle.engine.specs.Causes.{Held};
-    ghost use Rattle.engine.specs.Held.{state_of};
+    ghost use Rattle.engine.specs.Held.{IsConsistent, state_of};
 
     ghost Value = { Held };
 
@@ -43,7 +43,7 @@ impl Model for Connection {
           budget = c.budget;
         } };
 
-    ghost invariant = { λ c. length c.database.tables ≡ length c.database.catalog };
+    ghost invariant = { λ c. IsConsistent c.database.catalog c.database.tables c.database.changes c.database.last_rowid };
 }
 
 impl Connection {
@@ -62,7 +62,7 @@ impl Connection {
     ///
     /// - Ok: the statement did what it means, and all its rows were taken;
     /// - Interrupted: the budget of instructions is used up. It never comes where the budget is at least the bound of size and
-    ///   work;
+    ///   work, which is 0 for a statement that is refused before it is evaluated;
     /// - SinkFault: the sink failed;
     /// - Mem: no memory was found;
     /// - any other cause: that is one of those that it means, and the rows in front of it were taken.
@@ -99,6 +99,7 @@ impl Connection {
         ensures faults { R.fault_count rows.old ≤ R.fault_count rows.new }
         ensures budget { self.new.budget ≡ self.old.budget }
         ensures hosts { meant hosts.new ≡ meant hosts.old }
+        ensures valid { IsValid self.new.state }
     {
         match run_text(
             alloc,

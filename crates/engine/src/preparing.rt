@@ -1,6 +1,6 @@
 // From the text of a statement to a bound one.
 ghost use Rattle.std.specs.Prelude.{◌≡◌};
-ghost use Rattle.sql_meaning.specs.Statement.{limit_kind};
+ghost use Rattle.sql_meaning.specs.Statement.{count_of, limit_kind};
 ghost use Rattle.engine.specs.Prepared.{Prepares, cause_of};
 
 use crate::catalog::Catalog;
@@ -9,6 +9,7 @@ use eng_value::{Cause, LimitKind};
 use parse_stmt::{Failure, parse};
 use sql_grammar::Limit;
 use sql_lex::tokens;
+use sql_tree::{Token, TokenKind};
 use std::alloc::Global;
 
 /// The bound statement of a text, or why it is refused: first by the grammar, then since a part of it is not built, then for names.
@@ -20,7 +21,23 @@ pub(crate) fn prepare(alloc: Global, catalog: &Catalog, text: &str) -> Result<Bo
         Ok(statement) => statement,
         Err(failure) => return Err(cause_of(failure)),
     };
-    bind(alloc, catalog.entries(), text, tokens.len(), &statement)
+    bind(
+        alloc,
+        catalog.entries(),
+        text,
+        count_of(&tokens),
+        &statement,
+    )
+}
+
+/// How many tokens there are, without a `;` at their end.
+fn count_of(tokens: &[Token]) -> usize
+    ensures { result ≡ count_of tokens.now }
+{
+    match tokens.last() {
+        Some(token) if token.kind == TokenKind::Semicolon => tokens.len() - 1,
+        _ => tokens.len(),
+    }
 }
 
 /// Why a text has no statement: memory is wanting, the grammar does not derive it, or there is too much of something.

@@ -7,7 +7,7 @@ ghost use Rattle.host_traits.specs.Faults.{HasCount};
 use eng_value::Row;
 
 /// What a sink answers to a row.
-#[derive(Clone, Copy, Debug, PartialEq, Eq)]
+#[derive(Clone, Copy, PartialEq, Eq)]
 pub enum Took {
     /// The row was taken.
     Yes,

@@ -16,7 +16,7 @@ use vm_code::{Change, Program};
 use vm_core::{Budget, Event, Machine, Tables};
 
 /// What a program did that ran to its end: how many rows it gave and put, and the rowid of the last one that it put.
-#[derive(Clone, Copy, Debug)]
+#[derive(Clone, Copy)]
 pub(crate) struct Completed {
     pub(crate) given: u64,
     pub(crate) changed: u64,
@@ -24,7 +24,7 @@ pub(crate) struct Completed {
 }
 
 /// Why a program did not run to its end. What it had changed is taken back.
-#[derive(Debug, Drop)]
+#[derive(Drop)]
 pub(crate) enum Stop {
     Bad(Causes),
     /// So many instructions were run, and that is the budget.

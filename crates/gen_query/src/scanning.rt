@@ -29,7 +29,7 @@ pub(crate) fn emit_rows(b: &mut Builder, query: &BoundSelect) -> Result<(), Allo
 }
 
 /// The cursor of a loop over a table, and its labels: of the code of a row and behind the loop.
-#[derive(Clone, Copy, Debug)]
+#[derive(Clone, Copy)]
 struct Loop {
     cursor: u32,
     end: usize,

@@ -16,7 +16,7 @@ use sql_meaning::Options;
 use std::alloc::Global;
 
 /// Why there are no options.
-#[derive(Clone, Copy, Debug, PartialEq, Eq)]
+#[derive(Clone, Copy, PartialEq, Eq)]
 pub enum WordsError {
     /// Clap does not take the words for this command.
     Usage,

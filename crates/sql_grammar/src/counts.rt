@@ -12,7 +12,7 @@ pub const MAX_OPERATORS: usize = 1000;
 pub const MAX_PARTS: u16 = 500;
 
 /// What there may not be too much of.
-#[derive(Clone, Copy, Debug, PartialEq, Eq)]
+#[derive(Clone, Copy, PartialEq, Eq)]
 pub enum Limit {
     Nestings,
     Operators,
@@ -20,7 +20,7 @@ pub enum Limit {
 }
 
 /// What a token counts as where it stands in a rule.
-#[derive(Clone, Copy, Debug, PartialEq, Eq)]
+#[derive(Clone, Copy, PartialEq, Eq)]
 pub enum Role {
     /// Nothing is counted.
     Quiet,

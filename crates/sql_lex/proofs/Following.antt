@@ -51,7 +51,7 @@ loop_more items new all from largest b bytes text p is e one put h =
 
 -- ---- where a token stands
 
-abbrev IsAt : ℕ → ℕ → Token → Type 0
+abbrev pub IsAt : ℕ → ℕ → Token → Type 0
 IsAt from width t = (t.span.start ≡ from) × (t.span.end ≡ from + width)
 
 numbered_at : (n from width : ℕ) → IsAt from width (numbered n from width)
@@ -61,7 +61,7 @@ numbered_at n from width = by (is_parameter n)
     by true = (refl, refl)
     by false = (refl, refl)
 
-token_at : (from largest : ℕ) (p : Piece) → IfSome (token_in from largest p) (IsAt from (width_of p))
+pub token_at : (from largest : ℕ) (p : Piece) → IfSome (token_in from largest p) (IsAt from (width_of p))
 token_at from largest (Blank width) = tt
 token_at from largest (Lexeme k width) = (refl, refl)
 token_at from largest (Parameter number width) = numbered_at (number_behind largest number) from width

@@ -4,6 +4,7 @@ pub mod CuttingLaws
 mod Endings
 mod FirstPlaces
 mod Following
+pub mod GapLaws
 mod Lasting
 mod Numbering
 mod Readings

@@ -1,4 +1,5 @@
 pub mod Cutting
+pub mod Gaps
 pub mod Pieces
 pub mod Places
 pub mod Reading

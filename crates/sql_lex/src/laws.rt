@@ -1,8 +1,10 @@
-// What holds of the ends of statements and of blanks, whoever cuts a text. Nothing here runs: each contract is a law.
+// What holds of the ends of statements, of blanks and of tokens, whoever cuts a text. Nothing here runs: each contract is a law.
 ghost use Rattle.std.specs.Prelude.{◌≡◌, ℕ, ◌<◌, ◌≤◌, List, ◌++◌, length, Some};
 ghost use Rattle.sql_tree.specs.declared.token.TokenKind.{TokenKind};
 ghost use Rattle.sql_lex.specs.Cutting.{blank_width, end_among, is_end, statement_end};
+ghost use Rattle.sql_lex.specs.Gaps.{MakeUp};
 ghost use Rattle.sql_lex.specs.Places.{IsFirst};
+ghost use Rattle.sql_lex.specs.Tokens.{tokens_of};
 
 /// The token that ends a statement is the first that may end it, and where none ends it, none may.
 pub fn the_end_is_the_first()
@@ -18,4 +20,10 @@ pub fn an_end_stays()
 /// text of more than one byte: `-` and `/` alone may each be the first byte of a comment.
 pub fn a_blank_stays()
     ensures { (text more : List ℕ) → 2 ≤ length text → blank_width text < length text → blank_width (text ++ more) ≡ blank_width text }
+{}
+
+/// A text is made up of its tokens, in their order, and of white space and comments in front of them and behind the last. Each token is
+/// what the text goes on with where it starts.
+pub fn tokens_make_up_the_text()
+    ensures { (text : List ℕ) → MakeUp text 0 (tokens_of text) }
 {}

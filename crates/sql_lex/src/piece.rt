@@ -13,7 +13,7 @@ use crate::words::{begins_word, word};
 use sql_tree::TokenKind;
 
 /// What a text begins with, and how many bytes that takes.
-#[derive(Clone, Copy, Debug, PartialEq, Eq)]
+#[derive(Clone, Copy, PartialEq, Eq)]
 pub(crate) enum Piece {
     /// White space or a comment.
     Blank(usize),

@@ -7,7 +7,7 @@ use sql_tree::TokenKind;
 
 /// What has been read of a statement. One that creates a trigger begins with CREATE TRIGGER, behind an optional EXPLAIN or EXPLAIN
 /// QUERY PLAN, and holds statements that have a `;` of their own (SQL As Understood By SQLite, "CREATE TRIGGER").
-#[derive(Clone, Copy, Debug, PartialEq, Eq)]
+#[derive(Clone, Copy, PartialEq, Eq)]
 pub(crate) enum Reading {
     /// No token yet.
     Start,

@@ -1,5 +1,5 @@
 -- Whatever is bad in a statement has a cause, so that each refusal can be told.
-use Rattle.std.proofs.Common.{ℕ, length, List, [], ◌∷◌, ◌++◌, Bool, true, false, Some, None, Ok, Err, Result, map, fold, flat_map, sym, subst, if◌then◌else◌, zero, suc}
+use Rattle.std.proofs.Common.{ℕ, length, List, [], ◌∷◌, ◌++◌, Some, None, Ok, Err, Result, map, fold, flat_map, sym, subst, zero, suc}
 use Rattle.std.specs.Bool.{⊤}
 use Rattle.std.specs.Prelude.{slice_index_or}
 use Rattle.std.specs.Option.{option_map, option_to_list}
@@ -37,9 +37,9 @@ use Rattle.sql_meaning.specs.declared.column.TableEntry.{TableEntry}
 use Rattle.sql_meaning.specs.Binding.{◌>>=◌}
 use Rattle.sql_meaning.specs.Expression.{Arm, MatchArm, Meaning, arm_of, arm_step, chosen_in, first_known, in_all, literal_out, match_of, match_step, matched_in, parameter_of, value_of, value_step}
 use Rattle.sql_meaning.specs.Statement as s
-use Rattle.sql_meaning.specs.Statement.{IsNamed, Item, Outcome, Put, Query, Row, Failed, after_conjunct, all_put, carried_out, create_outcome, environments, given_of, if_some, item_by, item_of, item_put, items_at, items_of, no_causes, outcome_of, answer_of, answer_outcome, built_outcome, put_outcome, put_source, query_outcome, refusal_of, refused, row_put, row_under, rows_put, shown, sifted, source_of, stored, text_outcome, with_causes, written}
+use Rattle.sql_meaning.specs.Statement.{IsNamed, Item, Outcome, Put, Query, Row, Failed, after_conjunct, all_put, carried_out, causes_of, create_outcome, environments, given_of, if_some, item_by, item_of, item_put, items_at, items_of, no_causes, outcome_of, answer_of, answer_outcome, built_outcome, put_outcome, put_source, query_outcome, refusal_of, refused, row_put, row_under, rows_put, shown, sifted, source_of, stored, text_outcome, with_causes, with_others, written}
 use Rattle.sql_meaning.specs.World.{State, rows_of}
-use Rattle.sql_meaning.proofs.CausedOperators.{AreCaused, IsCaused, IsCausedSet, IsCausedTruth, and_of-caused, bad-caused, binary_of-caused, choice_of-caused, comparison_of-caused, function_by-caused, good, like_escaped_of-caused, made-caused, member_of-caused, merged-caused, only-caused, or_else-caused, store_as-caused, truth_in-caused, truth_of-caused, unary_of-caused}
+use Rattle.sql_meaning.proofs.CausedOperators.{AreCaused, IsCaused, IsCausedSet, IsCausedTruth, and_of-caused, bad-caused, binary_of-caused, choice_of-caused, comparison_of-caused, function_by-caused, good, like_escaped_of-caused, made-caused, member_of-caused, merged-caused, only-caused, or_else-caused, store_as-caused, truth_in-caused, truth_of-caused, unary_of-caused, union_left}
 
 -- ---- expressions
 
@@ -226,6 +226,15 @@ all_put-told : (state : State) (t : TableEntry) (changed : ℕ) (r : Result (Lis
 all_put-told state t changed (Ok rows) c = tt
 all_put-told state t changed (Err causes) c = c
 
+with_others-told : (causes : CauseSet) (others : Option CauseSet) → IsCausedSet causes → ToldCauses (Some (with_others causes others))
+with_others-told causes None c = c
+with_others-told causes (Some others) c = union_left causes others c
+
+causes_of-told : (items : List Item) → AreTold items → ToldCauses (causes_of items)
+causes_of-told [] c = tt
+causes_of-told (Row row ∷ items) c = causes_of-told items c.1
+causes_of-told (Failed causes ∷ items) c = with_others-told causes (causes_of items) c.0
+
 put_source-told : (state : State) (p : Put) (causes : Option CauseSet) (source : List (List Value)) → ToldCauses causes → ToldCauses (put_source state p causes source).refusal
 put_source-told state p (Some causes) source c = c
 put_source-told state p None source c =
@@ -248,7 +257,7 @@ carried_out-told state g (Err why) h = only-caused why
 outcome_of-told : (hosts : HostMeanings) (state : State) (params : List Value) (text : List ℕ) (tokens : ℕ) (st : Built) → ToldCauses (outcome_of hosts state params text tokens st).refusal
 outcome_of-told hosts state params text tokens (Creates c) = carried_out-told state (create_outcome state) (s.created_entry state.world.catalog text tokens c) (λ t. tt)
 outcome_of-told hosts state params text tokens (Inserts i) =
-    carried_out-told state (put_outcome state) (s.put_of state.world.catalog text i) (λ p. put_source-told state p (refusal_of (source_of p)) (given_of (source_of p)) (refusal_of-told (source_of p) (source-told p.rows)))
+    carried_out-told state (put_outcome state) (s.put_of state.world.catalog text i) (λ p. put_source-told state p (causes_of (source_of p)) (given_of (source_of p)) (causes_of-told (source_of p) (source-told p.rows)))
 outcome_of-told hosts state params text tokens (Selects q) =
     carried_out-told state (λ query. query_outcome state (items_of state params query)) (s.query_of state.world.catalog text q) (λ query. refusal_of-told (items_of state params query) (items-told query.conjuncts query.results (environments state params query.table)))
 

@@ -4,7 +4,13 @@ pub mod NameLaws
 pub mod CausedOperators
 pub mod CausedLaws
 pub mod RefusalLaws
+pub mod StoringLaws
+pub mod ValidLaws
+pub mod EffectLaws
+pub mod DoneLaws
 pub mod ShapeLaws
 pub mod OutcomeLaws
 pub mod ScriptLaws
 pub mod PartsLaws
+pub mod FrontLaws
+pub mod SegmentLaws

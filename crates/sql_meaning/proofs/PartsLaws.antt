@@ -45,7 +45,7 @@ end_of-stays : (line : Bool) (bytes more : List ℕ) (e : ℕ) → end_of line b
 end_of-stays true bytes more e h = line_end-stays bytes more e h
 end_of-stays false bytes more e h = statement_end-stays bytes more e h
 
-end_of-within : (line : Bool) (bytes : List ℕ) (e : ℕ) → end_of line bytes ≡ Some e → e < length bytes
+pub end_of-within : (line : Bool) (bytes : List ℕ) (e : ℕ) → end_of line bytes ≡ Some e → e < length bytes
 end_of-within true bytes e h = line_end-within bytes e h
 end_of-within false bytes e h = statement_end-within bytes e h
 

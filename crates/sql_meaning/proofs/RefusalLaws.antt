@@ -11,7 +11,7 @@ use Rattle.sql_tree.specs.declared.statement.Statement.{Statement}
 use Rattle.sql_grammar.specs.Answers.{Answer, Tree, Syntax, TooMuch}
 use Rattle.sql_meaning.specs.Built.{built_of}
 use Rattle.sql_meaning.specs.Shapes.{Built, Creates, Inserts, Selects}
-use Rattle.sql_meaning.specs.Statement.{Outcome, Put, all_put, carried_out, create_outcome, created_entry, given_of, items_of, outcome_of, answer_of, answer_outcome, built_outcome, put_of, put_outcome, put_source, query_of, query_outcome, refusal_of, refused, rows_put, source_of, text_outcome}
+use Rattle.sql_meaning.specs.Statement.{Outcome, Put, all_put, carried_out, causes_of, create_outcome, created_entry, given_of, items_of, outcome_of, answer_of, answer_outcome, built_outcome, put_of, put_outcome, put_source, query_of, query_outcome, refused, rows_put, source_of, text_outcome}
 use Rattle.sql_meaning.specs.declared.column.TableEntry.{TableEntry}
 use Rattle.sql_meaning.specs.World.{State, rows_of}
 
@@ -43,7 +43,7 @@ outcome_of-keeps : (hosts : HostMeanings) (state : State) (params : List Value) 
 outcome_of-keeps hosts state params text tokens (Creates c) =
     carried_out-keeps state (create_outcome state) (created_entry state.world.catalog text tokens c) (λ t. record { kept = λ causes e. cc })
 outcome_of-keeps hosts state params text tokens (Inserts i) =
-    carried_out-keeps state (put_outcome state) (put_of state.world.catalog text i) (λ p. put_source-keeps state p (refusal_of (source_of p)) (given_of (source_of p)))
+    carried_out-keeps state (put_outcome state) (put_of state.world.catalog text i) (λ p. put_source-keeps state p (causes_of (source_of p)) (given_of (source_of p)))
 outcome_of-keeps hosts state params text tokens (Selects q) =
     carried_out-keeps state (λ query. query_outcome state (items_of state params query)) (query_of state.world.catalog text q) (λ query. record { kept = λ causes e. (refl, refl) })
 

@@ -1,7 +1,7 @@
 -- What is built of a statement is no larger than its tree.
-use Rattle.std.proofs.Common.{◌≡◌, ℕ, ◌+◌, ◌≤◌, Bool, true, false, ◌&&◌, ◌||◌, not, List, [], ◌∷◌, length, map, Option, Some, None, is_some, if◌then◌else◌, refl, arith}
-use Rattle.sql_tree.specs.Layers.{PartLayer, QueryLayer, SelectLayer, ItemLayer, SourceLayer, of_item, of_part, of_query, of_select, of_source}
-use Rattle.sql_tree.specs.Sizes.{part_size, select_size, size_of_definition, size_of_query, size_of_rows, size_of_source, size_of_statement}
+use Rattle.std.proofs.Common.{◌≡◌, ℕ, ◌+◌, ◌≤◌, Bool, true, false, List, [], ◌∷◌, Option, Some, None, if◌then◌else◌, arith}
+use Rattle.sql_tree.specs.Layers.{PartLayer, QueryLayer, SelectLayer, of_item, of_part, of_query, of_select}
+use Rattle.sql_tree.specs.Sizes.{part_size, select_size, size_of_definition, size_of_rows, size_of_source, size_of_statement}
 use Rattle.sql_tree.specs.declared.expr.Expr.{Expr}
 use Rattle.sql_tree.specs.declared.expr.Expr.TheOpen.{QueryPart-F}
 use Rattle.sql_tree.specs.declared.query.FromItem.{FromItem}
@@ -17,7 +17,7 @@ use Rattle.sql_tree.specs.declared.statement.RowCommand.TheVariants as rows
 use Rattle.sql_tree.specs.declared.statement.Statement.{Statement}
 use Rattle.sql_tree.specs.declared.token.Token.{Token}
 use Rattle.sql_meaning.specs.Built.{built_of, is_built, where_built}
-use Rattle.sql_meaning.specs.Shapes.{Built, Creates, Inserts, Selects, selected_from, shape_from, shape_of, shape_of_command, shape_of_create, shape_of_definition, shape_of_insert, shape_of_part, shape_of_query, shape_of_rows, shape_of_select, size_of_built, source_for, table_of_item, values_for}
+use Rattle.sql_meaning.specs.Shapes.{Built, Selects, selected_from, shape_from, shape_of, shape_of_command, shape_of_definition, shape_of_part, shape_of_query, shape_of_rows, shape_of_select, size_of_built, source_for, table_of_item, values_for}
 
 -- whatever is built has at most this size
 abbrev Within : Option Built → ℕ → Type 0

@@ -7,7 +7,7 @@ use Rattle.sql_tree.specs.Folds.{ExprStep, ArmStep, fold_expr, fold_arm}
 use Rattle.sql_tree.specs.Layers.{ExprLayer, ResultLayer, of_expr, of_result}
 use Rattle.sql_tree.specs.declared.expr.Arm.{Arm}
 use Rattle.sql_tree.specs.declared.expr.Expr.{Expr}
-use Rattle.sql_tree.specs.declared.expr.Expr.TheOpen.{Expr-F, Arm-F, ResultColumn-F}
+use Rattle.sql_tree.specs.declared.expr.Expr.TheOpen.{Expr-F, ResultColumn-F}
 use Rattle.sql_tree.specs.declared.expr.UnaryOp.{UnaryOp}
 use Rattle.sql_tree.specs.declared.expr.UnaryOp.TheVariants as sign
 use Rattle.sql_tree.specs.declared.query.ResultColumn.{ResultColumn}

@@ -1,5 +1,6 @@
 -- Statements with what they come to, computed by the definitions.
-use Rattle.std.specs.Prelude.{◌≡◌, ℕ, ℤ, List, [], ◌∷◌, pos, negsuc, Some, None, codes, refl}
+use Rattle.std.specs.Prelude.{◌≡◌, ℕ, ℤ, List, [], ◌∷◌, pos, negsuc, Some, codes, refl}
+use Rattle.std.specs.FinSet as set
 use Rattle.std.specs.Fmt.{digits}
 use Rattle.eng_number.specs.Numbers.{text_kind}
 use Rattle.eng_value.specs.Casts.{store_as}
@@ -24,8 +25,9 @@ run state text = text_outcome no_hosts state [] text
 
 -- ---- CREATE TABLE and INSERT
 
+-- the `;` does not count among the tokens
 abbrev created : State
-created = (run new_state (codes "CREATE TABLE t(a INTEGER, b varchar(10), c)")).next
+created = (run new_state (codes "CREATE TABLE t(a INTEGER, b varchar(10), c);")).next
 
 the_entry : created.world.catalog ≡ record { name = codes "t"; columns = record { name = codes "a"; affinity = affinity.Integer } ∷ record { name = codes "b"; affinity = affinity.Text } ∷ record { name = codes "c"; affinity = affinity.Blob } ∷ []; tokens = 15 } ∷ []
 unfolding all_statement_rules count tokens_of word_kind the_text_test
@@ -51,6 +53,11 @@ refused_rows : ((put_outcome created (put ((number (pos 1) ∷ number (pos 2) �
     × ((put_outcome created (put ((number (pos 1) ∷ number (pos 2) ∷ number (pos 3) ∷ []) ∷ (text (codes "1.5") ∷ number (pos 5) ∷ number (pos 6) ∷ []) ∷ []))).next ≡ created)
 unfolding all_statement_rules count tokens_of word_kind the_text_test store_as text_kind digits
 refused_rows = (refl, refl)
+
+-- of several bad rows any may be named
+bad_rows : (put_outcome created (put ((number (pos 1) ∷ number (pos 2) ∷ literal.Bad cause.Real ∷ []) ∷ (number (pos 4) ∷ number (pos 5) ∷ literal.Bad cause.TooBig ∷ []) ∷ []))).refusal ≡ Some (set.union (only cause.Real) (only cause.TooBig))
+unfolding all_statement_rules count tokens_of word_kind the_text_test store_as text_kind digits
+bad_rows = refl
 
 refused_names : ((run created (codes "CREATE TABLE T(x)")).refusal ≡ Some (only (cause.Exists named.Table (codes "t")))) × ((run created (codes "CREATE TABLE sqlite_x(a, a)")).refusal ≡ Some (only (cause.Reserved (codes "sqlite_x")))) × ((run created (codes "CREATE TABLE u(a, A)")).refusal ≡ Some (only (cause.Exists named.Column (codes "a")))) × ((run created (codes "CREATE TABLE u(a DOUBLE)")).refusal ≡ Some (only cause.Real))
 unfolding all_statement_rules count tokens_of word_kind the_text_test

@@ -7,7 +7,6 @@ use Rattle.sql_tree.specs.Sizes.{total, size_of_filter, size_of_result, size_of_
 use Rattle.sql_tree.specs.declared.expr.Expr.{Expr}
 use Rattle.sql_tree.specs.declared.expr.Expr.TheOpen.{QueryPart-F, Source-F}
 use Rattle.sql_tree.specs.declared.query.FromItem.{FromItem}
-use Rattle.sql_tree.specs.declared.query.Query.{Query}
 use Rattle.sql_tree.specs.declared.query.ResultColumn.{ResultColumn}
 use Rattle.sql_tree.specs.declared.statement.ColumnDefinition.{ColumnDefinition}
 use Rattle.sql_tree.specs.declared.statement.Command.{Command}

@@ -1,6 +1,7 @@
 -- The outcome of a statement.
-use Rattle.std.specs.Prelude.{◌≡◌, ⊤, ℕ, suc, nat_le, nat_lt, nat_eq, Bool, true, false, List, [], ◌∷◌, ◌++◌, length, map, fold, drop, ◌-◌, ◌^◌, ℤ, negsuc, neg_ℤ, Option, Some, None, Result, Ok, Err, option_map, if◌then◌else◌, codes}
-use Rattle.std.specs.List.{list_any, flat_map}
+use Rattle.std.specs.Prelude.{◌≡◌, ⊤, ℕ, suc, nat_le, nat_eq, Bool, true, false, List, [], ◌∷◌, ◌++◌, length, map, fold, drop, ◌-◌, ◌^◌, ℤ, negsuc, neg_ℤ, Option, Some, None, Result, Ok, Err, option_map, if◌then◌else◌, codes, slice_get}
+use Rattle.std.specs.FinSet as set
+use Rattle.std.specs.List.{flat_map}
 use Rattle.std.specs.Option.{option_to_list}
 use Rattle.eng_number.specs.Numbers.{fits_integer}
 use Rattle.eng_value.specs.Applied.{merged}
@@ -36,9 +37,9 @@ use Rattle.sql_tree.specs.declared.statement.ColumnDefinition.{ColumnDefinition}
 use Rattle.sql_tree.specs.declared.expr.Expr.TheOpen.{ResultColumn-F}
 use Rattle.sql_tree.specs.declared.query.ResultColumn.{ResultColumn}
 use Rattle.sql_tree.specs.declared.statement.Statement.{Statement}
+use Rattle.sql_tree.specs.Kinds.{same_kind}
 use Rattle.sql_tree.specs.Layers.{ResultLayer, of_result}
 use Rattle.sql_tree.specs.declared.token.Token.{Token}
-use Rattle.sql_tree.specs.declared.token.TokenKind.{TokenKind}
 use Rattle.sql_tree.specs.declared.token.TokenKind.TheVariants as kind
 use Rattle.sql_meaning.specs.declared.bound.BoundExpr.{BoundExpr}
 use Rattle.sql_meaning.specs.declared.bound.BoundExpr.TheVariants as e
@@ -349,11 +350,22 @@ written state t changed rows =
       next = record (with_table state t.name rows) { changes = changed; last_rowid = last_rowid_of state.last_rowid (drop (length (rows_of state.world.tables t.name)) rows) };
     }
 
--- what a source comes to: a bad row in it fails the write before any row is put
+-- what the rows come to that are put one after another
 abbrev pub all_put : State → TableEntry → ℕ → Result (List StoredRow) CauseSet → Outcome
 all_put state t changed (Ok rows) = written state t changed rows
 all_put state t changed (Err causes) = refused state causes
 
+-- the causes of all bad items
+abbrev pub with_others : CauseSet → Option CauseSet → CauseSet
+with_others causes None = causes
+with_others causes (Some others) = set.union causes others
+
+abbrev pub causes_of : List Item → Option CauseSet
+causes_of [] = None
+causes_of (Row row ∷ items) = causes_of items
+causes_of (Failed causes ∷ items) = Some (with_others causes (causes_of items))
+
+-- a bad row in a source fails the write before any row is put, and the cause of any bad one may be named
 abbrev pub put_source : State → Put → Option CauseSet → List (List Value) → Outcome
 put_source state p (Some causes) source = refused state causes
 put_source state p None source = all_put state p.table (length source) (rows_put p.table (rows_of state.world.tables p.table.name) source)
@@ -362,7 +374,7 @@ abbrev pub source_of : Put → List Item
 source_of p = map (λ row. item_of no_causes (map literal_out row)) p.rows
 
 abbrev pub put_outcome : State → Put → Outcome
-put_outcome state p = put_source state p (refusal_of (source_of p)) (given_of (source_of p))
+put_outcome state p = put_source state p (causes_of (source_of p)) (given_of (source_of p))
 
 -- ---- any statement
 
@@ -378,13 +390,21 @@ limit_kind grammar_limit.Nestings = limit.Nestings
 limit_kind grammar_limit.Operators = limit.Operators
 limit_kind grammar_limit.Parts = limit.Parts
 
+abbrev pub is_semicolon : Option Token → Bool
+is_semicolon None = false
+is_semicolon (Some t) = same_kind t.kind kind.Semicolon
+
+-- how many tokens there are, without a `;` at their end
+abbrev pub count_of : List Token → ℕ
+count_of tokens = if is_semicolon (slice_get tokens (length tokens - 1)) then length tokens - 1 else length tokens
+
 -- the answer of a text's tokens
 abbrev pub answer_of : List ℕ → Answer Statement
 answer_of text = whole (read_statement start (tokens_of text))
 
 abbrev pub built_outcome : HostMeanings → State → List Value → List ℕ → Option Built → Outcome
 built_outcome hosts state params text None = refused state (only cause.NotYet)
-built_outcome hosts state params text (Some b) = outcome_of hosts state params text (length (tokens_of text)) b
+built_outcome hosts state params text (Some b) = outcome_of hosts state params text (count_of (tokens_of text)) b
 
 -- refused where it has no tree, or where the statement is not built
 abbrev pub answer_outcome : HostMeanings → State → List Value → List ℕ → Answer Statement → Outcome

@@ -1,5 +1,6 @@
 -- The size of a statement and the work that it asks for. Together they bound the instructions that it runs, whatever its plan.
-use Rattle.std.specs.Prelude.{ℕ, ◌+◌, ◌*◌, List, length, Option, Some, None}
+use Rattle.std.specs.Prelude.{ℕ, ◌+◌, ◌*◌, Bool, List, length, Option, Some, None, if◌then◌else◌}
+use Rattle.std.specs.Result.{is_ok}
 use Rattle.sql_lex.specs.Tokens.{tokens_of}
 use Rattle.sql_tree.specs.declared.statement.Statement.{Statement}
 use Rattle.sql_tree.specs.declared.token.Token.{Token}
@@ -8,12 +9,12 @@ use Rattle.sql_meaning.specs.Spelled.{name_at}
 use Rattle.sql_grammar.specs.Answers.{Answer, Tree, Syntax, TooMuch}
 use Rattle.sql_meaning.specs.Built.{built_of}
 use Rattle.sql_meaning.specs.Shapes.{Built, Creates, Inserts, Selects}
-use Rattle.sql_meaning.specs.Statement.{answer_of}
+use Rattle.sql_meaning.specs.Statement.{answer_of, count_of, created_entry, put_of, query_of}
 use Rattle.sql_meaning.specs.World.{State, entry_named, rows_of}
 
 -- ---- size
 
--- what opening a table adds to the size: the tokens of its CREATE TABLE, and its columns
+-- what opening a table adds to the size: the tokens of its CREATE TABLE, without the `;`, and its columns
 abbrev pub table_size : Option TableEntry → ℕ
 table_size None = 0
 table_size (Some t) = t.tokens + length t.columns
@@ -53,9 +54,17 @@ work_of state text (Selects q) = scan_work state text q.from
 
 -- ---- the bound
 
+-- its names are bound, so that it comes to evaluation
+abbrev pub is_bound : State → List ℕ → Built → Bool
+is_bound state text (Creates c) = is_ok (created_entry state.world.catalog text (count_of (tokens_of text)) c)
+is_bound state text (Inserts i) = is_ok (put_of state.world.catalog text i)
+is_bound state text (Selects q) = is_ok (query_of state.world.catalog text q)
+
+-- what is refused before evaluation runs nothing
 abbrev pub bound_of : State → List ℕ → ℕ → Option Built → ℕ
-bound_of state text tokens None = 256 * tokens
-bound_of state text tokens (Some s) = 256 * (tokens + table_size (opened state text s)) * (work_of state text s + 1)
+bound_of state text tokens None = 0
+bound_of state text tokens (Some s) =
+    if is_bound state text s then 256 * (tokens + table_size (opened state text s)) * (work_of state text s + 1) else 0
 
 -- what of an answer runs
 abbrev pub built_in : List ℕ → Answer Statement → Option Built

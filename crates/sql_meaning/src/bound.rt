@@ -6,7 +6,7 @@ use sql_tree::Token;
 use sqlite_items::{Boxed, Items};
 
 /// What a literal stands for: a value, or why it has none.
-#[derive(Debug, Drop)]
+#[derive(Drop)]
 pub enum Literal {
     Value(Value),
     Bad(Cause),
@@ -14,7 +14,6 @@ pub enum Literal {
 
 /// An expression over the rows of a FROM, with columns by their places.
 #[cycle(bound)]
-#[derive(Debug)]
 pub enum BoundExpr {
     Literal(Literal),
     /// A column of an item of the FROM: the item's place, leftmost 0, and the column's place in it.
@@ -82,7 +81,6 @@ impl Drop for BoundExpr {
 
 /// `WHEN condition THEN value`
 #[cycle(bound)]
-#[derive(Debug)]
 pub struct BoundArm {
     pub condition: BoundExpr,
     pub value: BoundExpr,
@@ -99,7 +97,6 @@ impl Drop for BoundArm {
 
 /// `WHEN operand THEN value`, where the operand is compared so.
 #[cycle(bound)]
-#[derive(Debug)]
 pub struct BoundMatch {
     pub sides: Sides,
     pub operand: BoundExpr,
@@ -120,14 +117,14 @@ impl Drop for BoundMatch {
 }
 
 /// A literal of INSERT, with a minus in front or without.
-#[derive(Clone, Copy, Debug, PartialEq, Eq)]
+#[derive(Clone, Copy, PartialEq, Eq)]
 pub struct SignedLiteral {
     pub minus: bool,
     pub literal: Token,
 }
 
 /// Rows of literals for the table in a place of the catalog: its name as declared, and the affinities of its columns.
-#[derive(Debug, Drop)]
+#[derive(Drop)]
 pub struct BoundInsert {
     pub table: u32,
     pub name: Text,
@@ -136,7 +133,7 @@ pub struct BoundInsert {
 }
 
 /// A query over the table in a place of the catalog, or over none: what each row has to pass, and what is shown of it.
-#[derive(Debug, Drop)]
+#[derive(Drop)]
 pub struct BoundSelect {
     pub table: Option<u32>,
     pub conjuncts: Items<BoundExpr>,

@@ -2,7 +2,7 @@
 use eng_value::Builtin;
 
 /// How many arguments a function takes.
-#[derive(Clone, Copy, Debug, PartialEq, Eq)]
+#[derive(Clone, Copy, PartialEq, Eq)]
 pub enum ArgumentCount {
     Exactly(usize),
     /// From the first number to the second.
@@ -14,7 +14,7 @@ pub enum ArgumentCount {
 /// regard to the case of ASCII letters.
 pub const BUILTINS: [(&str, Builtin, ArgumentCount); 23] = [
     ("abs", Builtin::Abs, ArgumentCount::Exactly(1)),
-    ("char", Builtin::Char, ArgumentCount::AtLeast(0)),
+    ("char", Builtin::Char, ArgumentCount::AtLeast(1)),
     ("coalesce", Builtin::Coalesce, ArgumentCount::AtLeast(2)),
     ("hex", Builtin::Hex, ArgumentCount::Exactly(1)),
     ("ifnull", Builtin::IfNull, ArgumentCount::Exactly(2)),

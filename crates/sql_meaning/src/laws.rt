@@ -1,13 +1,15 @@
 // What the definitions promise, in the subject's own words. Nothing here runs: each contract is a law.
-ghost use Rattle.std.specs.Prelude.{◌≡◌, ◌↔◌, ◌⊎◌, ℕ, List, ◌++◌, Any, Option, Some, take, true, false};
+ghost use Rattle.std.specs.Prelude.{◌≡◌, ◌↔◌, ◌⊎◌, ℕ, List, ◌++◌, Any, Bool, Option, Some, None, take, true, false};
+ghost use Rattle.std.specs.List.{flat_map};
 ghost use Rattle.eng_value.specs.Causes.{CauseSet};
 ghost use Rattle.eng_value.specs.HostMeanings.{HostMeanings};
 ghost use Rattle.eng_value.specs.declared.cause.Cause.{Cause};
 ghost use Rattle.eng_value.specs.declared.value.Value.{Value};
 ghost use Rattle.sql_meaning.specs.declared.script.Ending.{Ending};
 ghost use Rattle.sql_meaning.specs.declared.script.Options.{Options};
-ghost use Rattle.sql_meaning.specs.Parts.{parts_from, parts_of};
+ghost use Rattle.sql_meaning.specs.Parts.{bad_character, parts_from, parts_of};
 ghost use Rattle.sql_meaning.specs.Runs.{AreAsMeant, IsEnough, IsFrontOf};
+ghost use Rattle.sql_meaning.specs.Segments.{AreSegments, Segment, bytes_of, parts_in};
 ghost use Rattle.sql_meaning.specs.Script.{AreOutcomes, Came, ends, is_failed, status_by};
 ghost use Rattle.sql_meaning.specs.Statement.{IsNamed, text_outcome};
 ghost use Rattle.sql_meaning.specs.World.{State, new_state};
@@ -64,4 +66,17 @@ pub fn statuses_tell_of_failures()
         → status_by options ending came ≡ 3 → ending ≡ Ending.ReadFault }
     ensures too_long { (options : Options) (ending : Ending) (came : List Came)
         → status_by options ending came ≡ 5 → ending ≡ Ending.TooLong }
+{}
+
+/// A text is put together of blanks, of dot lines and statements with the bytes that end them, and of what is pending at its end, and that
+/// in one way; its parts are those of these. A script without a bad character is such a text.
+pub fn scripts_are_put_together()
+    ensures segments { (runs fresh : Bool) (text : List ℕ) → (segments : List Segment) × AreSegments fresh text segments
+        × (parts_from runs fresh 0 text ≡ flat_map (parts_in runs) segments) }
+    ensures bytes { (fresh : Bool) (text : List ℕ) (segments : List Segment) → AreSegments fresh text segments
+        → flat_map bytes_of segments ≡ text }
+    ensures one_way { (fresh : Bool) (text : List ℕ) (some others : List Segment)
+        → AreSegments fresh text some → AreSegments fresh text others → some ≡ others }
+    ensures script { (bytes : List ℕ) → bad_character Ending.End bytes ≡ None
+        → parts_of bytes Ending.End ≡ parts_from true true 0 bytes }
 {}

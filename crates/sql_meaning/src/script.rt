@@ -2,7 +2,7 @@
 use eng_value::Cause;
 
 /// How a script is run (Command Line Shell For SQLite, "-bail").
-#[derive(Clone, Copy, Debug, PartialEq, Eq)]
+#[derive(Clone, Copy, PartialEq, Eq)]
 pub struct Options {
     /// How many instructions a statement may run.
     pub budget: u64,
@@ -11,7 +11,7 @@ pub struct Options {
 }
 
 /// How the bytes of a script end.
-#[derive(Clone, Copy, Debug, PartialEq, Eq)]
+#[derive(Clone, Copy, PartialEq, Eq)]
 pub enum Ending {
     /// There is no byte behind them.
     End,
@@ -22,7 +22,7 @@ pub enum Ending {
 }
 
 /// Why a part of a script has an error line.
-#[derive(Debug, Drop)]
+#[derive(Drop)]
 pub enum Failure {
     /// The statement was refused, for this cause.
     Refused(Cause),

@@ -5,7 +5,7 @@ ghost use Rattle.sql_shell.specs.Courses.{at_end, ended_in, status_in};
 use sql_meaning::Ending;
 
 /// How the run of a script's parts went.
-#[derive(Clone, Copy, Debug, PartialEq, Eq)]
+#[derive(Clone, Copy, PartialEq, Eq)]
 pub(crate) enum Course {
     /// All of them ran, and none has an error line.
     Passed,

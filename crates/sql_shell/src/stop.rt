@@ -5,7 +5,7 @@ ghost use Rattle.sql_shell.specs.declared.stop.Stop.TheVariants.{Memory};
 use std::alloc::AllocError;
 
 /// Why a run ends before its script does.
-#[derive(Clone, Copy, Debug, PartialEq, Eq)]
+#[derive(Clone, Copy, PartialEq, Eq)]
 pub(crate) enum Stop {
     /// No memory was found.
     Memory,

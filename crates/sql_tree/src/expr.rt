@@ -3,7 +3,7 @@ use crate::{Query, Token};
 use sqlite_items::{Boxed, Items};
 
 /// An operator in front of its operand, or a test behind it.
-#[derive(Clone, Copy, Debug, PartialEq, Eq)]
+#[derive(Clone, Copy, PartialEq, Eq)]
 pub enum UnaryOp {
     Negative,
     Positive,
@@ -14,7 +14,7 @@ pub enum UnaryOp {
 }
 
 /// An operator between two operands.
-#[derive(Clone, Copy, Debug, PartialEq, Eq)]
+#[derive(Clone, Copy, PartialEq, Eq)]
 pub enum BinaryOp {
     Or,
     And,
@@ -42,7 +42,7 @@ pub enum BinaryOp {
 }
 
 /// What stands between the parentheses of a call.
-#[derive(Clone, Copy, Debug, PartialEq, Eq)]
+#[derive(Clone, Copy, PartialEq, Eq)]
 pub enum Arguments {
     /// `*`
     Star,
@@ -53,7 +53,7 @@ pub enum Arguments {
 }
 
 /// A number with its sign, if any.
-#[derive(Clone, Copy, Debug, PartialEq, Eq)]
+#[derive(Clone, Copy, PartialEq, Eq)]
 pub struct SignedNumber {
     pub sign: Option<Token>,
     pub number: Token,

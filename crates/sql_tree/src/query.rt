@@ -3,7 +3,7 @@ use crate::{Expr, Span, Token};
 use sqlite_items::{Boxed, Items};
 
 /// How a part of a compound query goes with those in front of it.
-#[derive(Clone, Copy, Debug, PartialEq, Eq)]
+#[derive(Clone, Copy, PartialEq, Eq)]
 pub enum CompoundOp {
     Union,
     UnionAll,
@@ -12,14 +12,14 @@ pub enum CompoundOp {
 }
 
 /// Where NULLs stand in an order.
-#[derive(Clone, Copy, Debug, PartialEq, Eq)]
+#[derive(Clone, Copy, PartialEq, Eq)]
 pub enum NullsOrder {
     First,
     Last,
 }
 
 /// How an item of FROM is joined with those in front of it. `,`, JOIN, INNER JOIN and CROSS JOIN are the same.
-#[derive(Clone, Copy, Debug, PartialEq, Eq)]
+#[derive(Clone, Copy, PartialEq, Eq)]
 pub struct Join {
     pub natural: bool,
     /// LEFT JOIN

@@ -20,7 +20,7 @@ impl Drop for Statement {
 }
 
 /// What EXPLAIN gives in the place of a statement's rows (EXPLAIN, EXPLAIN QUERY PLAN).
-#[derive(Clone, Copy, Debug, PartialEq, Eq)]
+#[derive(Clone, Copy, PartialEq, Eq)]
 pub enum Explain {
     /// Its instructions.
     Instructions,
@@ -68,7 +68,7 @@ impl Drop for RowCommand {
 }
 
 /// What a write does where a constraint fails (ON CONFLICT). ABORT is what comes with no word.
-#[derive(Clone, Copy, Debug, PartialEq, Eq)]
+#[derive(Clone, Copy, PartialEq, Eq)]
 pub enum ConflictChoice {
     Abort,
     Ignore,
@@ -281,7 +281,7 @@ impl Drop for TableConstraint {
 }
 
 /// `name [COLLATE collation] [ASC | DESC]`
-#[derive(Clone, Copy, Debug, PartialEq, Eq)]
+#[derive(Clone, Copy, PartialEq, Eq)]
 pub struct IndexedColumn {
     pub name: Token,
     pub collation: Option<Token>,
@@ -345,7 +345,7 @@ impl Drop for TriggerDefinition {
 }
 
 /// When a trigger fires. BEFORE is what comes with no word.
-#[derive(Clone, Copy, Debug, PartialEq, Eq)]
+#[derive(Clone, Copy, PartialEq, Eq)]
 pub enum TriggerTime {
     Before,
     After,
@@ -388,7 +388,7 @@ impl Drop for VirtualTableDefinition {
 }
 
 /// `DROP kind [IF EXISTS] name`
-#[derive(Clone, Copy, Debug, PartialEq, Eq)]
+#[derive(Clone, Copy, PartialEq, Eq)]
 pub struct Remove {
     pub kind: ObjectKind,
     pub if_exists: bool,
@@ -396,7 +396,7 @@ pub struct Remove {
 }
 
 /// What DROP takes out.
-#[derive(Clone, Copy, Debug, PartialEq, Eq)]
+#[derive(Clone, Copy, PartialEq, Eq)]
 pub enum ObjectKind {
     Table,
     Index,
@@ -405,7 +405,7 @@ pub enum ObjectKind {
 }
 
 /// BEGIN, END and what stands between them (Transaction, SAVEPOINT). DEFERRED, IMMEDIATE and EXCLUSIVE mean nothing.
-#[derive(Clone, Copy, Debug, PartialEq, Eq)]
+#[derive(Clone, Copy, PartialEq, Eq)]
 pub enum Transaction {
     Begin,
     Commit,
@@ -416,7 +416,7 @@ pub enum Transaction {
 }
 
 /// `PRAGMA name [= value]`
-#[derive(Clone, Copy, Debug, PartialEq, Eq)]
+#[derive(Clone, Copy, PartialEq, Eq)]
 pub struct Pragma {
     pub name: Token,
     pub value: Option<Token>,

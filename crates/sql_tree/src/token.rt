@@ -1,14 +1,14 @@
 // Tokens and where they stand.
 
 /// Bytes of a statement's text: from the start to in front of the end, counted from 0.
-#[derive(Clone, Copy, Debug, PartialEq, Eq)]
+#[derive(Clone, Copy, PartialEq, Eq)]
 pub struct Span {
     pub start: usize,
     pub end: usize,
 }
 
 /// What a token is. Each keyword that the grammar wants has a kind of its own.
-#[derive(Clone, Copy, Debug, PartialEq, Eq)]
+#[derive(Clone, Copy, PartialEq, Eq)]
 pub enum TokenKind {
     /// A word that is no keyword.
     Word,
@@ -160,7 +160,7 @@ pub enum TokenKind {
 }
 
 /// A token of a statement's text.
-#[derive(Clone, Copy, Debug, PartialEq, Eq)]
+#[derive(Clone, Copy, PartialEq, Eq)]
 pub struct Token {
     pub kind: TokenKind,
     pub span: Span,

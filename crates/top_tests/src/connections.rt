@@ -10,7 +10,7 @@ use std::sync::ledger::{Blank, Ledger};
 use std::test::Fail;
 
 // What a statement came to; `Refused` has the result code of the cause.
-#[derive(Clone, Copy, Debug, PartialEq)]
+#[derive(Clone, Copy, PartialEq)]
 enum Outcome {
     Done { given: u64, changed: u64 },
     Refused(u8),
@@ -23,52 +23,74 @@ fn outcome_of(answer: Result<Done, Refusal>) -> Outcome {
             given: done.given,
             changed: done.changed,
         },
-        Err(refusal) => match &refusal.cause {
-            Cause::Interrupted(ran) => Outcome::Interrupted(*ran),
-            cause => Outcome::Refused(cause.code()),
-        },
+        Err(refusal) => outcome_of_cause(&refusal.cause),
+    }
+}
+
+fn outcome_of_cause(cause: &Cause) -> Outcome {
+    match cause {
+        Cause::Interrupted(ran) => Outcome::Interrupted(*ran),
+        cause => Outcome::Refused(cause.code()),
+    }
+}
+
+// A connection and a sink that keeps what its statements give.
+#[derive(Drop)]
+struct Session {
+    connection: Connection,
+    rows: MemoryRows,
+}
+
+fn session_of(alloc: Global, budget: u64) -> Session {
+    Session {
+        connection: Connection::new(alloc, budget),
+        rows: MemoryRows::new(alloc, Vec::new(alloc), Vec::new(alloc)),
     }
 }
 
 fn run_counted<L: Ledger>(
     blank: Blank,
     alloc: Global,
-    connection: &mut Connection,
+    session: &mut Session,
     sql: &String,
     params: &[Value],
-    rows: &mut MemoryRows,
 ) -> Outcome
     requires name { blank.name ≡ L.name }
     requires parts { blank.parts ≡ L.parts }
     requires some { 0 < blank.parts }
 {
     let mut steps = Steps::<L>::new(blank);
-    outcome_of(connection.run(alloc, &mut Hosts {}, sql.as_str(), params, rows, &mut steps))
+    outcome_of(
+        session.connection.run(
+            alloc,
+            &mut Hosts {},
+            sql.as_str(),
+            params,
+            &mut session.rows,
+            &mut steps,
+        ),
+    )
 }
 
 fn run(
     alloc: Global,
-    connection: &mut Connection,
-    sql: &str,
-    rows: &mut MemoryRows,
-) -> Result<Outcome, AllocError> {
-    run_with(alloc, connection, sql, &[], rows)
-}
-
-// With parameters.
-fn run_with(
-    alloc: Global,
-    connection: &mut Connection,
+    session: &mut Session,
     sql: &str,
     params: &[Value],
-    rows: &mut MemoryRows,
 ) -> Result<Outcome, AllocError> {
     let sql = sql.to_string(alloc)?;
-    Ok(run_counted::<Brand>(Blank::new(1), alloc, connection, &sql, params, rows))
+    Ok(run_counted::<Brand>(Blank::new(1), alloc, session, &sql, params))
 }
 
-fn no_rows(alloc: Global) -> MemoryRows {
-    MemoryRows::new(alloc, Vec::new(alloc), Vec::new(alloc))
+// Whether a statement does what it means, with so many rows given and changed.
+fn does(
+    alloc: Global,
+    session: &mut Session,
+    sql: &str,
+    given: u64,
+    changed: u64,
+) -> Result<bool, AllocError> {
+    Ok(run(alloc, session, sql, &[])? == Outcome::Done { given, changed })
 }
 
 // The integers of rows, one row behind the other, a value of another type as -1.
@@ -90,186 +112,149 @@ fn integer(value: &Value) -> i64 {
 }
 
 // The rows of a table with their rowids in front, or one integer of 404 where there is no such table.
-fn contents(alloc: Global, connection: &Connection, name: &str) -> Result<Vec<i64>, AllocError> {
-    match connection.table(alloc, name) {
+fn contents(alloc: Global, session: &Session, name: &str) -> Result<Vec<i64>, AllocError> {
+    match session.connection.table(alloc, name) {
         Ok(Some(rows)) => integers(alloc, rows.as_slice()),
-        Ok(None) => Ok(vec![in alloc; 404]?),
+        Ok(None) => not_found(alloc),
         Err(_) => Err(AllocError),
     }
 }
 
-const WROTE: Outcome = Outcome::Done {
-    given: 0,
-    changed: 1,
-};
+fn not_found(alloc: Global) -> Result<Vec<i64>, AllocError> {
+    let mut integers = Vec::new(alloc);
+    integers.push(404)?;
+    Ok(integers)
+}
+
+fn holds(alloc: Global, session: &Session, name: &str, wanted: &[i64]) -> Result<bool, AllocError> {
+    Ok(contents(alloc, session, name)?.as_slice() == wanted)
+}
+
+// Whether these are the integers that the statements gave.
+fn gave(alloc: Global, session: &Session, wanted: &[i64]) -> Result<bool, AllocError> {
+    Ok(integers(alloc, session.rows.rows())?.as_slice() == wanted)
+}
+
+fn gave_a_front(alloc: Global, session: &Session, whole: &[i64]) -> Result<bool, AllocError> {
+    Ok(whole.starts_with(&integers(alloc, session.rows.rows())?))
+}
 
 // A table t of one column with the rows 4, 6 and 5.
-fn three_rows(alloc: Global) -> Result<Connection, AllocError> {
-    let mut connection = Connection::new(alloc, DEFAULT_BUDGET);
+fn three_rows(alloc: Global) -> Result<Session, AllocError> {
+    let mut session = session_of(alloc, DEFAULT_BUDGET);
     for sql in [
         "CREATE TABLE t(a INTEGER)",
         "INSERT INTO t VALUES(4)",
         "INSERT INTO t VALUES(6)",
         "INSERT INTO t VALUES(5)",
     ] {
-        run(alloc, &mut connection, sql, &mut no_rows(alloc))?;
+        run(alloc, &mut session, sql, &[])?;
     }
-    Ok(connection)
+    Ok(session)
 }
 
-#[test]
-fn statements_do_what_they_mean(rt: HostRuntime) -> Result<(), Fail> {
-    let alloc = rt.alloc();
-    let mut connection = Connection::new(alloc, DEFAULT_BUDGET);
-    let mut rows = no_rows(alloc);
-    assert_eq!(rt;
-        contents(alloc, &connection, "t")?.as_slice(),
-        [404].as_slice()
-    );
-    for (sql, given, changed) in [
-        ("CREATE TABLE t(a INTEGER, b INTEGER)", 0, 0),
-        ("INSERT INTO t VALUES(1, 10)", 0, 1),
-        ("INSERT INTO T VALUES(3, 20)", 0, 1),
-        ("INSERT INTO t VALUES(2, 30)", 0, 1),
-        ("SELECT b, a FROM t WHERE a > 1", 2, 0),
-        ("INSERT INTO t VALUES(4, 40), ('5', 50)", 0, 2),
-    ] {
-        let wanted = Outcome::Done { given, changed };
-        assert_eq!(rt;
-            run(alloc, &mut connection, sql, &mut rows)?,
-            wanted,
-            "{sql}"
-        );
-    }
-    assert_eq!(rt;
-        integers(alloc, rows.rows())?.as_slice(),
-        [20, 3, 30, 2].as_slice()
-    );
-    assert_eq!(rt;
-        contents(alloc, &connection, "T")?.as_slice(),
-        [1, 1, 10, 2, 3, 20, 3, 2, 30, 4, 4, 40, 5, 5, 50].as_slice()
-    );
-    assert_eq!(rt; connection.changes(), 2);
-    assert_eq!(rt; connection.last_rowid(), 5);
-    assert_eq!(rt; connection.in_transaction(), false);
-    Ok(())
-}
+const STATEMENTS: [(&str, u64, u64); 6] = [
+    ("CREATE TABLE t(a INTEGER, b INTEGER)", 0, 0),
+    ("INSERT INTO t VALUES(1, 10)", 0, 1),
+    ("INSERT INTO T VALUES(3, 20)", 0, 1),
+    ("INSERT INTO t VALUES(2, 30)", 0, 1),
+    ("SELECT b, a FROM t WHERE a > 1", 2, 0),
+    ("INSERT INTO t VALUES(4, 40), ('5', 50)", 0, 2),
+];
 
-#[test]
-fn a_refused_statement_leaves_the_numbers(rt: HostRuntime) -> Result<(), Fail> {
-    let alloc = rt.alloc();
-    let mut connection = three_rows(alloc)?;
-    for sql in [
-        "",
-        "INSERT INTO t VALUES(7), ('1.5')",
-        "INSERT INTO t VALUES(7), (1.5)",
-        "INSERT INTO t VALUES(7, 8)",
-        "INSERT INTO u VALUES(7)",
-        "CREATE TABLE T(b TEXT)",
-        "CREATE TABLE u(b REAL)",
-        "SELECT b FROM t WHERE a > 1",
-        "SELECT a FROM t WHERE a || x'ff'",
-    ] {
-        let mut rows = no_rows(alloc);
-        let outcome = run(alloc, &mut connection, sql, &mut rows)?;
-        assert_eq!(rt; outcome, Outcome::Refused(1), "{sql}");
-        assert_eq!(rt; rows.rows().len(), 0, "{sql}");
-        assert_eq!(rt;
-            contents(alloc, &connection, "t")?.as_slice(),
-            [1, 4, 2, 6, 3, 5].as_slice(),
-            "{sql}"
-        );
-        assert_eq!(rt; connection.changes(), 1, "{sql}");
-        assert_eq!(rt; connection.last_rowid(), 3, "{sql}");
-    }
-    Ok(())
-}
-
-// A test to be run where allocations fail too: an INSERT that finds no memory leaves the rows that were there. What is expected
-// takes no memory in the loop.
-#[test]
-fn an_insert_puts_its_row_or_changes_nothing(rt: HostRuntime) -> Result<(), Fail> {
-    let alloc = rt.alloc();
-    let mut connection = three_rows(alloc)?;
-    let mut rows = no_rows(alloc);
-    let mut expected = contents(alloc, &connection, "t")?;
-    expected.reserve(100)?;
-    for _ in 0..40 {
-        let outcome = run(alloc, &mut connection, "INSERT INTO t VALUES(7)", &mut rows)?;
-        if outcome == WROTE {
-            expected.push(connection.last_rowid())?;
-            expected.push(7)?;
-        } else {
-            assert_eq!(rt; outcome, Outcome::Refused(Cause::Mem.code()));
-            assert_eq!(rt;
-                contents(alloc, &connection, "t")?.as_slice(),
-                expected.as_slice()
-            );
+fn statements_do(alloc: Global, session: &mut Session) -> Result<bool, AllocError> {
+    for (sql, given, changed) in STATEMENTS {
+        if !does(alloc, session, sql, given, changed)? {
+            return Ok(false);
         }
     }
-    assert_eq!(rt;
-        contents(alloc, &connection, "t")?.as_slice(),
-        expected.as_slice()
-    );
-    Ok(())
+    Ok(true)
 }
 
-// Which calls of the sink fail and find no memory, and how many rows it takes before.
-#[test]
-fn a_sink_that_takes_no_row_ends_the_statement(rt: HostRuntime) -> Result<(), Fail> {
-    let alloc = rt.alloc();
-    let mut connection = three_rows(alloc)?;
-    for (failing, starved, cause, taken) in [
-        ([0u64].as_slice(), [].as_slice(), Cause::SinkFault, 0),
-        ([1].as_slice(), [].as_slice(), Cause::SinkFault, 1),
-        ([2].as_slice(), [].as_slice(), Cause::SinkFault, 2),
-        ([].as_slice(), [1u64].as_slice(), Cause::Mem, 1),
-    ] {
-        let mut rows = MemoryRows::new(alloc, failing.to_vec(alloc)?, starved.to_vec(alloc)?);
-        let outcome = run(alloc, &mut connection, "SELECT a FROM t", &mut rows)?;
-        assert_eq!(rt; outcome, Outcome::Refused(cause.code()));
-        assert_eq!(rt; rows.rows().len(), taken);
-        assert_eq!(rt; connection.last_rowid(), 3);
+// Statements do what they mean.
+fn statements(alloc: Global) -> Result<bool, AllocError> {
+    let mut session = session_of(alloc, DEFAULT_BUDGET);
+    if !holds(alloc, &session, "t", &[404])? || !statements_do(alloc, &mut session)? {
+        return Ok(false);
     }
-    Ok(())
+    let is_numbered = session.connection.changes() == 2
+        && session.connection.last_rowid() == 5
+        && !session.connection.in_transaction();
+    Ok(
+        is_numbered
+            && gave(alloc, &session, &[20, 3, 30, 2])?
+            && holds(
+                alloc,
+                &session,
+                "T",
+                &[1, 1, 10, 2, 3, 20, 3, 2, 30, 4, 4, 40, 5, 5, 50],
+            )?,
+    )
 }
 
-// A parameter by its number. One that is missing is NULL, and one that is too long is bad where it is looked at.
-#[test]
-fn parameters_have_their_values(rt: HostRuntime) -> Result<(), Fail> {
-    let alloc = rt.alloc();
-    let mut connection = three_rows(alloc)?;
-    let mut rows = no_rows(alloc);
-    let params = vec![in alloc;
-        Value::Integer(5),
-        Value::Integer(7),
-        blob(alloc, 1_000_000)?,
-        blob(alloc, 1_000_001)?,
-    ]?;
-    for (sql, wanted) in [
-        ("SELECT a, ?2, ? IS NULL FROM t WHERE a >= ?1", 2),
-        ("SELECT length(?3), ?9 IS NULL, coalesce(?1, ?4)", 1),
-    ] {
-        let outcome = run_with(alloc, &mut connection, sql, &params, &mut rows)?;
-        let done = Outcome::Done {
-            given: wanted,
-            changed: 0,
-        };
-        assert_eq!(rt; outcome, done, "{sql}");
+const REFUSED: [&str; 9] = [
+    "",
+    "INSERT INTO t VALUES(7), ('1.5')",
+    "INSERT INTO t VALUES(7), (1.5)",
+    "INSERT INTO t VALUES(7, 8)",
+    "INSERT INTO u VALUES(7)",
+    "CREATE TABLE T(b TEXT)",
+    "CREATE TABLE u(b REAL)",
+    "SELECT b FROM t WHERE a > 1",
+    "SELECT a FROM t WHERE a || x'ff'",
+];
+
+// Whether a statement is refused, gives no row and changes nothing.
+fn is_refused(alloc: Global, session: &mut Session, sql: &str) -> Result<bool, AllocError> {
+    let outcome = run(alloc, session, sql, &[])?;
+    let is_numbered = session.connection.changes() == 1 && session.connection.last_rowid() == 3;
+    Ok(
+        outcome == Outcome::Refused(1)
+            && is_numbered
+            && session.rows.rows().is_empty()
+            && holds(alloc, session, "t", &[1, 4, 2, 6, 3, 5])?,
+    )
+}
+
+// A refused statement leaves the numbers.
+fn refusals(alloc: Global) -> Result<bool, AllocError> {
+    let mut session = three_rows(alloc)?;
+    for sql in REFUSED {
+        if !is_refused(alloc, &mut session, sql)? {
+            return Ok(false);
+        }
     }
-    let too_long = run_with(
-        alloc,
-        &mut connection,
-        "SELECT length(?4)",
-        &params,
-        &mut rows,
-    )?;
-    assert_eq!(rt; too_long, Outcome::Refused(18));
-    assert_eq!(rt;
-        integers(alloc, rows.rows())?.as_slice(),
-        [6, 7, 0, 5, 7, 0, 1_000_000, 1, 5].as_slice()
-    );
-    Ok(())
+    Ok(true)
+}
+
+// Whether a sink whose calls of these numbers fail and find no memory ends the statement with this code, and how many rows it
+// takes before.
+fn sink_ends(
+    alloc: Global,
+    failing: &[u64],
+    starved: &[u64],
+    code: u8,
+    taken: usize,
+) -> Result<bool, AllocError> {
+    let mut session = three_rows(alloc)?;
+    let failing = failing.to_vec(alloc)?;
+    session.rows = MemoryRows::new(alloc, failing, starved.to_vec(alloc)?);
+    let outcome = run(alloc, &mut session, "SELECT a FROM t", &[])?;
+    Ok(
+        outcome == Outcome::Refused(code)
+            && session.rows.rows().len() == taken
+            && session.connection.last_rowid() == 3,
+    )
+}
+
+// A sink that takes no row ends the statement: it failed (10) or found no memory (7).
+fn sinks(alloc: Global) -> Result<bool, AllocError> {
+    Ok(
+        sink_ends(alloc, &[0], &[], 10, 0)?
+            && sink_ends(alloc, &[1], &[], 10, 1)?
+            && sink_ends(alloc, &[2], &[], 10, 2)?
+            && sink_ends(alloc, &[], &[1], 7, 1)?,
+    )
 }
 
 fn blob(alloc: Global, length: usize) -> Result<Value, AllocError> {
@@ -278,48 +263,141 @@ fn blob(alloc: Global, length: usize) -> Result<Value, AllocError> {
     Ok(Value::Blob(Blob::new(bytes)))
 }
 
-// Each statement has the whole budget. One that needs more is interrupted when all of it ran, and changes nothing.
-#[test]
-fn each_budget_interrupts_or_is_enough(rt: HostRuntime) -> Result<(), Fail> {
-    let alloc = rt.alloc();
-    for budget in 10..60 {
-        let mut connection = Connection::new(alloc, budget);
-        let mut rows = no_rows(alloc);
-        run(
-            alloc,
-            &mut connection,
-            "CREATE TABLE t(a INTEGER)",
-            &mut rows,
-        )?;
-        let wrote = run(
-            alloc,
-            &mut connection,
-            "INSERT INTO t VALUES(7), (8)",
-            &mut rows,
-        )?;
-        let given = run(alloc, &mut connection, "SELECT a FROM t", &mut rows)?;
-        let left = contents(alloc, &connection, "t")?;
-        if wrote == Outcome::Interrupted(budget) {
-            assert_eq!(rt; left.len(), 0);
-            assert_eq!(rt; connection.last_rowid(), 0);
-        } else {
-            assert_eq!(rt;
-                wrote,
-                Outcome::Done {
-                    given: 0,
-                    changed: 2
-                }
-            );
-            assert_eq!(rt; left.as_slice(), [1, 7, 2, 8].as_slice());
-            assert_eq!(rt; connection.last_rowid(), 2);
-        }
-        if given == Outcome::Interrupted(budget) {
-            assert!(rt;
-                [7, 8]
-                    .as_slice()
-                    .starts_with(&integers(alloc, rows.rows())?)
-            );
+// The first is 5, the second 7, the third as long as may be and the fourth longer.
+fn four_params(alloc: Global) -> Result<Vec<Value>, AllocError> {
+    let mut params = Vec::new(alloc);
+    params.push(Value::Integer(5))?;
+    params.push(Value::Integer(7))?;
+    params.push(blob(alloc, 1_000_000)?)?;
+    params.push(blob(alloc, 1_000_001)?)?;
+    Ok(params)
+}
+
+const WITH_PARAMS: [(&str, Outcome); 3] = [
+    (
+        "SELECT a, ?2, ? IS NULL FROM t WHERE a >= ?1",
+        Outcome::Done {
+            given: 2,
+            changed: 0,
+        },
+    ),
+    (
+        "SELECT length(?3), ?9 IS NULL, coalesce(?1, ?4)",
+        Outcome::Done {
+            given: 1,
+            changed: 0,
+        },
+    ),
+    ("SELECT length(?4)", Outcome::Refused(18)),
+];
+
+fn params_count(
+    alloc: Global,
+    session: &mut Session,
+    params: &[Value],
+) -> Result<bool, AllocError> {
+    for (sql, wanted) in WITH_PARAMS {
+        if run(alloc, session, sql, params)? != wanted {
+            return Ok(false);
         }
     }
+    Ok(true)
+}
+
+// A parameter goes by its number. One that is missing is NULL, and one that is too long is bad where it is looked at.
+fn parameters(alloc: Global) -> Result<bool, AllocError> {
+    let params = four_params(alloc)?;
+    let mut session = three_rows(alloc)?;
+    Ok(
+        params_count(alloc, &mut session, &params)?
+            && gave(alloc, &session, &[6, 7, 0, 5, 7, 0, 1_000_000, 1, 5])?,
+    )
+}
+
+// Whether two rows are put as the outcome says.
+fn is_put(
+    alloc: Global,
+    session: &Session,
+    budget: u64,
+    outcome: Outcome,
+) -> Result<bool, AllocError> {
+    let last = session.connection.last_rowid();
+    if outcome == Outcome::Interrupted(budget) {
+        return Ok(last == 0 && holds(alloc, session, "t", &[])?);
+    }
+    let wanted = Outcome::Done {
+        given: 0,
+        changed: 2,
+    };
+    Ok(outcome == wanted && last == 2 && holds(alloc, session, "t", &[1, 7, 2, 8])?)
+}
+
+// Each statement has the whole budget. One that needs more is interrupted when all of it ran, and changes nothing.
+fn is_kept(alloc: Global, budget: u64) -> Result<bool, AllocError> {
+    let mut session = session_of(alloc, budget);
+    run(alloc, &mut session, "CREATE TABLE t(a INTEGER)", &[])?;
+    let outcome = run(alloc, &mut session, "INSERT INTO t VALUES(7), (8)", &[])?;
+    let well = is_put(alloc, &session, budget, outcome)?;
+    let outcome = run(alloc, &mut session, "SELECT a FROM t", &[])?;
+    let is_whole = outcome != Outcome::Interrupted(budget);
+    Ok(well && (is_whole || gave_a_front(alloc, &session, &[7, 8])?))
+}
+
+fn budgets(alloc: Global) -> Result<bool, AllocError> {
+    for budget in 10..60 {
+        if !is_kept(alloc, budget)? {
+            return Ok(false);
+        }
+    }
+    Ok(true)
+}
+
+#[test]
+fn statements_do_what_they_mean(rt: HostRuntime) -> Result<(), Fail> {
+    let alloc = rt.alloc();
+    assert!(rt; statements(alloc)?);
+    assert!(rt; refusals(alloc)?);
+    assert!(rt; sinks(alloc)?);
+    assert!(rt; parameters(alloc)?);
+    assert!(rt; budgets(alloc)?);
+    Ok(())
+}
+
+// Puts 7 and says whether the rows are then as expected, which it adds to where the row was put.
+fn puts_or_not(
+    alloc: Global,
+    session: &mut Session,
+    expected: &mut Vec<i64>,
+) -> Result<bool, AllocError> {
+    let outcome = run(alloc, session, "INSERT INTO t VALUES(7)", &[])?;
+    let wrote = Outcome::Done {
+        given: 0,
+        changed: 1,
+    };
+    if outcome == wrote {
+        expected.push(session.connection.last_rowid())?;
+        expected.push(7)?;
+        return Ok(true);
+    }
+    Ok(outcome == Outcome::Refused(Cause::Mem.code()) && holds(alloc, session, "t", expected)?)
+}
+
+fn inserts(alloc: Global) -> Result<bool, AllocError> {
+    let mut session = three_rows(alloc)?;
+    let mut expected = contents(alloc, &session, "t")?;
+    expected.reserve(100)?;
+    for _ in 0..40 {
+        if !puts_or_not(alloc, &mut session, &mut expected)? {
+            return Ok(false);
+        }
+    }
+    holds(alloc, &session, "t", &expected)
+}
+
+// A test to be run where allocations fail too: an INSERT that finds no memory leaves the rows that were there. What is expected
+// takes no memory in the loop.
+#[test]
+fn an_insert_puts_its_row_or_changes_nothing(rt: HostRuntime) -> Result<(), Fail> {
+    assert!(rt; inserts(rt.alloc())?);
     Ok(())
 }

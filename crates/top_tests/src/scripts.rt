@@ -7,16 +7,8 @@ use host_traits::{MemorySink, MemorySource, ReadAnswer, Sink, Source};
 use sql_shell::{Hosts, run};
 use std::alloc::{AllocError, Global};
 use std::marker::Brand;
-use std::mem;
 use std::sync::ledger::{Blank, Ledger};
 use std::test::Fail;
-
-/// What a run came to.
-#[derive(Drop)]
-struct Answer {
-    status: u8,
-    written: Vec<u8>,
-}
 
 // Runs with steps that nobody reads.
 fn run_uncounted<S: Source, K: Sink, L: Ledger>(
@@ -49,9 +41,23 @@ fn a_program_runs_a_script(rt: HostRuntime) -> Result<(), Fail> {
     Ok(())
 }
 
+/// What a run came to.
+#[derive(Drop)]
+struct Answer {
+    status: u8,
+    out: MemorySink,
+}
+
+impl Answer {
+    fn is(&self, written: &[u8], status: u8) -> bool {
+        self.status == status && self.out.bytes() == written
+    }
+}
+
 // The program's name and these words, between which there are spaces.
 fn command_line(alloc: Global, words: &[u8]) -> Result<Vec<String>, AllocError> {
-    let mut line = vec![in alloc; "sqlsh".to_string(alloc)?]?;
+    let mut line = Vec::new(alloc);
+    line.push("sqlsh".to_string(alloc)?)?;
     for word in words.split(|b| *b == b' ') {
         if !word.is_empty() {
             line.push(String::from_utf8_lossy(alloc, word)?)?;
@@ -60,23 +66,34 @@ fn command_line(alloc: Global, words: &[u8]) -> Result<Vec<String>, AllocError> 
     Ok(line)
 }
 
-// What a run over a source comes to. The sink takes three bytes at a time, and its writes of these numbers fail.
+// A source of a script, of which so many bytes are read at a time, and whose reads of these numbers fail.
+fn source_of(
+    alloc: Global,
+    script: &[u8],
+    piece: usize,
+    reads: &[u64],
+) -> Result<MemorySource, AllocError> {
+    let failing = reads.to_vec(alloc)?;
+    Ok(MemorySource::new(script.to_vec(alloc)?, piece.max(1), failing))
+}
+
+// What a run over a source comes to. The sink takes so many bytes at a time, and its writes of these numbers fail.
 fn answer_from(
     alloc: Global,
     words: &[u8],
     src: &mut MemorySource,
+    most: usize,
     writes: &[u64],
 ) -> Result<Answer, AllocError> {
+    let failing = writes.to_vec(alloc)?;
     let line = command_line(alloc, words)?;
-    let mut out = MemorySink::new(Vec::new(alloc), 3, writes.to_vec(alloc)?);
+    let mut out = MemorySink::new(Vec::new(alloc), most.max(1), failing);
     let status = run_uncounted::<_, _, Brand>(Blank::new(1), alloc, &line, src, &mut out);
-    Ok(Answer {
-        status,
-        written: out.bytes().to_vec(alloc)?,
-    })
+    Ok(Answer { status, out })
 }
 
-// What a script comes to of which so many bytes are read at a time, where the reads and the writes of these numbers fail.
+// What a script comes to of which so many bytes are read at a time and three are written, where the reads and the writes of these
+// numbers fail.
 fn answer_to(
     alloc: Global,
     script: &[u8],
@@ -84,84 +101,35 @@ fn answer_to(
     reads: &[u64],
     writes: &[u64],
 ) -> Result<Answer, AllocError> {
-    let mut src = MemorySource::new(script.to_vec(alloc)?, piece.max(1), reads.to_vec(alloc)?);
-    answer_from(alloc, b"", &mut src, writes)
+    let mut src = source_of(alloc, script, piece, reads)?;
+    answer_from(alloc, b"", &mut src, 3, writes)
 }
 
-// One case of a table so far.
-#[derive(Drop)]
-struct Case {
-    words: Vec<u8>,
-    script: Vec<u8>,
-    wanted: Vec<u8>,
-    failing: Vec<u64>,
-}
-
-fn no_case(alloc: Global) -> Case {
-    Case {
-        words: Vec::new(alloc),
-        script: Vec::new(alloc),
-        wanted: Vec::new(alloc),
-        failing: Vec::new(alloc),
-    }
-}
-
-// Takes in a line, and answers the status where it ends the case.
-fn take_line(case: &mut Case, line: &[u8]) -> Result<Option<u8>, AllocError> {
-    match line {
-        [b'$', words @ ..] => case.words.extend_from_slice(words)?,
-        [b'<', b' ', text @ ..] => {
-            if !case.script.is_empty() {
-                case.script.push(b'\n')?;
-            }
-            case.script.extend_from_slice(text)?;
+// Whether a case comes to what it should, where the reads of these numbers fail.
+fn is_well(alloc: Global, case: &[u8], reads: &[u64]) -> Result<bool, AllocError> {
+    let mut parts = case.split(|b| *b == b'~');
+    let (Some(_), Some(words), Some(script)) = (parts.next(), parts.next(), parts.next()) else {
+        return Ok(false);
+    };
+    match (parts.next(), parts.next()) {
+        (Some(written), Some([status])) => {
+            let mut src = source_of(alloc, script, 10_000, reads)?;
+            let got = answer_from(alloc, words, &mut src, 4096, &[])?;
+            Ok(got.is(written, status.wrapping_sub(b'0')))
         }
-        [b'>', b' ', text @ ..] => {
-            case.wanted.extend_from_slice(text)?;
-            case.wanted.push(b'\n')?;
-        }
-        [b'!', ..] => case.failing.push(1)?,
-        [b'=', b' ', status] => return Ok(Some(status.wrapping_sub(b'0'))),
-        _ => {}
+        _ => Ok(false),
     }
-    Ok(None)
 }
 
-// What a case comes to, where it is something else than it should be.
-fn other_answer(alloc: Global, case: Case, status: u8) -> Result<Option<String>, AllocError> {
-    let mut src = MemorySource::new(
-        case.script.to_vec(alloc)?,
-        10_000,
-        case.failing.to_vec(alloc)?,
-    );
-    let got = answer_from(alloc, &case.words, &mut src, &[])?;
-    if got.status == status && got.written == case.wanted {
-        return Ok(None);
-    }
-    let script = String::from_utf8_lossy(alloc, &case.script)?;
-    let written = String::from_utf8_lossy(alloc, &got.written)?;
-    Ok(Some(format!(in alloc; "{script}: {}: {written}", got.status)?))
-}
-
-// The first case of a table that comes to something else than it should.
-fn first_other(alloc: Global, table: &[u8]) -> Result<Option<String>, AllocError> {
-    let mut case = no_case(alloc);
-    for line in table.split(|b| *b == b'\n') {
-        if let Some(status) = take_line(&mut case, line)? {
-            let ended = mem::replace(&mut case, no_case(alloc));
-            let other = other_answer(alloc, ended, status)?;
-            if other.is_some() {
-                return Ok(other);
-            }
+// How many of so many cases of a table come to what they should, where the reads of these numbers fail.
+fn count_well(alloc: Global, table: &[u8], reads: &[u64]) -> Result<u64, AllocError> {
+    let mut count = 0u64;
+    for case in table.split(|b| *b == b'@') {
+        if is_well(alloc, case, reads)? {
+            count = count.saturating_add(1);
         }
     }
-    Ok(None)
-}
-
-#[test]
-fn worked_scripts_write_their_lines(rt: HostRuntime) -> Result<(), Fail> {
-    assert_eq!(rt; first_other(rt.alloc(), WORKED)?, None);
-    Ok(())
+    Ok(count)
 }
 
 // How many reads of three bytes come before the one that fails, and what is written then; the tenth read is the end.
@@ -180,32 +148,31 @@ const READS: [(u64, &[u8], u8); 12] = [
     (11, b"1\n2\n3\n", 0),
 ];
 
-#[test]
-fn what_is_pending_does_not_run_behind_a_failed_read(rt: HostRuntime) -> Result<(), Fail> {
-    let alloc = rt.alloc();
-    assert_eq!(rt; first_other(alloc, FAULTS)?, None);
+// What is pending does not run behind a failed read.
+fn reads_fail(alloc: Global) -> Result<bool, AllocError> {
     for (call, written, status) in READS {
         let got = answer_to(alloc, b"SELECT 1;SELECT 2;SELECT 3;", 3, &[call], &[])?;
-        assert_eq!(rt; got.written.as_slice(), written, "at {call}");
-        assert_eq!(rt; got.status, status, "at {call}");
+        if !got.is(written, status) {
+            return Ok(false);
+        }
     }
-    Ok(())
+    Ok(true)
 }
 
-// Not even a character is whole in a piece of one byte.
-#[test]
-fn pieces_of_every_size_are_one_script(rt: HostRuntime) -> Result<(), Fail> {
-    let alloc = rt.alloc();
-    let script =
-        b".x\r\nSELECT '\xC3\xA9';-- \xC3\xA9\n/* ; */\n.y\r\nSELECT 1\n.5;SELECT ';'\r\n;;\nSELECT 2";
-    let written = b"Error 1: unknown dot line\n\xC3\xA9\nError 1: unknown dot line\n\
-        Error 1: syntax error at byte 9\n;\n2\n";
+const PIECES: &[u8] =
+    b".x\r\nSELECT '\xC3\xA9';-- \xC3\xA9\n/* ; */\n.y\r\nSELECT 1\n.5;SELECT ';'\r\n;;\nSELECT 2";
+
+const PIECES_LINES: &[u8] = b"Error 1: unknown dot line\n\xC3\xA9\nError 1: unknown dot line\n\
+    Error 1: syntax error at byte 9\n;\n2\n";
+
+// Pieces of every size are one script. Not even a character is whole in a piece of one byte.
+fn pieces_are_one(alloc: Global) -> Result<bool, AllocError> {
     for piece in 1..80 {
-        let got = answer_to(alloc, script.as_slice(), piece, &[], &[])?;
-        assert_eq!(rt; got.written.as_slice(), written.as_slice(), "with {piece}");
-        assert_eq!(rt; got.status, 1, "with {piece}");
+        if !answer_to(alloc, PIECES, piece, &[], &[])?.is(PIECES_LINES, 1) {
+            return Ok(false);
+        }
     }
-    Ok(())
+    Ok(true)
 }
 
 // Two statements with their rows, a refusal, a dot line and a bad character.
@@ -224,56 +191,71 @@ Error 1: not UTF-8 at byte 138
 ";
 
 // Where one of its writes fails, a script writes a front of its lines, and ends with status 3.
-#[test]
-fn a_sink_that_fails_got_a_front_of_the_lines(rt: HostRuntime) -> Result<(), Fail> {
-    let alloc = rt.alloc();
-    for call in 0..34 {
+fn writes_fail(alloc: Global) -> Result<bool, AllocError> {
+    for call in 0..33 {
         let got = answer_to(alloc, LONG, 7, &[], &[call])?;
-        assert_eq!(rt; got.status, if call < 33 { 3 } else { 1 }, "at {call}");
-        assert!(rt; LONG_LINES.starts_with(&got.written), "at {call}");
-        assert_eq!(rt;
-            got.written.len() == LONG_LINES.len(),
-            call == 33,
-            "at {call}"
-        );
+        let written = got.out.bytes();
+        if got.status != 3
+            || !LONG_LINES.starts_with(written)
+            || written.len() >= LONG_LINES.len()
+        {
+            return Ok(false);
+        }
     }
-    Ok(())
+    Ok(answer_to(alloc, LONG, 7, &[], &[33])?.is(LONG_LINES, 1))
 }
 
 const USAGE: &[u8] = b"usage: sqlsh [--budget N] [--bail] [--make N]\n";
 
+// Whether these words are refused with what is written, where the writes of these numbers fail, and nothing is read.
+fn is_refused(
+    alloc: Global,
+    words: &[u8],
+    writes: &[u64],
+    written: &[u8],
+) -> Result<bool, AllocError> {
+    let mut src = source_of(alloc, b"SELECT 1;", 1000, &[])?;
+    let got = answer_from(alloc, words, &mut src, 3, writes)?;
+    Ok(got.is(written, 2) && src.read(&mut [0u8; 20]) == ReadAnswer::Got(9))
+}
+
 // Where the usage line is cut by a write that fails, the status stays 2.
-#[test]
-fn refused_words_read_nothing(rt: HostRuntime) -> Result<(), Fail> {
-    let alloc = rt.alloc();
-    let refused: [&[u8]; 4] = [b"--budget 0", b"--bail --bail", b"x", b"--make 3"];
-    for words in refused {
-        for (failing, written) in [
-            ([].as_slice(), USAGE),
-            ([1u64].as_slice(), b"usa".as_slice()),
-        ] {
-            let mut src = MemorySource::new(b"SELECT 1;".to_vec(alloc)?, 1000, Vec::new(alloc));
-            let got = answer_from(alloc, words, &mut src, failing)?;
-            assert_eq!(rt; got.written.as_slice(), written);
-            assert_eq!(rt; got.status, 2);
-            assert_eq!(rt; src.read(&mut [0u8; 20]), ReadAnswer::Got(9));
+fn refused_words(alloc: Global) -> Result<bool, AllocError> {
+    for words in b"--budget 0,--bail --bail,x,--make 3".split(|b| *b == b',') {
+        if !is_refused(alloc, words, &[], USAGE)? || !is_refused(alloc, words, &[1], b"usa")? {
+            return Ok(false);
         }
     }
+    Ok(true)
+}
+
+#[test]
+fn scripts_write_their_lines(rt: HostRuntime) -> Result<(), Fail> {
+    let alloc = rt.alloc();
+    assert_eq!(rt; count_well(alloc, WORKED, &[])?, 20);
+    assert_eq!(rt; count_well(alloc, FAULTS, &[1])?, 25);
+    assert!(rt; reads_fail(alloc)?);
+    assert!(rt; pieces_are_one(alloc)?);
+    assert!(rt; writes_fail(alloc)?);
+    assert!(rt; refused_words(alloc)?);
     Ok(())
+}
+
+const WANTING: &[u8] =
+    b"CREATE TABLE t(a INTEGER, b TEXT);INSERT INTO t VALUES(1,'x');INSERT INTO t VALUES(2);\
+    SELECT b, a FROM t WHERE a > 0";
+
+const WANTING_LINES: &[u8] = b"Error 1: wrong number of values: t\nx|1\n";
+
+fn is_front_or_whole(alloc: Global) -> Result<bool, AllocError> {
+    let got = answer_to(alloc, WANTING, 1000, &[], &[])?;
+    let is_front = got.status == 4 && WANTING_LINES.starts_with(got.out.bytes());
+    Ok(is_front || got.is(WANTING_LINES, 1))
 }
 
 // For runs in which an allocation fails: no answer changes in place of status 4.
 #[test]
 fn want_of_memory_leaves_a_front_of_the_lines(rt: HostRuntime) -> Result<(), Fail> {
-    let script =
-        b"CREATE TABLE t(a INTEGER, b TEXT);INSERT INTO t VALUES(1,'x');INSERT INTO t VALUES(2);\
-        SELECT b, a FROM t WHERE a > 0";
-    let lines = b"Error 1: wrong number of values: t\nx|1\n";
-    let got = answer_to(rt.alloc(), script.as_slice(), 1000, &[], &[])?;
-    assert!(rt; lines.as_slice().starts_with(&got.written));
-    if got.status != 4 {
-        assert_eq!(rt; got.status, 1);
-        assert_eq!(rt; got.written.len(), lines.len());
-    }
+    assert!(rt; is_front_or_whole(rt.alloc())?);
     Ok(())
 }

@@ -8,7 +8,7 @@ use eng_value::{Affinity, BinaryOperator, Blob, Built, Builtin, Cause, Text, Una
 /// What is bad is carried along, with its causes, until `HaltBad` or the query decides what becomes of it.
 ///
 /// Where the table of opcodes numbers the operands, the comment does too: p1, p2, p3, p4 and p5.
-#[derive(Debug, Drop)]
+#[derive(Drop)]
 pub enum Op {
     /// Jumps to `target` (p2).
     Goto {

@@ -82,3 +82,8 @@ seen_as p r q e n w x h = subst (λ (y : Paused). after (record { prog = y.prog 
 
 pub needed_as : (p : Program) (r : Progress) (q : Paused) → paused p r ≡ q → (n : ℕ) (w : World) → NoneInVain (record { prog = p }) n (state_at r w []) → NoneInVain (record { prog = q.prog }) n (state_of q w [])
 needed_as p r q e n w h = subst (λ (y : Paused). NoneInVain (record { prog = y.prog }) n (state_of y w [])) e h
+
+-- what is the same stays so where memory is wanting
+pub same_err : {A : Type 0} (r : Result Pace AllocError) (x : A) → OnErr r (x ≡ x)
+same_err (Ok f) x = search rules
+same_err (Err e) x = refl

@@ -3,3 +3,4 @@ pub mod Stored
 pub mod Cursors
 pub mod Paused
 pub mod Events
+pub mod Tests

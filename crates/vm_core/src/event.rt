@@ -2,14 +2,14 @@
 use eng_value::{Causes, Row};
 
 /// How many instructions a statement may run, and how many of them ran.
-#[derive(Clone, Copy, Debug)]
+#[derive(Clone, Copy)]
 pub struct Budget {
     pub whole: u64,
     pub ran: u64,
 }
 
 /// What a run comes to next.
-#[derive(Debug, Drop)]
+#[derive(Drop)]
 pub enum Event {
     /// A row was given. The run goes on behind it.
     Row(Row),

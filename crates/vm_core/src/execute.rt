@@ -6,6 +6,7 @@ ghost use Rattle.eng_value.specs.StoredRows.{next_rowid};
 ghost use Rattle.vm_core.specs.Events.{ActsOver, Leads};
 ghost use Rattle.vm_core.specs.Paused.{state_at};
 
+use crate::jumping::Test;
 use crate::pace::Pace;
 use crate::running::Running;
 use crate::{Event, Tables};
@@ -54,15 +55,25 @@ fn execute(
             register,
             target,
             on_null,
-        } => running.jump_where_true(alloc, *register, *target, *on_null),
+        } => running.jump_where(alloc, Test::True(*on_null), *register, *target),
         Op::IfNot {
             register,
             target,
             on_null,
-        } => running.jump_where_false(alloc, *register, *target, *on_null),
-        Op::IsNull { register, target } => running.jump_where_null(*register, *target),
-        Op::NotNull { register, target } => running.jump_where_known(*register, *target),
-        Op::IsBad { register, target } => running.jump_where_bad(*register, *target),
+        } => running.jump_where(alloc, Test::False(*on_null), *register, *target),
+        Op::IsNull { register, target } => running.jump_where(
+            alloc,
+            Test::Null,
+            *register,
+            *target,
+        ),
+        Op::NotNull { register, target } => running.jump_where(
+            alloc,
+            Test::Known,
+            *register,
+            *target,
+        ),
+        Op::IsBad { register, target } => running.jump_where(alloc, Test::Bad, *register, *target),
         Op::Halt => running.finish(event),
         Op::HaltBad { register } => running.halt(*register, event),
         Op::Call {
@@ -146,9 +157,6 @@ fn new_rowid(
             *event = Event::Bad(Causes::one(alloc, cause));
             Ok(Pace::Stopping)
         }
-        Some(rowid) => {
-            running.set_integer(to, rowid);
-            Ok(Pace::Going)
-        }
+        Some(rowid) => running.put_integer(rowid, to),
     }
 }

@@ -1,3 +1,3 @@
 /// What the embedding program lends to a run. There is nothing to lend yet.
-#[derive(Debug, Drop)]
+#[derive(Drop)]
 pub struct Hosts {}

@@ -1,94 +1,61 @@
 // The instructions that jump. Each has a method of its own that is not inlined, so that it alone pays for the locals that it needs.
 ghost use Rattle.std.specs.Prelude.{◌≡◌, ◌+◌, ◌^◌, ◌<◌, OnErr};
-ghost use Rattle.vm_code.specs.Machine.{advanced, cursor_at, is_accepted, is_bad, is_known, is_null, is_rejected, jump_if, read as read_of, rewound};
+ghost use Rattle.vm_code.specs.Machine.{advanced, cursor_at, jump_if, read as read_of, rewound};
 ghost use Rattle.vm_core.specs.Events.{Acts, ActsOn};
+ghost use Rattle.vm_core.specs.Tests.{passes};
 
 use crate::Tables;
 use crate::pace::Pace;
 use crate::running::Running;
+use eng_value::Out;
 use std::alloc::{AllocError, Global};
+use vm_store::{is_accepted, is_bad, is_known, is_null, is_rejected};
+
+/// What a jump asks of a register.
+#[derive(Clone, Copy)]
+pub(crate) enum Test {
+    /// Whether it is true, where this says whether NULL counts as true.
+    True(bool),
+    /// Whether it is false, where this says whether NULL counts as false.
+    False(bool),
+    /// Whether it is NULL.
+    Null,
+    /// Whether it is a value that is not NULL.
+    Known,
+    /// Whether it is bad.
+    Bad,
+}
+
+impl Test {
+    /// Whether what a register holds passes.
+    pub(crate) fn passes(self, alloc: Global, out: &Out) -> bool
+        ensures { result ≡ passes self out.now }
+    {
+        match self {
+            Test::True(on_null) => is_accepted(alloc, out, on_null),
+            Test::False(on_null) => is_rejected(alloc, out, on_null),
+            Test::Null => is_null(out),
+            Test::Known => is_known(out),
+            Test::Bad => is_bad(out),
+        }
+    }
+}
 
 impl Running {
-    /// Jumps where a register is true, and on NULL where that counts.
+    /// Jumps where a register passes a test.
     #[inline(never)]
-    pub(crate) fn jump_where_true(
+    pub(crate) fn jump_where(
         &mut self,
         alloc: Global,
-        register: u32,
-        target: usize,
-        on_null: bool,
-    ) -> Result<Pace, AllocError>
-        requires { self.old.pc + 1 < 2 ^ 64 }
-        ensures leads { Acts result self.old self.new (λ s. jump_if (is_accepted on_null (read_of s.regs register)) s target) }
-        ensures log { OnErr result (self.new.changes ≡ self.old.changes) }
-    {
-        let jumps = self.is_accepted(alloc, register, on_null);
-        self.jump_if(jumps, target);
-        Ok(Pace::Going)
-    }
-
-    /// Jumps where a register is false, and on NULL where that counts.
-    #[inline(never)]
-    pub(crate) fn jump_where_false(
-        &mut self,
-        alloc: Global,
-        register: u32,
-        target: usize,
-        on_null: bool,
-    ) -> Result<Pace, AllocError>
-        requires { self.old.pc + 1 < 2 ^ 64 }
-        ensures leads { Acts result self.old self.new (λ s. jump_if (is_rejected on_null (read_of s.regs register)) s target) }
-        ensures log { OnErr result (self.new.changes ≡ self.old.changes) }
-    {
-        let jumps = self.is_rejected(alloc, register, on_null);
-        self.jump_if(jumps, target);
-        Ok(Pace::Going)
-    }
-
-    /// Jumps where a register is NULL.
-    #[inline(never)]
-    pub(crate) fn jump_where_null(
-        &mut self,
+        test: Test,
         register: u32,
         target: usize,
     ) -> Result<Pace, AllocError>
         requires { self.old.pc + 1 < 2 ^ 64 }
-        ensures leads { Acts result self.old self.new (λ s. jump_if (is_null (read_of s.regs register)) s target) }
+        ensures leads { Acts result self.old self.new (λ s. jump_if (passes test (read_of s.regs register)) s target) }
         ensures log { OnErr result (self.new.changes ≡ self.old.changes) }
     {
-        let jumps = self.is_null(register);
-        self.jump_if(jumps, target);
-        Ok(Pace::Going)
-    }
-
-    /// Jumps where a register is a value that is not NULL.
-    #[inline(never)]
-    pub(crate) fn jump_where_known(
-        &mut self,
-        register: u32,
-        target: usize,
-    ) -> Result<Pace, AllocError>
-        requires { self.old.pc + 1 < 2 ^ 64 }
-        ensures leads { Acts result self.old self.new (λ s. jump_if (is_known (read_of s.regs register)) s target) }
-        ensures log { OnErr result (self.new.changes ≡ self.old.changes) }
-    {
-        let jumps = self.is_known(register);
-        self.jump_if(jumps, target);
-        Ok(Pace::Going)
-    }
-
-    /// Jumps where a register is bad.
-    #[inline(never)]
-    pub(crate) fn jump_where_bad(
-        &mut self,
-        register: u32,
-        target: usize,
-    ) -> Result<Pace, AllocError>
-        requires { self.old.pc + 1 < 2 ^ 64 }
-        ensures leads { Acts result self.old self.new (λ s. jump_if (is_bad (read_of s.regs register)) s target) }
-        ensures log { OnErr result (self.new.changes ≡ self.old.changes) }
-    {
-        let jumps = self.is_bad(register);
+        let jumps = self.passes(alloc, test, register);
         self.jump_if(jumps, target);
         Ok(Pace::Going)
     }

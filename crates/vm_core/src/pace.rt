@@ -1,5 +1,5 @@
 /// Whether a run goes on behind an instruction, or stops there for an event.
-#[derive(Clone, Copy, Debug)]
+#[derive(Clone, Copy)]
 pub(crate) enum Pace {
     Going,
     Stopping,

@@ -5,15 +5,18 @@ ghost use Rattle.eng_record.specs.Lent.{Lends};
 ghost use Rattle.eng_value.specs.Casts.{store_as};
 ghost use Rattle.eng_value.specs.Outs.{turned};
 ghost use Rattle.eng_value.specs.StoredRows.{next_rowid};
+ghost use Rattle.eng_value.specs.declared.out.Out.{Out as MeantOut};
 ghost use Rattle.eng_value.specs.declared.out.Out.TheVariants.{Good};
 ghost use Rattle.eng_value.specs.declared.value.Value.TheVariants as sql;
 ghost use Rattle.eng_value.specs.declared.value.Value.TheVariants.{Integer, Null};
-ghost use Rattle.vm_code.specs.Machine.{Closed, End, Finished, Open, called, code_of, column, current, cursor_at, cursor_rows, ending_of, inserted, integer_in, is_accepted, is_bad, is_known, is_null, is_rejected, jump, outs_from, put, read as read_of, returned, skip, unit_at, values_from, with_cursor, with_table};
+ghost use Rattle.vm_code.specs.Machine.{Closed, End, Finished, Open, called, code_of, column, current, cursor_at, cursor_rows, ending_of, inserted, integer_in, jump, outs_from, put, read as read_of, returned, skip, unit_at, values_from, with_cursor, with_table};
 ghost use Rattle.vm_core.specs.Cursors.{is_on_row, on_first, on_next, table_of};
 ghost use Rattle.vm_core.specs.Events.{Acts, ActsOn, StopsOrActs};
 ghost use Rattle.vm_core.specs.Paused.{shared_of, state_at};
+ghost use Rattle.vm_core.specs.Tests.{passes};
 
 use crate::cursor::{advance, column, lent, next_rowid, rewind, table};
+use crate::jumping::Test;
 use crate::pace::Pace;
 use crate::values::stored;
 use crate::{Event, Tables};
@@ -23,13 +26,11 @@ use std::alloc::{AllocError, Global};
 use std::marker::Model;
 use std::mem;
 use vm_code::{Change, Op, Program, Unit};
-use vm_store::{
-    Cursor, Frame, Frames, Registers, is_accepted, is_bad, is_known, is_null, is_rejected,
-};
+use vm_store::{Cursor, Frame, Frames, Registers};
 
 /// The frame that runs, the frames that wait, the parameters, and what was changed, oldest first. A register, an argument, a
 /// cursor or an instruction that is not there counts as the machine over lists says.
-#[derive(Debug, Drop)]
+#[derive(Drop)]
 pub(crate) struct Running {
     unit: u32,
     pc: usize,
@@ -173,68 +174,64 @@ impl Running {
         self.pc += 1;
     }
 
-    /// Writes NULL and goes on.
-    pub fn set_null(&mut self, register: u32)
+    /// Writes what was made, unless memory was wanting, and goes on.
+    pub fn put_made(
+        &mut self,
+        register: u32,
+        made: Result<Out, AllocError>,
+    ) -> Result<Pace, AllocError>
         requires { self.old.pc + 1 < 2 ^ 64 }
-        ensures { self.new ≡ record self.old { pc = self.old.pc + 1; regs = slice_set self.old.regs register (Good Null) } }
+        ensures leads { (v : MeantOut) → IfOk made (λ out. out ≡ v) → Acts result self.old self.new (λ s. put s register v) }
+        ensures log { OnErr result (self.new.changes ≡ self.old.changes) }
     {
-        self.registers.write_null(register);
-        self.pc += 1;
+        match made {
+            Ok(out) => {
+                self.put(register, out);
+                Ok(Pace::Going)
+            }
+            Err(error) => Err(error),
+        }
     }
 
-    /// Writes an integer and goes on.
-    pub fn set_integer(&mut self, register: u32, n: i64)
+    /// Writes NULL.
+    pub fn put_null(&mut self, to: u32) -> Result<Pace, AllocError>
         requires { self.old.pc + 1 < 2 ^ 64 }
-        ensures { self.new ≡ record self.old { pc = self.old.pc + 1; regs = slice_set self.old.regs register (Good (Integer n)) } }
+        ensures leads { Acts result self.old self.new (λ s. put s to (Good Null)) }
+        ensures log { OnErr result (self.new.changes ≡ self.old.changes) }
     {
-        self.registers.write_integer(register, n);
+        self.registers.write_null(to);
         self.pc += 1;
+        Ok(Pace::Going)
     }
 
-    /// Writes a text and goes on.
-    pub fn set_text(&mut self, register: u32, text: Text)
+    /// Writes an integer.
+    pub fn put_integer(&mut self, n: i64, to: u32) -> Result<Pace, AllocError>
         requires { self.old.pc + 1 < 2 ^ 64 }
-        ensures { self.new ≡ record self.old { pc = self.old.pc + 1; regs = slice_set self.old.regs register (Good (sql.Text text)) } }
+        ensures leads { Acts result self.old self.new (λ s. put s to (Good (Integer n))) }
+        ensures log { OnErr result (self.new.changes ≡ self.old.changes) }
     {
-        self.registers.write_text(register, text);
+        self.registers.write_integer(to, n);
         self.pc += 1;
+        Ok(Pace::Going)
     }
 
-    /// Whether a jump on true is taken.
-    pub fn is_accepted(&self, alloc: Global, register: u32, on_null: bool) -> bool
-        ensures { result ≡ is_accepted on_null (read_of self.now.regs register) }
+    /// Writes a text.
+    pub fn put_own_text(&mut self, text: Text, to: u32) -> Result<Pace, AllocError>
+        requires { self.old.pc + 1 < 2 ^ 64 }
+        ensures leads { Acts result self.old self.new (λ s. put s to (Good (sql.Text text))) }
+        ensures log { OnErr result (self.new.changes ≡ self.old.changes) }
+    {
+        self.registers.write_text(to, text);
+        self.pc += 1;
+        Ok(Pace::Going)
+    }
+
+    /// Whether a register passes a test of a jump.
+    pub fn passes(&self, alloc: Global, test: Test, register: u32) -> bool
+        ensures { result ≡ passes test (read_of self.now.regs register) }
     {
         let null = Out::Good(Value::Null);
-        is_accepted(alloc, self.registers.read(register, &null), on_null)
-    }
-
-    /// Whether a jump on false is taken.
-    pub fn is_rejected(&self, alloc: Global, register: u32, on_null: bool) -> bool
-        ensures { result ≡ is_rejected on_null (read_of self.now.regs register) }
-    {
-        let null = Out::Good(Value::Null);
-        is_rejected(alloc, self.registers.read(register, &null), on_null)
-    }
-
-    /// Whether a register is NULL.
-    pub fn is_null(&self, register: u32) -> bool
-        ensures { result ≡ is_null (read_of self.now.regs register) }
-    {
-        is_null(self.registers.read(register, &Out::Good(Value::Null)))
-    }
-
-    /// Whether a register is a value that is not NULL.
-    pub fn is_known(&self, register: u32) -> bool
-        ensures { result ≡ is_known (read_of self.now.regs register) }
-    {
-        is_known(self.registers.read(register, &Out::Good(Value::Null)))
-    }
-
-    /// Whether a register is bad.
-    pub fn is_bad(&self, register: u32) -> bool
-        ensures { result ≡ is_bad (read_of self.now.regs register) }
-    {
-        is_bad(self.registers.read(register, &Out::Good(Value::Null)))
+        test.passes(alloc, self.registers.read(register, &null))
     }
 
     /// A copy of an argument.

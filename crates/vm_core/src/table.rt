@@ -17,7 +17,7 @@ use std::alloc::{AllocError, Global};
 use std::marker::Model;
 
 /// The rows of a table: a tree that keeps each row's record under the key of its rowid. Contracts see the list of the rows.
-#[derive(Debug, Drop)]
+#[derive(Drop)]
 pub(crate) struct Table {
     tree: Tree,
 }

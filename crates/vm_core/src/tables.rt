@@ -17,7 +17,7 @@ use std::marker::Model;
 use vm_code::Change;
 
 /// The rows of each table. Contracts see the world of the machine over lists.
-#[derive(Debug, Drop)]
+#[derive(Drop)]
 pub struct Tables {
     tables: Vec<Table>,
 }

@@ -22,28 +22,6 @@ use eng_value::{
 use std::alloc::{AllocError, Global};
 
 impl Running {
-    /// Writes NULL.
-    #[inline(never)]
-    pub(crate) fn put_null(&mut self, to: u32) -> Result<Pace, AllocError>
-        requires { self.old.pc + 1 < 2 ^ 64 }
-        ensures leads { Acts result self.old self.new (λ s. put s to (Good value.Null)) }
-        ensures log { OnErr result (self.new.changes ≡ self.old.changes) }
-    {
-        self.set_null(to);
-        Ok(Pace::Going)
-    }
-
-    /// Writes an integer.
-    #[inline(never)]
-    pub(crate) fn put_integer(&mut self, n: i64, to: u32) -> Result<Pace, AllocError>
-        requires { self.old.pc + 1 < 2 ^ 64 }
-        ensures leads { Acts result self.old self.new (λ s. put s to (Good (value.Integer n))) }
-        ensures log { OnErr result (self.new.changes ≡ self.old.changes) }
-    {
-        self.set_integer(to, n);
-        Ok(Pace::Going)
-    }
-
     /// Writes a copy of a text.
     #[inline(never)]
     pub(crate) fn put_text(&mut self, text: &Text, to: u32) -> Result<Pace, AllocError>
@@ -52,8 +30,7 @@ impl Running {
         ensures log { OnErr result (self.new.changes ≡ self.old.changes) }
     {
         let text = text.clone()?;
-        self.set_text(to, text);
-        Ok(Pace::Going)
+        self.put_own_text(text, to)
     }
 
     /// The same of a text that is lent.
@@ -64,8 +41,7 @@ impl Running {
         ensures log { OnErr result (self.new.changes ≡ self.old.changes) }
     {
         let text = Text::from_str(alloc, text)?;
-        self.set_text(to, text);
-        Ok(Pace::Going)
+        self.put_own_text(text, to)
     }
 
     /// Writes a copy of a blob.
@@ -109,9 +85,8 @@ impl Running {
         ensures leads { Acts result self.old self.new (λ s. put s to (parameter_at s.shared.params number)) }
         ensures log { OnErr result (self.new.changes ≡ self.old.changes) }
     {
-        let out = parameter(self.params(), alloc, number)?;
-        self.put(to, out);
-        Ok(Pace::Going)
+        let made = parameter(self.params(), alloc, number);
+        self.put_made(to, made)
     }
 
     /// Writes a copy of an argument.
@@ -121,9 +96,8 @@ impl Running {
         ensures leads { Acts result self.old self.new (λ s. put s to (read_of s.args number)) }
         ensures log { OnErr result (self.new.changes ≡ self.old.changes) }
     {
-        let out = self.argument(number)?;
-        self.put(to, out);
-        Ok(Pace::Going)
+        let made = self.argument(number);
+        self.put_made(to, made)
     }
 
     /// Writes a copy of another register.
@@ -133,9 +107,8 @@ impl Running {
         ensures leads { Acts result self.old self.new (λ s. put s to (read_of s.regs from)) }
         ensures log { OnErr result (self.new.changes ≡ self.old.changes) }
     {
-        let out = self.registers().copied(from)?;
-        self.put(to, out);
-        Ok(Pace::Going)
+        let made = self.registers().copied(from);
+        self.put_made(to, made)
     }
 
     /// Writes what an operator with one operand gives for a register.
@@ -151,9 +124,8 @@ impl Running {
         ensures leads { Acts result self.old self.new (λ s. put s to (unary_of operator (read_of s.regs from))) }
         ensures log { OnErr result (self.new.changes ≡ self.old.changes) }
     {
-        let out = unary(self.registers(), alloc, operator, from)?;
-        self.put(to, out);
-        Ok(Pace::Going)
+        let made = unary(self.registers(), alloc, operator, from);
+        self.put_made(to, made)
     }
 
     /// Writes what an operator with two operands gives for two registers.
@@ -171,10 +143,7 @@ impl Running {
         ensures log { OnErr result (self.new.changes ≡ self.old.changes) }
     {
         match integers(self.registers(), operator, left, right) {
-            Some(n) => {
-                self.set_integer(to, n);
-                Ok(Pace::Going)
-            }
+            Some(n) => self.put_integer(n, to),
             None => self.put_binary_of_texts(alloc, operator, left, right, to),
         }
     }
@@ -194,10 +163,7 @@ impl Running {
         ensures log { OnErr result (self.new.changes ≡ self.old.changes) }
     {
         match texts(self.registers(), operator, left, right) {
-            Some(n) => {
-                self.set_integer(to, n);
-                Ok(Pace::Going)
-            }
+            Some(n) => self.put_integer(n, to),
             None => self.put_any_binary(alloc, operator, left, right, to),
         }
     }
@@ -216,9 +182,8 @@ impl Running {
         ensures leads { Acts result self.old self.new (λ s. put s to (binary_of operator.now (read_of s.regs left) (read_of s.regs right))) }
         ensures log { OnErr result (self.new.changes ≡ self.old.changes) }
     {
-        let out = binary(self.registers(), alloc, *operator, left, right)?;
-        self.put(to, out);
-        Ok(Pace::Going)
+        let made = binary(self.registers(), alloc, *operator, left, right);
+        self.put_made(to, made)
     }
 
     /// Writes what LIKE with an ESCAPE gives for three registers.
@@ -235,9 +200,8 @@ impl Running {
         ensures leads { Acts result self.old self.new (λ s. put s to (like_escaped_of (read_of s.regs text) (read_of s.regs pattern) (read_of s.regs escape))) }
         ensures log { OnErr result (self.new.changes ≡ self.old.changes) }
     {
-        let out = like_escaped(self.registers(), alloc, text, pattern, escape)?;
-        self.put(to, out);
-        Ok(Pace::Going)
+        let made = like_escaped(self.registers(), alloc, text, pattern, escape);
+        self.put_made(to, made)
     }
 
     /// Writes what a function gives for so many registers, from the first on.
@@ -255,9 +219,8 @@ impl Running {
         ensures leads { Acts result self.old self.new (λ s. put s to (function_by value_key name collation (outs_from s.regs first count))) }
         ensures log { OnErr result (self.new.changes ≡ self.old.changes) }
     {
-        let out = function(self.registers(), alloc, name, collation, first, count)?;
-        self.put(to, out);
-        Ok(Pace::Going)
+        let made = function(self.registers(), alloc, name, collation, first, count);
+        self.put_made(to, made)
     }
 
     /// Adds the causes of a register.
@@ -267,9 +230,8 @@ impl Running {
         ensures leads { Acts result self.old self.new (λ s. put s to (merged (read_of s.regs from) (read_of s.regs to))) }
         ensures log { OnErr result (self.new.changes ≡ self.old.changes) }
     {
-        let out = merge(self.registers(), from, to)?;
-        self.put(to, out);
-        Ok(Pace::Going)
+        let made = merge(self.registers(), from, to);
+        self.put_made(to, made)
     }
 
     /// Writes a column of the row under a cursor.
@@ -287,10 +249,7 @@ impl Running {
         ensures log { OnErr result (self.new.changes ≡ self.old.changes) }
     {
         match self.lent(tables, cursor, place) {
-            Lent::Integer(n) => {
-                self.set_integer(to, n);
-                Ok(Pace::Going)
-            }
+            Lent::Integer(n) => self.put_integer(n, to),
             Lent::Text(text) => self.put_str(alloc, text, to),
             Lent::Other => self.put_any_column(alloc, tables, cursor, place, to),
         }
@@ -310,9 +269,8 @@ impl Running {
         ensures leads { ActsOn result self.old tables.now self.new tables.now (λ s. put s to (column (current s.shared.world (cursor_at s.cursors cursor)) place)) }
         ensures log { OnErr result (self.new.changes ≡ self.old.changes) }
     {
-        let out = self.column(alloc, tables, cursor, place)?;
-        self.put(to, out);
-        Ok(Pace::Going)
+        let made = self.column(alloc, tables, cursor, place);
+        self.put_made(to, made)
     }
 
     /// Puts the values of so many registers as a row under the rowid that a register holds, and goes on.

@@ -6,13 +6,13 @@ ghost use Rattle.vm_store.specs.Cursors.{cursor_of};
 use std::marker::Model;
 
 /// A cursor: closed, or open on a table and there on a row or on none. Contracts see the cursor of the machine over lists.
-#[derive(Debug, Drop)]
+#[derive(Drop)]
 pub struct Cursor {
     spot: Spot,
 }
 
 /// Where a cursor stands.
-#[derive(Clone, Copy, Debug)]
+#[derive(Clone, Copy)]
 pub enum Spot {
     Closed,
     Open { table: u32, place: Option<Place> },
@@ -20,7 +20,7 @@ pub enum Spot {
 
 /// A row by its rowid, and where the search for it came to, which makes the next search near it short. The row may stand
 /// elsewhere by now, since rows may have come in front of it.
-#[derive(Clone, Copy, Debug)]
+#[derive(Clone, Copy)]
 pub struct Place {
     pub rowid: i64,
     pub near: usize,

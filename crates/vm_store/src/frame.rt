@@ -9,7 +9,7 @@ use std::marker::Model;
 
 /// A unit that waits for the result of another, and the register that it goes to. Contracts see the frame of the machine over
 /// lists.
-#[derive(Debug, Drop)]
+#[derive(Drop)]
 pub struct Frame {
     pub unit: u32,
     pub pc: usize,
@@ -54,7 +54,7 @@ impl MadeWith<Global> for Frame {
 }
 
 /// The frames that wait. The first four take no memory of their own. Contracts see the list of them, the last called first.
-#[derive(Debug, Drop)]
+#[derive(Drop)]
 pub struct Frames {
     frames: SmallVec<Frame, 4>,
 }

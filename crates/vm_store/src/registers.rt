@@ -12,7 +12,7 @@ use std::mem;
 
 /// The registers of a unit that runs, or its arguments: each holds a value or is bad. One that is not there reads NULL and takes
 /// nothing. Contracts see the list of what they hold.
-#[derive(Debug, Drop)]
+#[derive(Drop)]
 pub struct Registers {
     outs: Vec<Out>,
 }

@@ -6,20 +6,15 @@ use Rattle.bind_expr.specs.Groups.{arm_whole}
 use Rattle.bind_expr.specs.Gathers.{choice, matching, operand, part_of, arm_in}
 use Rattle.bind_expr.proofs.Depths.{in_deeper, case_deeper}
 use Rattle.bind_expr.proofs.GatherLaws.{next_is, all_found, arm_in-is, call_part-is, option_part-is}
-use Rattle.bind_expr.proofs.Givings.{ends, goes_on}
+use Rattle.bind_expr.proofs.Givings.{ends, goes_on, made}
 use Rattle.sql_meaning.specs.Binding.{arm_bound}
 use Rattle.bind_expr.proofs.PartLaws.{part_of-Literal, part_of-Parameter, part_of-Column, part_of-TableColumn, part_of-Unary, part_of-Binary, part_of-Between, part_of-Like, part_of-In, part_of-Collate, part_of-Cast, part_of-Call, part_of-Case, part_of-RaiseIgnore, part_of-RaiseAbort}
 use Rattle.bind_expr.proofs.binding.+binding.Goals as goal
 
-pub bind-returns-in_err-literal_part-in-Literal : goal.bind-returns-in_err-literal_part-in-Literal
-bind-returns-in_err-literal_part-in-Literal t c =
-    let why = err_from_is_err_and c.from_residual.result c.from_residual.ensures.1 in
-    rw why.1 (inl why.2)
-
-pub bind-returns-in_ok-literal_part-in-Literal : goal.bind-returns-in_ok-literal_part-in-Literal
-bind-returns-in_ok-literal_part-in-Literal t c =
+pub bind-returns-in-Literal : goal.bind-returns-in-Literal
+bind-returns-in-Literal t c =
     let is = rw (← c.in-Literal.is) at (part_of-Literal c.in-Literal.token c.args.scope.now) in
-    is ∙ ap Ok (sym (rw c.text.ensures at c.in_ok-literal_part-in-Literal.ensures))
+    rw c.caused.ensures (made _ _ _ is (rw c.text.ensures at c.literal_part.ensures))
 
 pub bind-returns-in-Parameter : goal.bind-returns-in-Parameter
 bind-returns-in-Parameter t c =
@@ -39,19 +34,14 @@ bind-returns-in-TableColumn t c =
 pub bind-returns-in_err-a-in-Unary : goal.bind-returns-in_err-a-in-Unary
 bind-returns-in_err-a-in-Unary t c =
     let is = rw (← c.in-Unary.is) at (part_of-Unary c.in-Unary.op c.in-Unary.a c.args.scope.now) in
-    let why = err_from_is_err_and c.from_residual-in_err-a-in-Unary.result c.from_residual-in_err-a-in-Unary.ensures.1 in
+    let why = err_from_is_err_and c.from_residual.result c.from_residual.ensures.1 in
     rw (why.1, why.2) (ends whole whole _ _ _ _ is (rw c.get.ensures at c.in_err-a-in-Unary.ensures))
 
-pub bind-returns-in_err-unary-in-Unary : goal.bind-returns-in_err-unary-in-Unary
-bind-returns-in_err-unary-in-Unary t c =
-    let why = err_from_is_err_and c.from_residual-in_err-unary-in-Unary.result c.from_residual-in_err-unary-in-Unary.ensures.1 in
-    rw why.1 (inl why.2)
-
-pub bind-returns-in_ok-unary-in-Unary : goal.bind-returns-in_ok-unary-in-Unary
-bind-returns-in_ok-unary-in-Unary t c =
+pub bind-returns-in_ok-a-in-Unary : goal.bind-returns-in_ok-a-in-Unary
+bind-returns-in_ok-a-in-Unary t c =
     let is = rw (← c.in-Unary.is) at (part_of-Unary c.in-Unary.op c.in-Unary.a c.args.scope.now) in
     let is_a = goes_on _ _ _ _ is (rw c.get.ensures at c.in_ok-a-in-Unary.ensures) in
-    is_a ∙ ap Ok (sym c.in_ok-unary-in-Unary.ensures)
+    rw c.caused-in-Unary.ensures (made _ _ _ is_a c.unary.ensures)
 
 pub bind-returns-in_err-a-in-Binary : goal.bind-returns-in_err-a-in-Binary
 bind-returns-in_err-a-in-Binary t c =
@@ -66,17 +56,12 @@ bind-returns-in_err-b-in-Binary t c =
     let why = err_from_is_err_and c.from_residual-in_err-b-in-Binary.result c.from_residual-in_err-b-in-Binary.ensures.1 in
     rw (why.1, why.2) (ends whole whole _ _ _ _ is_a (rw c.get-in-Binary-2.ensures at c.in_err-b-in-Binary.ensures))
 
-pub bind-returns-in_err-binary-in-Binary : goal.bind-returns-in_err-binary-in-Binary
-bind-returns-in_err-binary-in-Binary t c =
-    let why = err_from_is_err_and c.from_residual-in_err-binary-in-Binary.result c.from_residual-in_err-binary-in-Binary.ensures.1 in
-    rw why.1 (inl why.2)
-
-pub bind-returns-in_ok-binary-in-Binary : goal.bind-returns-in_ok-binary-in-Binary
-bind-returns-in_ok-binary-in-Binary t c =
+pub bind-returns-in_ok-b-in-Binary : goal.bind-returns-in_ok-b-in-Binary
+bind-returns-in_ok-b-in-Binary t c =
     let is = rw (← c.in-Binary.is) at (part_of-Binary c.in-Binary.op c.in-Binary.a c.in-Binary.b c.args.scope.now) in
     let is_a = goes_on _ _ _ _ is (rw c.get-in-Binary.ensures at c.in_ok-a-in-Binary.ensures) in
     let is_b = goes_on _ _ _ _ is_a (rw c.get-in-Binary-2.ensures at c.in_ok-b-in-Binary.ensures) in
-    is_b ∙ ap Ok (sym c.in_ok-binary-in-Binary.ensures)
+    rw c.caused-in-Binary.ensures (made _ _ _ is_b c.binary.ensures)
 
 pub bind-returns-in_err-a-in-Between : goal.bind-returns-in_err-a-in-Between
 bind-returns-in_err-a-in-Between t c =
@@ -99,18 +84,13 @@ bind-returns-in_err-high-in-Between t c =
     let why = err_from_is_err_and c.from_residual-in_err-high-in-Between.result c.from_residual-in_err-high-in-Between.ensures.1 in
     rw (why.1, why.2) (ends whole whole _ _ _ _ is_low (rw c.get-in-Between-3.ensures at c.in_err-high-in-Between.ensures))
 
-pub bind-returns-in_err-between-in-Between : goal.bind-returns-in_err-between-in-Between
-bind-returns-in_err-between-in-Between t c =
-    let why = err_from_is_err_and c.from_residual-in_err-between-in-Between.result c.from_residual-in_err-between-in-Between.ensures.1 in
-    rw why.1 (inl why.2)
-
-pub bind-returns-in_ok-between-in-Between : goal.bind-returns-in_ok-between-in-Between
-bind-returns-in_ok-between-in-Between t c =
+pub bind-returns-in_ok-high-in-Between : goal.bind-returns-in_ok-high-in-Between
+bind-returns-in_ok-high-in-Between t c =
     let is = rw (← c.in-Between.is) at (part_of-Between c.in-Between.a c.in-Between.low c.in-Between.high c.args.scope.now) in
     let is_a = goes_on _ _ _ _ is (rw c.get-in-Between.ensures at c.in_ok-a-in-Between.ensures) in
     let is_low = goes_on _ _ _ _ is_a (rw c.get-in-Between-2.ensures at c.in_ok-low-in-Between.ensures) in
     let is_high = goes_on _ _ _ _ is_low (rw c.get-in-Between-3.ensures at c.in_ok-high-in-Between.ensures) in
-    is_high ∙ ap Ok (sym c.in_ok-between-in-Between.ensures)
+    rw c.caused-in-Between.ensures (made _ _ _ is_high c.between.ensures)
 
 pub bind-returns-in_err-a-in-Like : goal.bind-returns-in_err-a-in-Like
 bind-returns-in_err-a-in-Like t c =
@@ -133,18 +113,13 @@ bind-returns-in_err-escape-in-Like t c =
     let why = err_from_is_err_and c.from_residual-in_err-escape-in-Like.result c.from_residual-in_err-escape-in-Like.ensures.1 in
     rw (why.1, why.2) (ends (option_map whole) whole _ _ _ _ is_b c.in_err-escape-in-Like.ensures)
 
-pub bind-returns-in_err-like-in-Like : goal.bind-returns-in_err-like-in-Like
-bind-returns-in_err-like-in-Like t c =
-    let why = err_from_is_err_and c.from_residual-in_err-like-in-Like.result c.from_residual-in_err-like-in-Like.ensures.1 in
-    rw why.1 (inl why.2)
-
-pub bind-returns-in_ok-like-in-Like : goal.bind-returns-in_ok-like-in-Like
-bind-returns-in_ok-like-in-Like t c =
+pub bind-returns-in_ok-escape-in-Like : goal.bind-returns-in_ok-escape-in-Like
+bind-returns-in_ok-escape-in-Like t c =
     let is = rw (← c.in-Like.is) at (part_of-Like c.in-Like.a c.in-Like.b c.in-Like.escape c.args.scope.now) in
     let is_a = goes_on _ _ _ _ is (rw c.get-in-Like.ensures at c.in_ok-a-in-Like.ensures) in
     let is_b = goes_on _ _ _ _ is_a (rw c.get-in-Like-2.ensures at c.in_ok-b-in-Like.ensures) in
     let is_escape = goes_on _ _ _ _ is_b c.in_ok-escape-in-Like.ensures in
-    is_escape ∙ ap Ok (sym c.in_ok-like-in-Like.ensures)
+    rw c.caused-in-Like.ensures (made _ _ _ is_escape c.like.ensures)
 
 pub bind-returns-in_err-a-in-In : goal.bind-returns-in_err-a-in-In
 bind-returns-in_err-a-in-In t c =
@@ -159,17 +134,12 @@ bind-returns-in_err-others-in-In t c =
     let why = err_from_is_err_and c.from_residual-in_err-others-in-In.result c.from_residual-in_err-others-in-In.ensures.1 in
     rw (why.1, why.2) (ends itself whole _ _ _ _ is_a (rw c.as_slice.ensures at c.in_err-others-in-In.ensures))
 
-pub bind-returns-in_err-member-in-In : goal.bind-returns-in_err-member-in-In
-bind-returns-in_err-member-in-In t c =
-    let why = err_from_is_err_and c.from_residual-in_err-member-in-In.result c.from_residual-in_err-member-in-In.ensures.1 in
-    rw why.1 (inl why.2)
-
-pub bind-returns-in_ok-member-in-In : goal.bind-returns-in_ok-member-in-In
-bind-returns-in_ok-member-in-In t c =
+pub bind-returns-in_ok-others-in-In : goal.bind-returns-in_ok-others-in-In
+bind-returns-in_ok-others-in-In t c =
     let is = rw (← c.in-In.is) at (part_of-In c.in-In.a c.in-In.others c.args.scope.now) in
     let is_a = goes_on _ _ _ _ is (rw c.get-in-In.ensures at c.in_ok-a-in-In.ensures) in
     let is_others = goes_on _ _ _ _ is_a (rw c.as_slice.ensures at c.in_ok-others-in-In.ensures) in
-    is_others ∙ ap Ok (sym c.in_ok-member-in-In.ensures)
+    rw c.caused-in-In.ensures (made _ _ _ is_others c.member.ensures)
 
 pub bind-returns-in_err-a-in-Collate : goal.bind-returns-in_err-a-in-Collate
 bind-returns-in_err-a-in-Collate t c =
@@ -189,21 +159,16 @@ bind-returns-in_err-a-in-Cast t c =
     let why = err_from_is_err_and c.from_residual-in_err-a-in-Cast.result c.from_residual-in_err-a-in-Cast.ensures.1 in
     rw (why.1, why.2) (ends whole whole _ _ _ _ is (rw c.get-in-Cast.ensures at c.in_err-a-in-Cast.ensures))
 
-pub bind-returns-in_err-cast-in-Cast : goal.bind-returns-in_err-cast-in-Cast
-bind-returns-in_err-cast-in-Cast t c =
-    let why = err_from_is_err_and c.from_residual-in_err-cast-in-Cast.result c.from_residual-in_err-cast-in-Cast.ensures.1 in
-    rw why.1 (inl why.2)
-
 pub bind-returns-in_err-to-in-Cast : goal.bind-returns-in_err-to-in-Cast
 bind-returns-in_err-to-in-Cast t c =
     let why = err_from_is_err_and c.from_residual-in_err-to-in-Cast.result c.from_residual-in_err-to-in-Cast.ensures.1 in
     rw why.1 (inl why.2)
 
-pub bind-returns-in_ok-cast-in-Cast : goal.bind-returns-in_ok-cast-in-Cast
-bind-returns-in_ok-cast-in-Cast t c =
+pub bind-returns-in_ok-to-in-Cast : goal.bind-returns-in_ok-to-in-Cast
+bind-returns-in_ok-to-in-Cast t c =
     let is = rw (← c.in-Cast.is) at (part_of-Cast c.in-Cast.a c.in-Cast.type_name c.args.scope.now) in
     let is_a = goes_on _ _ _ _ is (rw c.get-in-Cast.ensures at c.in_ok-a-in-Cast.ensures) in
-    is_a ∙ ap Ok (sym (rw (c.in_ok-to-in-Cast.ensures, c.text-in-Cast.ensures) at c.in_ok-cast-in-Cast.ensures))
+    rw c.caused-in-Cast.ensures (made _ _ _ is_a (rw (c.in_ok-to-in-Cast.ensures, c.text-in-Cast.ensures) at c.cast.ensures))
 
 pub bind-returns-in-Call : goal.bind-returns-in-Call
 bind-returns-in-Call t c =
@@ -310,16 +275,11 @@ bind_call-returns-in_err-args t c =
     let next = goes_on _ _ _ _ is (rw c.text.ensures at c.in_ok-f.ensures) in
     rw (why.1, why.2) (ends itself whole _ _ _ _ next c.in_err-args.ensures)
 
-pub bind_call-returns-in_err-call : goal.bind_call-returns-in_err-call
-bind_call-returns-in_err-call t c =
-    let why = err_from_is_err_and c.from_residual-in_err-call.result c.from_residual-in_err-call.ensures.1 in
-    rw why.1 (inl why.2)
-
 pub bind_call-returns : goal.bind_call-returns
 bind_call-returns t c =
     let is = call_part-is c.args.scope.now c.args.token.now c.args.how c.args.args.now in
     let next = goes_on _ _ _ _ is (rw c.text.ensures at c.in_ok-f.ensures) in
-    goes_on _ _ _ _ next c.in_ok-args.ensures ∙ ap Ok (sym c.in_ok-call.ensures)
+    rw c.caused.ensures (made _ _ _ (goes_on _ _ _ _ next c.in_ok-args.ensures) c.call.ensures)
 
 pub bind_option-returns-in_err-bind-in-Some : goal.bind_option-returns-in_err-bind-in-Some
 bind_option-returns-in_err-bind-in-Some t c =
@@ -363,13 +323,13 @@ bind-returns-in_err-otherwise-in-Some t c =
     let why = err_from_is_err_and c.from_residual-in_err-otherwise-in-Some.result c.from_residual-in_err-otherwise-in-Some.ensures.1 in
     rw (why.1, why.2) (ends (option_map whole) whole _ _ _ _ is_arms c.in_err-otherwise-in-Some.ensures)
 
-pub bind-returns-in_ok-choose_match-in-Some : goal.bind-returns-in_ok-choose_match-in-Some
-bind-returns-in_ok-choose_match-in-Some t c =
+pub bind-returns-in_ok-otherwise-in-Some : goal.bind-returns-in_ok-otherwise-in-Some
+bind-returns-in_ok-otherwise-in-Some t c =
     let whole_case = rw (← c.in-Case.is) at (part_of-Case c.in-Case.operand c.in-Case.arms c.in-Case.otherwise c.args.scope.now) in
     let is = rw c.in-Some.is at whole_case in
     let is_operand = goes_on _ _ _ _ is (rw c.get-in-Some.ensures at c.in_ok-operand-in-Some.ensures) in
     let is_arms = goes_on _ _ _ _ is_operand (rw c.as_slice-in-Some.ensures at c.in_ok-arms-in-Some.ensures) in
-    goes_on _ _ _ _ is_arms c.in_ok-otherwise-in-Some.ensures ∙ ap Ok (sym c.in_ok-choose_match-in-Some.ensures)
+    rw c.caused-in-Some.ensures (made _ _ _ (goes_on _ _ _ _ is_arms c.in_ok-otherwise-in-Some.ensures) c.choose_match.ensures)
 
 pub bind-returns-in_err-arms-in-None : goal.bind-returns-in_err-arms-in-None
 bind-returns-in_err-arms-in-None t c =
@@ -386,12 +346,12 @@ bind-returns-in_err-otherwise-in-None t c =
     let why = err_from_is_err_and c.from_residual-in_err-otherwise-in-None.result c.from_residual-in_err-otherwise-in-None.ensures.1 in
     rw (why.1, why.2) (ends (option_map whole) whole _ _ _ _ is_arms c.in_err-otherwise-in-None.ensures)
 
-pub bind-returns-in_ok-choose-in-None : goal.bind-returns-in_ok-choose-in-None
-bind-returns-in_ok-choose-in-None t c =
+pub bind-returns-in_ok-otherwise-in-None : goal.bind-returns-in_ok-otherwise-in-None
+bind-returns-in_ok-otherwise-in-None t c =
     let whole_case = rw (← c.in-Case.is) at (part_of-Case c.in-Case.operand c.in-Case.arms c.in-Case.otherwise c.args.scope.now) in
     let is = rw c.in-None.is at whole_case in
     let is_arms = goes_on _ _ _ _ is (rw c.as_slice-in-None.ensures at c.in_ok-arms-in-None.ensures) in
-    goes_on _ _ _ _ is_arms c.in_ok-otherwise-in-None.ensures ∙ ap Ok (sym c.in_ok-choose-in-None.ensures)
+    rw c.caused-in-None.ensures (made _ _ _ (goes_on _ _ _ _ is_arms c.in_ok-otherwise-in-None.ensures) c.choose.ensures)
 
 pub bind-returns-in_err-operand-in-Some : goal.bind-returns-in_err-operand-in-Some
 bind-returns-in_err-operand-in-Some t c =

@@ -1,7 +1,6 @@
 -- The loop has come to the end of the arguments or of the keys.
-use Rattle.std.proofs.Common.{◌≡◌, ◌∙◌, length, sym, min, rules}
+use Rattle.std.proofs.Common.{◌≡◌, ◌∙◌, length, sym, min}
 use Rattle.std.proofs.lemmas.Slice.Zip.{zip_end}
-use Rattle.eng_value.specs.Functions.{best_behind}
 use Rattle.eng_scalar.specs.Extremes.{beats}
 use Rattle.eng_scalar.proofs.ExtremeLaws.{best_behind-end}
 use Rattle.eng_scalar.proofs.extremes.best_behind.Goals as goal
@@ -11,5 +10,4 @@ returns c =
     let vs = c.args.args.now in
     let ks = c.args.keys.now in
     let n : length c.loop-arg.yielded ≡ min (length vs) (length ks) = zip_end vs ks c.loop-arg.yielded _ c.loop-arg.arg-iterator c.next.new.self _ (cc) (cc) c.loop-arg.yielded_by c.in-None.is c.next.ensures.steps in
-    let best : best_behind (beats c.args.extreme) c.args.first.now c.args.first_key.now vs ks ≡ c.loop-arg.best.now = sym c.loop-arg.invariant ∙ best_behind-end (beats c.args.extreme) c.loop-arg.best.now c.loop-arg.best_key.now vs ks _ n in
-    rw best (search rules)
+    sym (best_behind-end (beats c.args.extreme) c.loop-arg.best.now c.loop-arg.best_key.now vs ks _ n) ∙ c.loop-arg.invariant

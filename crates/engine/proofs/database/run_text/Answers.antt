@@ -6,7 +6,7 @@ use Rattle.sql_meaning.specs.Statement.{text_outcome}
 use Rattle.sql_meaning.specs.Work.{instruction_bound}
 use Rattle.engine.specs.Held.{state_of}
 use Rattle.engine.specs.Outcomes.{create_outcome_in, put_outcome_in, query_outcome_in}
-use Rattle.engine.proofs.CarryingOut.{carries_as}
+use Rattle.engine.proofs.CarryingOut.{carries_as, stands_same}
 use Rattle.engine.proofs.InstructionBounds.{create_within, insert_within, select_within}
 use Rattle.engine.proofs.Texts.{create_is, insert_is, select_is, refusal_carries}
 use Rattle.engine.proofs.database.run_text.Goals as goal
@@ -21,7 +21,7 @@ returns-in-Ok-CreateTable-clause-carried g c hosts =
     let b = c.in-Ok-CreateTable.entry in
     let text = c.args.text.now in
     carries_as (text_outcome hosts old c.args.params.now text) (create_outcome_in db.catalog db.tables db.changes db.last_rowid b) old (state_of after.catalog after.tables after.changes after.last_rowid) c.args.budget (create_steps db.tables) (instruction_bound old text) (c.run_create.new.steps - c.args.steps.now) (g.R.RowSink.taken c.args.rows.now) (g.R.RowSink.taken c.run_create.new.rows) (Rose (g.R.RowSink.fault_count c.args.rows.now) (g.R.RowSink.fault_count c.run_create.new.rows)) c.run_create.result
-    (create_is hosts db.catalog db.tables db.changes db.last_rowid c.args.params.now text p.0 b c.requires.in_line p.1 p.2)
+    (stands_same _ _ (create_is hosts db.catalog db.tables db.changes db.last_rowid c.args.params.now text p.0 b c.requires.in_line p.1 p.2))
     (create_within db.catalog db.tables db.changes db.last_rowid text c.requires.in_line p.0 b p.1 p.2)
     c.run_create.ensures.carried
 
@@ -49,7 +49,7 @@ returns-in-Ok-Select-clause-carried g c hosts =
     let b = c.in-Ok-Select.select in
     let text = c.args.text.now in
     carries_as (text_outcome hosts old c.args.params.now text) (query_outcome_in db.catalog db.tables db.changes db.last_rowid c.args.params.now b) old (state_of after.catalog after.tables after.changes after.last_rowid) c.args.budget (query_steps b db.tables) (instruction_bound old text) (c.run_select.new.steps - c.args.steps.now) (g.R.RowSink.taken c.args.rows.now) (g.R.RowSink.taken c.run_select.new.rows) (Rose (g.R.RowSink.fault_count c.args.rows.now) (g.R.RowSink.fault_count c.run_select.new.rows)) c.run_select.result
-    (select_is hosts db.catalog db.tables db.changes db.last_rowid c.args.params.now text p.0 b c.requires.in_line p.1 p.2)
+    (stands_same _ _ (select_is hosts db.catalog db.tables db.changes db.last_rowid c.args.params.now text p.0 b c.requires.in_line p.1 p.2))
     (select_within db.catalog db.tables db.changes db.last_rowid text c.requires.in_line p.0 b p.1 p.2 p.3)
     c.run_select.ensures.carried
 

@@ -1,5 +1,6 @@
-use Rattle.std.proofs.Common.{◌≡◌, length, ap, ◌∙◌, arith}
+use Rattle.std.proofs.Common.{◌≡◌, ap, ◌∙◌}
 use Rattle.sql_lex.specs.Tokens.{tokens_of}
+use Rattle.sql_meaning.specs.Statement.{count_of}
 use Rattle.engine.proofs.Prepared.{found, failed, prepared}
 use Rattle.engine.proofs.preparing.prepare.Goals as goal
 
@@ -12,6 +13,5 @@ pub returns : goal.returns
 returns c =
     let shows = c.in-Ok.ensures in
     let binds = c.bind.ensures in
-    let many = ap length (c.deref.ensures.value ∙ c.in_ok-tokens.ensures.tokens) in
-    let n : c.len.result ≡ length (tokens_of c.args.text.now) = omega (arith, c.len.ensures, c.deref.ensures.len, many) in
+    let n : c.count_of.result ≡ count_of (tokens_of c.args.text.now) = c.count_of.ensures ∙ ap count_of (c.deref-2.ensures.value ∙ c.in_ok-tokens.ensures.tokens) in
     prepared c.args.catalog.now c.args.text.now c.in-Ok.statement c.bind.result (found c.args.catalog.now c.args.text.now c.in-Ok.statement (rw (c.deref.ensures.value, c.in_ok-tokens.ensures.tokens) at shows)) (rw (c.entries.ensures, n) at binds)

@@ -1,8 +1,11 @@
-use Rattle.std.proofs.Common.{◌∙◌, ap, sym}
+use Rattle.std.proofs.Common.{◌∷◌, ◌∙◌, ap, sym, subst}
 use Rattle.eng_value.specs.declared.cause.Cause.{Cause}
-use Rattle.eng_value.specs.Causes.{CauseSet, has_cause}
-use Rattle.eng_value.proofs.CauseLaws.{set_of, has_cause-insert}
+use Rattle.eng_value.specs.Causes.{CauseSet, StandOnce, has_cause}
+use Rattle.eng_value.proofs.CauseLaws.{StandOnce-one, set_of, has_cause-insert}
 use Rattle.eng_value.proofs.causes.Causes.into_first.Goals as goal
+
+pub invariant_of-causes : goal.invariant_of-causes
+invariant_of-causes c = subst (λ cs. StandOnce (c.replace.new.dest ∷ cs)) (sym c.clear.ensures.items) (StandOnce-one c.replace.new.dest)
 
 pub returns : goal.returns
 returns c =

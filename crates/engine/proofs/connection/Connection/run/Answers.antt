@@ -1,5 +1,8 @@
 use Rattle.std.proofs.Common.{ap, ◌∙◌, arith}
+use Rattle.sql_meaning.proofs.ValidLaws.{text_outcome-valid}
 use Rattle.vm_core.specs.Meant.{meant}
+use Rattle.engine.specs.Held.{state_of}
+use Rattle.engine.proofs.CarryingOut.{carries_valid}
 use Rattle.engine.proofs.connection.Connection.run.Goals as goal
 use Rattle.engine.proofs.connection.Connection.run.Goals.{in-Ok, in-Err}
 
@@ -57,3 +60,21 @@ returns-clause-changed g c = elim c.match-run_text.branch [
   | in-Ok w ↦ rw (w.result-is, ← c.self.view_is) (w.in-Ok.ensures.carried (meant c.args.hosts.now)).answer.4
   | in-Err w ↦ rw w.result-is tt
 ]
+
+-- src/connection.rt:69:5
+pub invariant_of-self : goal.invariant_of-self
+invariant_of-self g c =
+    let hosts = meant c.args.hosts.now in
+    let db = c.self.inside.database in
+    let old = state_of db.catalog db.tables db.changes db.last_rowid in
+    record {
+      in_line = c.run_text.ensures.in_line;
+      valid = carries_valid _ old _ _ _ _ _ _ _ _ c.self.invariant.valid (text_outcome-valid hosts old c.args.params.now c.args.sql.now c.self.invariant.valid) (c.run_text.ensures.carried hosts);
+    }
+
+pub returns-clause-valid : goal.returns-clause-valid
+returns-clause-valid g c =
+    let hosts = meant c.args.hosts.now in
+    let db = c.self.inside.database in
+    let old = state_of db.catalog db.tables db.changes db.last_rowid in
+    carries_valid _ old _ _ _ _ _ _ _ _ c.self.invariant.valid (text_outcome-valid hosts old c.args.params.now c.args.sql.now c.self.invariant.valid) (c.run_text.ensures.carried hosts)

@@ -22,5 +22,5 @@ returns-in-Ok-clause-table c =
     let t : TableEntry = get_or catalog c.in-Some.place (record { name = []; columns = []; tokens = 0 }) in
     let at : slice_get catalog c.in-Some.place ≡ Some t = slice_get-get_or catalog c.in-Some.place _ lt in
     let entry = place_named-entry catalog name c.in-Some.place t found at in
-    let rows = place_named-rows catalog name c.in-Some.place t found at lists c.self.invariant in
+    let rows = place_named-rows catalog name c.in-Some.place t found at lists c.self.invariant.in_line in
     rw (← c.self.view_is, entry, rows) (ap Some c.in-Ok.ensures)

@@ -1,4 +1,4 @@
-use Rattle.std.proofs.Common.{[], IfOk, sym, subst}
+use Rattle.std.proofs.Common.{◌≡◌, [], IfOk, rules, sym, subst, w64, to_z, of_z}
 use Rattle.eng_value.specs.declared.out.Out.TheVariants.{Good}
 use Rattle.vm_code.specs.Machine.{put}
 use Rattle.vm_core.specs.Events.{Leads}
@@ -9,3 +9,10 @@ pub returns-in-Text-clause-leads : goal.returns-in-Text-clause-leads
 returns-in-Text-clause-leads c e =
     let w = c.args.tables.now in
     subst (λ v. IfOk c.put_str.result (λ p. Leads p e (state_at c.put_str.new.self w) (put (state_at c.args.self.now w []) c.args.to (Good v)))) (sym c.in-Text.ensures) (c.put_str.ensures.leads e w)
+
+pub returns-in-Integer-clause-leads : goal.returns-in-Integer-clause-leads
+returns-in-Integer-clause-leads c e =
+    let w = c.args.tables.now in
+    let n : to_z w64 (of_z w64 c.in-Integer.n) ≡ c.in-Integer.n = search rules in
+    let leads = c.put_integer.ensures.leads e w in
+    subst (λ v. IfOk c.put_integer.result (λ p. Leads p e (state_at c.put_integer.new.self w) (put (state_at c.args.self.now w []) c.args.to (Good v)))) (sym c.in-Integer.ensures) (rw n at leads)

@@ -1,4 +1,4 @@
-use Rattle.top_tests.proofs.connections.run_with.Given as goal
+use Rattle.top_tests.proofs.connections.run.Given as goal
 
 abbrev pub ghosts-run_counted : goal.ghosts-run_counted
 ghosts-run_counted a = record { name = a.blank.name; parts = a.blank.parts }

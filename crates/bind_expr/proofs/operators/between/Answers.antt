@@ -1,0 +1,6 @@
+use Rattle.std.proofs.Common.{arith}
+use Rattle.bind_expr.proofs.Collations.{overs}
+use Rattle.bind_expr.proofs.operators.between.Goals as goal
+
+pub returns : goal.returns
+returns c = grind (arith, overs)

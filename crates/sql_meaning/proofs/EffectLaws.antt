@@ -1,0 +1,180 @@
+-- What statements do.
+use Rattle.std.proofs.Common.{◌≡◌, ◌↔◌, ◌⊎◌, inl, inr, ℕ, suc, ◌-◌, List, [], ◌∷◌, ◌++◌, Bool, true, false, length, Option, Some, None, Result, Ok, Err, ℤ, pos, ◌+ℤ◌, ◌<ℤ◌, int_le, slice_get, if◌then◌else◌, All, Any, refl, sym, ap, ◌∙◌, subst, arith, append_assoc, append-nil}
+use Rattle.std.proofs.lemmas.Int.{ints}
+use Rattle.eng_number.specs.Numbers.{fits_integer}
+use Rattle.eng_value.specs.Causes.{CauseSet, only}
+use Rattle.eng_value.specs.Environments.{Environment}
+use Rattle.eng_value.specs.StoredRows.{StoredRow, next_rowid, rowid_behind}
+use Rattle.eng_value.specs.Truths.{truth_in, truth_of}
+use Rattle.eng_value.specs.declared.cause.Cause.TheVariants.{Full}
+use Rattle.eng_value.specs.declared.limits.TheConstants.{MAX_ROWID}
+use Rattle.eng_value.specs.declared.out.Out.{Out}
+use Rattle.eng_value.specs.declared.truth.Truth.{Truth}
+use Rattle.eng_value.specs.declared.truth.Truth.TheVariants as truth
+use Rattle.eng_value.specs.declared.value.Value.{Value}
+use Rattle.sql_meaning.specs.declared.bound.BoundExpr.{BoundExpr}
+use Rattle.sql_meaning.specs.declared.column.TableEntry.{TableEntry}
+use Rattle.sql_meaning.specs.Binding.{◌>>=◌}
+use Rattle.sql_meaning.specs.Effects.{AreDrawn, IsFull, IsOneMore}
+use Rattle.sql_meaning.specs.Expression.{value_of}
+use Rattle.sql_meaning.specs.Names.{is_same_name}
+use Rattle.sql_meaning.specs.Statement.{Item, Row, Failed, after_conjunct, if_some, item_of, item_put, items_at, no_causes, row_put, row_under, rows_put, sifted, stored}
+use Rattle.sql_meaning.specs.Valid.{AreRowsOf, IsRowOf}
+use Rattle.sql_meaning.specs.World.{rows_of, with_rows}
+use Rattle.sql_meaning.proofs.NameLaws.{is_same_name-left, is_same_name-refl, is_same_name_comm}
+use Rattle.sql_meaning.proofs.StoringLaws.{AreWide, drawn, row_behind}
+
+-- ---- conjuncts
+
+rejected_by : (causes : Out) (t : Truth) (rest : Out → Option Out) → (t ≡ truth.False) ⊎ (t ≡ truth.Unknown) → if_some (after_conjunct causes t) rest ≡ None
+rejected_by causes t rest (inl is) = ap (λ u. if_some (after_conjunct causes u) rest) is
+rejected_by causes t rest (inr is) = ap (λ u. if_some (after_conjunct causes u) rest) is
+
+none_behind : (o : Option Out) (rest : Out → Option Out) → ((causes : Out) → rest causes ≡ None) → if_some o rest ≡ None
+none_behind None rest none = refl
+none_behind (Some causes) rest none = none causes
+
+sifted-rejects : (before after : List BoundExpr) (c : BoundExpr) (env : Environment) → (truth_in (truth_of (value_of c env)) ≡ truth.False) ⊎ (truth_in (truth_of (value_of c env)) ≡ truth.Unknown) → (causes : Out) → sifted (before ++ c ∷ after) env causes ≡ None
+sifted-rejects [] after c env fails causes = rejected_by causes (truth_in (truth_of (value_of c env))) (sifted after env) fails
+sifted-rejects (b ∷ before) after c env fails causes =
+    none_behind (after_conjunct causes (truth_in (truth_of (value_of b env)))) (sifted (before ++ c ∷ after) env) (sifted-rejects before after c env fails)
+
+pub rejects : (before after : List BoundExpr) (c : BoundExpr) (results : List BoundExpr) (env : Environment) → (truth_in (truth_of (value_of c env)) ≡ truth.False) ⊎ (truth_in (truth_of (value_of c env)) ≡ truth.Unknown) → items_at (before ++ c ∷ after) results env ≡ []
+rejects before after c results env fails = rw (sifted-rejects before after c env fails no_causes) refl
+
+-- ---- rowids
+
+any-tail : (P : StoredRow → Type 0) (x : StoredRow) (rows : List StoredRow) → Any P rows → Any P (x ∷ rows)
+any-tail P x rows a = (suc a.0, a.1, omega (arith, a.2), a.3, a.4)
+
+-- the last of the rows
+record Last (rows : List StoredRow) : Type 0 where
+  row : StoredRow
+  here : slice_get rows (length rows - 1) ≡ Some row
+  among : Any (λ (r : StoredRow). r ≡ row) rows
+
+last_of : (x : StoredRow) (rows : List StoredRow) → Last (x ∷ rows)
+last_of x [] = record { row = x; here = refl; among = (0, x, omega arith, refl, refl) }
+last_of x (y ∷ rows) =
+    let place : length (x ∷ y ∷ rows) - 1 ≡ suc (length (y ∷ rows) - 1) = omega arith in
+    let rest = last_of y rows in
+    record { row = rest.row; here = ap (slice_get (x ∷ y ∷ rows)) place ∙ rest.here; among = any-tail (λ (r : StoredRow). r ≡ rest.row) x (y ∷ rows) rest.among }
+
+any-by : (P Q : StoredRow → Type 0) (rows : List StoredRow) → ((r : StoredRow) → P r → Q r) → Any P rows → Any Q rows
+any-by P Q rows more a = (a.0, a.1, a.2, a.3, more a.1 a.4)
+
+none-here : (P : StoredRow → Type 0) → Any P [] → ⊥
+none-here P a = omega (arith, a.2)
+
+-- the rowid that is drawn is one more than the largest
+one_more_by : (t : TableEntry) (x : StoredRow) (rows : List StoredRow) (n : ℤ) (last : Last (x ∷ rows)) (b : Bool) → AreRowsOf t (x ∷ rows) → next_rowid (x ∷ rows) ≡ Some n → (if b then None else Some (last.row.rowid +ℤ pos 1)) ≡ Some n → IsOneMore (x ∷ rows) n
+one_more_by t x rows n last true valid next e = absurd (cc)
+one_more_by t x rows n last false valid next e =
+    let is : n ≡ last.row.rowid +ℤ pos 1 = cc in
+    inr (any-by (λ (r : StoredRow). r ≡ last.row) (λ (r : StoredRow). n ≡ r.rowid +ℤ pos 1) (x ∷ rows) (λ r same. is ∙ ap (λ (o : StoredRow). o.rowid +ℤ pos 1) (sym same)) last.among, (drawn t (x ∷ rows) n valid next).above)
+
+pub one_more : (t : TableEntry) (rows : List StoredRow) (n : ℤ) → AreRowsOf t rows → next_rowid rows ≡ Some n → IsOneMore rows n
+one_more t [] n valid e = inl (refl, let one : pos 1 ≡ n = cc in sym one)
+one_more t (x ∷ rows) n valid e =
+    let last = last_of x rows in
+    one_more_by t x rows n last (int_le MAX_ROWID last.row.rowid) valid e (sym (ap rowid_behind last.here) ∙ e)
+
+-- there is none exactly where the largest is taken
+is_max : (n : ℤ) → fits_integer n ≡ true → int_le MAX_ROWID n ≡ true → n ≡ MAX_ROWID
+is_max n fits high = grind (arith, ints)
+
+not_max : (n m : ℤ) → int_le MAX_ROWID m ≡ false → n <ℤ (m +ℤ pos 1) → n ≡ MAX_ROWID → ⊥
+not_max n m low below is = grind (arith, ints)
+
+each-here : (P : StoredRow → Type 0) (rows : List StoredRow) (Q : StoredRow → Type 0) → All P rows → Any Q rows → (r : StoredRow) × P r × Q r
+each-here P rows Q all a = (a.1, subst P a.3 (all a.0 a.1 a.2), a.4)
+
+none_by : (t : TableEntry) (x : StoredRow) (rows : List StoredRow) (last : Last (x ∷ rows)) (b : Bool) → int_le MAX_ROWID last.row.rowid ≡ b → AreRowsOf t (x ∷ rows) → (next_rowid (x ∷ rows) ≡ (if b then None else Some (last.row.rowid +ℤ pos 1))) → (next_rowid (x ∷ rows) ≡ None) ↔ IsFull (x ∷ rows)
+none_by t x rows last true is valid next =
+    let row = each-here (IsRowOf t) (x ∷ rows) (λ (r : StoredRow). r ≡ last.row) valid.each last.among in
+    let fits : fits_integer last.row.rowid ≡ true = subst (λ (r : StoredRow). fits_integer r.rowid ≡ true) row.2 row.1.rowid in
+    (λ e. any-by (λ (r : StoredRow). r ≡ last.row) (λ (r : StoredRow). r.rowid ≡ MAX_ROWID) (x ∷ rows) (λ r same. ap (λ (o : StoredRow). o.rowid) same ∙ is_max last.row.rowid fits is) last.among, λ full. next)
+none_by t x rows last false is valid next =
+    let above = (drawn t (x ∷ rows) (last.row.rowid +ℤ pos 1) valid next).above in (
+      λ e. absurd (let bad : None ≡ Some (last.row.rowid +ℤ pos 1) = sym e ∙ next in cc),
+      λ full. let row = each-here (λ (r : StoredRow). r.rowid <ℤ (last.row.rowid +ℤ pos 1)) (x ∷ rows) (λ (r : StoredRow). r.rowid ≡ MAX_ROWID) above full in absurd (not_max row.0.rowid last.row.rowid is row.1 row.2),
+    )
+
+pub none-full : (t : TableEntry) (rows : List StoredRow) → AreRowsOf t rows → (next_rowid rows ≡ None) ↔ IsFull rows
+none-full t [] valid = (λ e. absurd (let bad : Some (pos 1) ≡ None = e in cc), λ full. absurd (none-here (λ (r : StoredRow). r.rowid ≡ MAX_ROWID) full))
+none-full t (x ∷ rows) valid = let last = last_of x rows in none_by t x rows last (int_le MAX_ROWID last.row.rowid) refl valid (ap rowid_behind last.here)
+
+-- ---- a row that is put
+
+under_full : (t : TableEntry) (rows : List StoredRow) (values : List Value) (rowid : Option ℤ) → next_rowid rows ≡ rowid → ((next_rowid rows ≡ None) ↔ IsFull rows)
+    → ((row_under t rows values rowid ≡ Err (only (Full t.name))) ↔ IsFull rows) × (((all : List StoredRow) × (row_under t rows values rowid ≡ Ok all)) ⊎ IsFull rows)
+under_full t rows values None is full = ((λ e. full.0 is, λ f. refl), inr (full.0 is))
+under_full t rows values (Some n) is full =
+    ((λ e. absurd (cc), λ f. absurd (let bad : Some n ≡ None = sym is ∙ full.1 f in cc)), inl (_, refl))
+
+pub full_exactly : (t : TableEntry) (rows : List StoredRow) (source values : List Value) → AreRowsOf t rows → item_of no_causes (stored t.columns source) ≡ Row values
+    → ((row_put t rows source ≡ Err (only (Full t.name))) ↔ IsFull rows) × (((all : List StoredRow) × (row_put t rows source ≡ Ok all)) ⊎ IsFull rows)
+full_exactly t rows source values valid is = rw is (under_full t rows values (next_rowid rows) refl (none-full t rows valid))
+
+-- what comes of a row that is put
+record OneMore (rows all : List StoredRow) : Type 0 where
+  row : StoredRow
+  behind : all ≡ rows ++ row ∷ []
+  next : next_rowid rows ≡ Some row.rowid
+
+under_one : (t : TableEntry) (rows all : List StoredRow) (values : List Value) (rowid : Option ℤ) → next_rowid rows ≡ rowid → row_under t rows values rowid ≡ Ok all → OneMore rows all
+under_one t rows all values None is e = absurd (cc)
+under_one t rows all values (Some n) is e = record { row = record { rowid = n; values = values }; behind = (let same : rows ++ record { rowid = n; values = values } ∷ [] ≡ all = cc in sym same); next = is }
+
+item_one : (t : TableEntry) (rows all : List StoredRow) (i : Item) → item_put t rows i ≡ Ok all → OneMore rows all
+item_one t rows all (Row values) e = under_one t rows all values (next_rowid rows) refl e
+item_one t rows all (Failed causes) e = absurd (let bad : Err causes ≡ Ok all = e in cc)
+
+-- and of several
+pub record More (rows all : List StoredRow) (given : ℕ) : Type 0 where
+  pub new : List StoredRow
+  pub behind : all ≡ rows ++ new
+  pub drawn : AreDrawn rows new
+  pub count : length new ≡ given
+
+more_after : (t : TableEntry) (rows all : List StoredRow) (count : ℕ) (first : Result (List StoredRow) CauseSet) (others : List StoredRow → Result (List StoredRow) CauseSet) → AreRowsOf t rows
+    → ((more : List StoredRow) → first ≡ Ok more → OneMore rows more × AreRowsOf t more) → ((more : List StoredRow) → AreRowsOf t more → others more ≡ Ok all → More more all count) → first >>= others ≡ Ok all → More rows all (suc count)
+more_after t rows all count (Err causes) others valid one rest e = absurd (let bad : Err causes ≡ Ok all = e in cc)
+more_after t rows all count (Ok more) others valid one rest e =
+    let first = (one more refl).0 in
+    let later = rest more (one more refl).1 e in
+    record {
+      new = first.row ∷ later.new;
+      behind = later.behind ∙ ap (λ rs. rs ++ later.new) first.behind ∙ append_assoc rows (first.row ∷ []) later.new;
+      drawn = (one_more t rows first.row.rowid valid first.next, subst (λ rs. AreDrawn rs later.new) first.behind later.drawn);
+      count = omega (arith, later.count);
+    }
+
+pub more_behind : (t : TableEntry) (rows all : List StoredRow) (source : List (List Value)) → AreWide (length t.columns) source → AreRowsOf t rows → rows_put t rows source ≡ Ok all → More rows all (length source)
+more_behind t rows all [] wide valid e = record { new = []; behind = (let same : rows ≡ all = cc in sym same ∙ sym (append-nil rows)); drawn = tt; count = refl }
+more_behind t rows all (row ∷ source) wide valid e =
+    more_after t rows all (length source) (row_put t rows row) (λ more. rows_put t more source) valid
+    (λ more is. (item_one t rows more (item_of no_causes (stored t.columns row)) is, row_behind t rows more row wide.0 valid is))
+    (λ more ok is. more_behind t more all source wide.1 ok is) e
+
+-- ---- tables with other rows
+
+rows_with-same_by : (tables : List (List ℕ × List StoredRow)) (r : List ℕ × List StoredRow) (name : List ℕ) (rows : List StoredRow) (b : Bool) → is_same_name r.0 name ≡ b → rows_of (with_rows tables name rows) name ≡ rows
+    → rows_of (if b then (r.0, rows) ∷ tables else r ∷ with_rows tables name rows) name ≡ rows
+rows_with-same_by tables r name rows true is rest = rw is refl
+rows_with-same_by tables r name rows false is rest = rw is rest
+
+pub rows_with-same : (tables : List (List ℕ × List StoredRow)) (name : List ℕ) (rows : List StoredRow) → rows_of (with_rows tables name rows) name ≡ rows
+rows_with-same [] name rows = rw (is_same_name-refl name) refl
+rows_with-same (r ∷ tables) name rows = rows_with-same_by tables r name rows (is_same_name r.0 name) refl (rows_with-same tables name rows)
+
+rows_with-other_by : (tables : List (List ℕ × List StoredRow)) (r : List ℕ × List StoredRow) (name other : List ℕ) (rows : List StoredRow) (b : Bool) → is_same_name r.0 name ≡ b → is_same_name name other ≡ false → rows_of (with_rows tables name rows) other ≡ rows_of tables other
+    → rows_of (if b then (r.0, rows) ∷ tables else r ∷ with_rows tables name rows) other ≡ rows_of (r ∷ tables) other
+rows_with-other_by tables r name other rows true is differs rest =
+    let there : is_same_name r.0 other ≡ false = is_same_name_comm r.0 other ∙ is_same_name-left other r.0 name is ∙ is_same_name_comm other name ∙ differs in
+    rw there refl
+rows_with-other_by tables r name other rows false is differs rest = ap (λ rs. if is_same_name r.0 other then r.1 else rs) rest
+
+pub rows_with-other : (tables : List (List ℕ × List StoredRow)) (name other : List ℕ) (rows : List StoredRow) → is_same_name name other ≡ false → rows_of (with_rows tables name rows) other ≡ rows_of tables other
+rows_with-other [] name other rows differs = rw differs refl
+rows_with-other (r ∷ tables) name other rows differs = rows_with-other_by tables r name other rows (is_same_name r.0 name) refl differs (rows_with-other tables name other rows differs)

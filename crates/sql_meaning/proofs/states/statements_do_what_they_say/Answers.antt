@@ -1,0 +1,11 @@
+use Rattle.sql_meaning.proofs.DoneLaws.{creates, inserts, selects}
+use Rattle.sql_meaning.proofs.states.statements_do_what_they_say.Goals as goal
+
+pub returns-clause-inserts : goal.returns-clause-inserts
+returns-clause-inserts c = inserts
+
+pub returns-clause-creates : goal.returns-clause-creates
+returns-clause-creates c = creates
+
+pub returns-clause-selects : goal.returns-clause-selects
+returns-clause-selects c = selects

@@ -1,0 +1,41 @@
+-- What is true of each state that a connection holds between two statements.
+use Rattle.std.specs.Prelude.{◌≡◌, ℕ, List, true, false, All, AllPairs}
+use Rattle.std.specs.List.{AllZip}
+use Rattle.eng_number.specs.Numbers.{fits_integer}
+use Rattle.eng_value.specs.Casts.{store_as}
+use Rattle.eng_value.specs.StoredRows.{StoredRow, IsAscending}
+use Rattle.eng_value.specs.declared.out.Out.TheVariants.{Good}
+use Rattle.eng_value.specs.declared.value.Value.{Value}
+use Rattle.sql_meaning.specs.declared.column.Column.{Column}
+use Rattle.sql_meaning.specs.declared.column.TableEntry.{TableEntry}
+use Rattle.sql_meaning.specs.Names.{is_same_name}
+use Rattle.sql_meaning.specs.World.{Savepoint, State, World}
+
+-- the column stores the value as it is
+abbrev pub IsHeldBy : Column → Value → Type 0
+IsHeldBy c v = store_as c.affinity v ≡ Good v
+
+-- a row of a table: its rowid has 64 bits, and it has a value for each column, which stores it as it is
+pub record IsRowOf (t : TableEntry) (r : StoredRow) : Type 0 where
+  pub rowid : fits_integer r.rowid ≡ true
+  pub values : AllZip IsHeldBy t.columns r.values
+
+-- the rows of a table, by ascending rowid
+pub record AreRowsOf (t : TableEntry) (rows : List StoredRow) : Type 0 where
+  pub ascending : IsAscending rows
+  pub each : All (IsRowOf t) rows
+
+-- a table of the catalog, and what stands under its name
+abbrev pub IsTable : TableEntry → List ℕ × List StoredRow → Type 0
+IsTable t rows = (rows.0 ≡ t.name) × AreRowsOf t rows.1
+
+-- no two tables have one name, and each has one list of rows
+pub record IsWorld (w : World) : Type 0 where
+  pub names : AllPairs (λ (a b : TableEntry). is_same_name a.name b.name ≡ false) w.catalog
+  pub tables : AllZip IsTable w.catalog w.tables
+
+-- so are the world and those of all marks
+pub record IsValid (s : State) : Type 0 where
+  pub world : IsWorld s.world
+  pub marks : All (λ (m : Savepoint). IsWorld m.world) s.stack
+  pub last_rowid : fits_integer s.last_rowid ≡ true

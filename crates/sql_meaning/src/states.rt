@@ -1,0 +1,55 @@
+// What the definitions promise of states and of what statements do to them. Nothing here runs: each contract is a law.
+ghost use Rattle.std.specs.Prelude.{◌≡◌, ◌↔◌, ◌⊎◌, ◌∷◌, ◌++◌, ℕ, List, Some, None, Ok, Err, [], length};
+ghost use Rattle.eng_value.specs.Causes.{only};
+ghost use Rattle.eng_value.specs.Environments.{Environment};
+ghost use Rattle.eng_value.specs.HostMeanings.{HostMeanings};
+ghost use Rattle.eng_value.specs.StoredRows.{StoredRow};
+ghost use Rattle.eng_value.specs.Truths.{truth_in, truth_of};
+ghost use Rattle.eng_value.specs.declared.cause.Cause.TheVariants.{Full};
+ghost use Rattle.eng_value.specs.declared.truth.Truth.TheVariants as truth;
+ghost use Rattle.eng_value.specs.declared.value.Value.{Value};
+ghost use Rattle.sql_meaning.specs.declared.bound.BoundExpr.{BoundExpr};
+ghost use Rattle.sql_meaning.specs.declared.column.TableEntry.{TableEntry};
+ghost use Rattle.sql_meaning.specs.Effects.{AddsRows, AddsTable, IsFull};
+ghost use Rattle.sql_meaning.specs.Expression.{value_of};
+ghost use Rattle.sql_meaning.specs.Shapes.{CreateTable, Creates, Insert, Inserts, Select, Selects};
+ghost use Rattle.sql_meaning.specs.Spelled.{name_at};
+ghost use Rattle.sql_meaning.specs.Statement.{Row, answer_of, item_of, items_at, no_causes, row_put, stored, text_outcome};
+ghost use Rattle.sql_meaning.specs.Valid.{AreRowsOf, IsValid};
+ghost use Rattle.sql_meaning.specs.Work.{built_in};
+ghost use Rattle.sql_meaning.specs.World.{State, new_state};
+
+/// The state of a new connection is valid, and every statement leaves a valid state valid.
+pub fn states_stay_valid()
+    ensures first { IsValid new_state }
+    ensures next { (hosts : HostMeanings) (state : State) (params : List Value) (text : List ℕ)
+        → IsValid state → IsValid (text_outcome hosts state params text).next }
+{}
+
+/// What a statement that is not refused does: an INSERT adds its rows to its table, behind the others, each under the rowid that
+/// is one more than the largest; a CREATE TABLE adds a table without rows; a SELECT changes nothing.
+pub fn statements_do_what_they_say()
+    ensures inserts { (hosts : HostMeanings) (state : State) (params : List Value) (text : List ℕ) (i : Insert)
+        → IsValid state → built_in text (answer_of text) ≡ Some (Inserts i) → (text_outcome hosts state params text).refusal ≡ None
+        → AddsRows state (name_at text i.table) (length i.rows) (text_outcome hosts state params text) }
+    ensures creates { (hosts : HostMeanings) (state : State) (params : List Value) (text : List ℕ) (c : CreateTable)
+        → IsValid state → built_in text (answer_of text) ≡ Some (Creates c) → (text_outcome hosts state params text).refusal ≡ None
+        → AddsTable state (name_at text c.name) (text_outcome hosts state params text) }
+    ensures selects { (hosts : HostMeanings) (state : State) (params : List Value) (text : List ℕ) (q : Select)
+        → built_in text (answer_of text) ≡ Some (Selects q) → (text_outcome hosts state params text).next ≡ state }
+{}
+
+/// A row whose values can be stored is refused exactly where the largest rowid is taken, as a full table and for nothing else.
+pub fn a_table_is_full_at_the_largest_rowid()
+    ensures { (t : TableEntry) (rows : List StoredRow) (source values : List Value)
+        → AreRowsOf t rows → item_of no_causes (stored t.columns source) ≡ Row values
+        → ((row_put t rows source ≡ Err (only (Full t.name))) ↔ IsFull rows)
+        × (((all : List StoredRow) × (row_put t rows source ≡ Ok all)) ⊎ IsFull rows) }
+{}
+
+/// A conjunct that is false or NULL rejects a row, whatever the others are: values, or bad.
+pub fn a_false_conjunct_rejects()
+    ensures { (before after : List BoundExpr) (conjunct : BoundExpr) (results : List BoundExpr) (env : Environment)
+        → (truth_in (truth_of (value_of conjunct env)) ≡ truth.False) ⊎ (truth_in (truth_of (value_of conjunct env)) ≡ truth.Unknown)
+        → items_at (before ++ conjunct ∷ after) results env ≡ [] }
+{}

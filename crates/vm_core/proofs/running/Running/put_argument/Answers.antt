@@ -1,0 +1,6 @@
+use Rattle.vm_core.proofs.running.Running.put_argument.Goals as goal
+
+pub returns : goal.returns
+returns c =
+    let made = c.argument-made.ensures in
+    record { leads = c.put_made.ensures.leads _ made; log = c.put_made.ensures.log }
