@@ -14,7 +14,7 @@ ghost use Rattle.eng_value.specs.declared.value.Value.TheVariants.{Integer};
 use crate::bits::of_bits;
 use eng_value::{Affinity, ArithmeticOp, BinaryOperator, CompareOp, IntegerOp, Sides, Text, Value};
 
-/// What an operator gives for two integers; None exactly where it is no integer, or the operator is none that looks at two integers as
+/// What an operator gives for two integers; None only where it is no integer, or the operator is none that looks at two integers as
 /// they are: `binary` then answers.
 #[tactic(auto, unfolding(eng_value::specs::Operators::arithmetic_of, eng_value::specs::Operators::integers_of, eng_value::specs::Comparisons::comparison_of))]
 pub fn binary_of_integers(op: &BinaryOperator, a: i64, b: i64) -> Option<i64>
@@ -31,7 +31,7 @@ pub fn binary_of_integers(op: &BinaryOperator, a: i64, b: i64) -> Option<i64>
     }
 }
 
-/// The same of two texts: 1 or 0 for LIKE and GLOB, and None exactly for the others.
+/// The same of two texts: 1 or 0 for LIKE and GLOB, and None only for the others.
 #[tactic(auto, unfolding(eng_value::specs::Comparisons::like_of, eng_value::specs::Comparisons::glob_of))]
 pub fn binary_of_texts(op: &BinaryOperator, a: &Text, b: &Text) -> Option<i64>
     ensures some { IfSome result (λ n. binary_of op.now (Good (sql.Text a.now)) (Good (sql.Text b.now)) ≡ Good (Integer n)) }
