@@ -1,0 +1,11 @@
+pub mod Counted
+pub mod Steps
+pub mod Scans
+pub mod Shapes
+pub mod Nests
+pub mod OneWay
+pub mod Fronts
+pub mod Kept
+pub mod Answered
+pub mod Sums
+pub mod Lawful

@@ -1,0 +1,43 @@
+// What the counts of the grammar mean. Nothing here runs: each contract is a law.
+ghost use Rattle.std.specs.List.{count_by, sum_by};
+ghost use Rattle.std.specs.Prelude.{◌≡◌, ◌↔◌, ℕ, List, [], ◌∷◌};
+ghost use Rattle.sql_tree.specs.declared.expr.Expr.{Expr};
+ghost use Rattle.sql_tree.specs.declared.statement.Statement.{Statement};
+ghost use Rattle.sql_tree.specs.declared.token.Token.{Token};
+ghost use Rattle.sql_grammar.specs.declared.counts.TheConstants.{MAX_NESTINGS};
+ghost use Rattle.sql_grammar.specs.Answers.{Answer, Within};
+ghost use Rattle.sql_grammar.specs.Expressions as expressions;
+ghost use Rattle.sql_grammar.specs.Expressions.{Expression};
+ghost use Rattle.sql_grammar.specs.Marks.{Marked, start};
+ghost use Rattle.sql_grammar.specs.StatementTexts as statements;
+ghost use Rattle.sql_grammar.specs.StatementTexts.{IsStatement};
+ghost use Rattle.sql_limits.specs.Answers.{IsAnswer};
+ghost use Rattle.sql_limits.specs.Limits.{KeepsAll, is_operator, is_part, operators, outermost_expressions, parts, queries};
+ghost use Rattle.sql_limits.specs.Nestings.{Nested, flat};
+
+/// The marked tokens of each derivation are nested, and in one way. Those of an expression are one outermost expression.
+pub fn derived_tokens_are_nested()
+    ensures expression { (depth : ℕ) (w : List Marked) (tree : Expr) → Expression depth w tree → (n : Nested) × (w ≡ flat n) × (outermost_expressions n ≡ n ∷ []) }
+    ensures statement { (depth : ℕ) (w : List Marked) (tree : Statement) → IsStatement depth w tree → (n : Nested) × (w ≡ flat n) }
+    ensures one_way { (m n : Nested) → flat m ≡ flat n → m ≡ n }
+{}
+
+/// The scan of a derivation's marked tokens passes no limit exactly where they keep the limits: at most 100 brackets and CASEs are open
+/// at one place, each outermost expression has at most 1,000 operators with its queries, and each query at most 500 parts.
+pub fn the_scan_fits_where_the_limits_are_kept()
+    ensures expression { (depth : ℕ) (w : List Marked) (tree : Expr) → Expression depth w tree → (n : Nested) × (w ≡ flat n) × (Within MAX_NESTINGS start w ↔ KeepsAll n) }
+    ensures statement { (depth : ℕ) (w : List Marked) (tree : Statement) → IsStatement depth w tree → (n : Nested) × (w ≡ flat n) × (Within MAX_NESTINGS start w ↔ KeepsAll n) }
+{}
+
+/// The answer of tokens, in the words of the limits: a tree exactly where one is derived from tokens that keep them; else the first
+/// token that cannot stand there, where the tokens in front keep them; or, earlier, the first token with which a limit is no longer kept.
+pub fn answers_are_within_the_limits()
+    ensures expression { (tokens : List Token) (x : Answer Expr) → expressions.AnswersAs tokens x ↔ IsAnswer Expression tokens x }
+    ensures statement { (tokens : List Token) (x : Answer Statement) → statements.AnswersAs tokens x ↔ IsAnswer IsStatement tokens x }
+{}
+
+/// Each operator is of one outermost expression, and each part of one query: none is left out, and none counts twice.
+pub fn each_token_counts_once()
+    ensures operators { (n : Nested) → sum_by operators (outermost_expressions n) ≡ count_by (λ x. is_operator x.mark) (flat n) }
+    ensures parts { (n : Nested) → sum_by parts (queries n) ≡ count_by (λ x. is_part x.mark) (flat n) }
+{}
