@@ -9,3 +9,4 @@ pub mod Kept
 pub mod Answered
 pub mod Sums
 pub mod Lawful
+pub mod QueryParts

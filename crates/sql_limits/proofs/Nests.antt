@@ -27,7 +27,7 @@ may_stay role.Fresh = true
 may_stay role.Part = true
 may_stay _ = false
 
-abbrev may_enclose : Role → Role → Bool
+abbrev pub may_enclose : Role → Role → Bool
 may_enclose role.Inward role.Outward = true
 may_enclose role.Opening role.Closing = true
 may_enclose _ _ = false

@@ -1,18 +1,24 @@
 // What the counts of the grammar mean. Nothing here runs: each contract is a law.
 ghost use Rattle.std.specs.List.{count_by, sum_by};
-ghost use Rattle.std.specs.Prelude.{◌≡◌, ◌↔◌, ℕ, List, [], ◌∷◌};
+ghost use Rattle.std.specs.Prelude.{◌≡◌, ◌↔◌, ℕ, ◌+◌, List, [], ◌∷◌, length};
+ghost use Rattle.sql_tree.specs.Layers.{of_query};
 ghost use Rattle.sql_tree.specs.declared.expr.Expr.{Expr};
+ghost use Rattle.sql_tree.specs.declared.query.Query.{Query};
 ghost use Rattle.sql_tree.specs.declared.statement.Statement.{Statement};
 ghost use Rattle.sql_tree.specs.declared.token.Token.{Token};
 ghost use Rattle.sql_grammar.specs.declared.counts.TheConstants.{MAX_NESTINGS};
 ghost use Rattle.sql_grammar.specs.Answers.{Answer, Within};
+ghost use Rattle.sql_grammar.specs.Bodies.{rules};
 ghost use Rattle.sql_grammar.specs.Expressions as expressions;
 ghost use Rattle.sql_grammar.specs.Expressions.{Expression};
+ghost use Rattle.sql_grammar.specs.Grammar.{Name};
 ghost use Rattle.sql_grammar.specs.Marks.{Marked, start};
+ghost use Rattle.sql_grammar.specs.Queries.{query};
+ghost use Rattle.sql_grammar.specs.Rules.{derives};
 ghost use Rattle.sql_grammar.specs.StatementTexts as statements;
 ghost use Rattle.sql_grammar.specs.StatementTexts.{IsStatement};
 ghost use Rattle.sql_limits.specs.Answers.{IsAnswer};
-ghost use Rattle.sql_limits.specs.Limits.{KeepsAll, is_operator, is_part, operators, outermost_expressions, parts, queries};
+ghost use Rattle.sql_limits.specs.Limits.{KeepsAll, first_query, is_operator, is_part, operators, outermost_expressions, parts, queries};
 ghost use Rattle.sql_limits.specs.Nestings.{Nested, flat};
 
 /// The marked tokens of each derivation are nested, and in one way. Those of an expression are one outermost expression.
@@ -40,4 +46,9 @@ pub fn answers_are_within_the_limits()
 pub fn each_token_counts_once()
     ensures operators { (n : Nested) → sum_by operators (outermost_expressions n) ≡ count_by (λ x. is_operator x.mark) (flat n) }
     ensures parts { (n : Nested) → sum_by parts (queries n) ≡ count_by (λ x. is_part x.mark) (flat n) }
+{}
+
+/// The tokens of a query are one query, with as many parts as its tree has.
+pub fn a_query_has_the_parts_of_its_tree()
+    ensures { (depth : ℕ) (w : List Marked) (tree : Query) → derives Name rules depth query w tree → (n : Nested) × (w ≡ flat n) × (first_query n ≡ n) × (parts n ≡ 1 + length (of_query tree).others) }
 {}

@@ -9,6 +9,6 @@
 mod laws;
 
 pub use laws::{
-    answers_are_within_the_limits, derived_tokens_are_nested, each_token_counts_once,
-    the_scan_fits_where_the_limits_are_kept,
+    a_query_has_the_parts_of_its_tree, answers_are_within_the_limits, derived_tokens_are_nested,
+    each_token_counts_once, the_scan_fits_where_the_limits_are_kept,
 };
