@@ -10,3 +10,6 @@ pub mod Answered
 pub mod Sums
 pub mod Lawful
 pub mod QueryParts
+pub mod Rows
+pub mod Pieces
+pub mod Outermost

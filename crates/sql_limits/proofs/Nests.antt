@@ -27,10 +27,10 @@ may_stay role.Fresh = true
 may_stay role.Part = true
 may_stay _ = false
 
-abbrev pub may_enclose : Role → Role → Bool
-may_enclose role.Inward role.Outward = true
-may_enclose role.Opening role.Closing = true
-may_enclose _ _ = false
+abbrev pub may_enclose : (A : Type 0) → Role → Name A → Role → Bool
+may_enclose A role.Inward n role.Outward = true
+may_enclose A role.Opening n role.Closing = true
+may_enclose A _ n _ = false
 
 statement_roles : has_roles may_stay may_enclose statement ≡ true
 unfolding all_statement_rules
@@ -64,9 +64,9 @@ may_stay_within role.Quiet = true
 may_stay_within role.Operator = true
 may_stay_within _ = false
 
-abbrev may_enclose_within : Role → Role → Bool
-may_enclose_within role.Inward role.Outward = true
-may_enclose_within _ _ = false
+abbrev may_enclose_within : (A : Type 0) → Role → Name A → Role → Bool
+may_enclose_within A role.Inward n role.Outward = true
+may_enclose_within A _ n _ = false
 
 expression_roles : has_roles may_stay_within may_enclose_within expr ≡ true
 unfolding all_statement_rules
@@ -100,12 +100,12 @@ single_nested role.Outward t y = cc
 single_nested role.Opening t y = cc
 single_nested role.Closing t y = cc
 
-around_nested : (m k : Role) (t z : Token) (w : List Marked) → may_enclose m k ≡ true → IsNested w → IsNested (marked (opens m) t ∷ (w ++ marked (closes k) z ∷ []))
-around_nested role.Inward role.Outward t z w y h = (bracket of_expression t h.0 z nothing, ap (λ v. marked (opens role.Inward) t ∷ (v ++ marked (closes role.Outward) z ∷ [])) h.1)
-around_nested role.Opening role.Closing t z w y h = (bracket of_others t h.0 z nothing, ap (λ v. marked (opens role.Opening) t ∷ (v ++ marked (closes role.Closing) z ∷ [])) h.1)
-around_nested _ _ t z w y h = cc
+around_nested : (A : Type 0) (m : Role) (n : Name A) (k : Role) (t z : Token) (w : List Marked) → may_enclose A m n k ≡ true → IsNested w → IsNested (marked (opens m) t ∷ (w ++ marked (closes k) z ∷ []))
+around_nested A role.Inward n role.Outward t z w y h = (bracket of_expression t h.0 z nothing, ap (λ v. marked (opens role.Inward) t ∷ (v ++ marked (closes role.Outward) z ∷ [])) h.1)
+around_nested A role.Opening n role.Closing t z w y h = (bracket of_others t h.0 z nothing, ap (λ v. marked (opens role.Opening) t ∷ (v ++ marked (closes role.Closing) z ∷ [])) h.1)
+around_nested A _ n _ t z w y h = cc
 
-builds_nested : Builds may_stay may_enclose IsNested IsNested
+builds_nested : Builds Name may_stay may_enclose IsNested (λ A n. IsNested)
 builds_nested = record {
   none = (nothing, refl);
   both = λ v w h k. (follow h.0 k.0, (ap (λ u. u ++ w) h.1 ∙ ap (λ u. flat h.0 ++ u) k.1) ∙ sym (flat_follow h.0 k.0));
@@ -114,10 +114,10 @@ builds_nested = record {
 }
 
 pub inner_nested : (depth : ℕ) (A : Type 0) (n : Name A) (w : List Marked) (a : A) → nested Name rules depth A n w a → IsNested w
-inner_nested = nested_law may_stay may_enclose IsNested builds_nested Name rules inner_roles
+inner_nested = nested_law Name rules may_stay may_enclose IsNested builds_nested inner_roles
 
 pub statement_nested : (depth : ℕ) (w : List Marked) (tree : Statement) → IsStatement depth w tree → IsNested w
-statement_nested depth w tree d = rule_law may_stay may_enclose IsNested IsNested builds_nested Name rules (nested Name rules depth) (inner_nested depth) statement statement_roles w tree d
+statement_nested depth w tree d = rule_law Name rules may_stay may_enclose IsNested (λ A n. IsNested) builds_nested (nested Name rules depth) (inner_nested depth) statement statement_roles w tree d
 
 -- ---- the tokens of one expression
 
@@ -168,11 +168,11 @@ single_whole role.Quiet t y = (token quiet t nothing, refl, refl)
 single_whole role.Operator t y = (token operator t nothing, refl, refl)
 single_whole _ t y = cc
 
-around_whole : (m k : Role) (t z : Token) (w : List Marked) → may_enclose_within m k ≡ true → IsNested w → IsWhole (marked (opens m) t ∷ (w ++ marked (closes k) z ∷ []))
-around_whole role.Inward role.Outward t z w y h = (bracket of_expression t h.0 z nothing, ap (λ v. marked (opens role.Inward) t ∷ (v ++ marked (closes role.Outward) z ∷ [])) h.1, refl)
-around_whole _ _ t z w y h = cc
+around_whole : (A : Type 0) (m : Role) (n : Name A) (k : Role) (t z : Token) (w : List Marked) → may_enclose_within A m n k ≡ true → IsNested w → IsWhole (marked (opens m) t ∷ (w ++ marked (closes k) z ∷ []))
+around_whole A role.Inward n role.Outward t z w y h = (bracket of_expression t h.0 z nothing, ap (λ v. marked (opens role.Inward) t ∷ (v ++ marked (closes role.Outward) z ∷ [])) h.1, refl)
+around_whole A _ n _ t z w y h = cc
 
-builds_whole : Builds may_stay_within may_enclose_within IsWhole IsNested
+builds_whole : Builds Name may_stay_within may_enclose_within IsWhole (λ A n. IsNested)
 builds_whole = record {
   none = (nothing, refl, refl);
   both = λ v w h k. (follow h.0 k.0, (ap (λ u. u ++ w) h.1 ∙ ap (λ u. flat h.0 ++ u) k.1) ∙ sym (flat_follow h.0 k.0), whole_follow h.0 k.0 h.2 k.2);
@@ -182,5 +182,5 @@ builds_whole = record {
 
 pub expression_nested : (depth : ℕ) (w : List Marked) (tree : Expr) → Expression depth w tree → (n : Nested) × (w ≡ flat n) × (outermost_expressions n ≡ n ∷ [])
 expression_nested depth w tree d =
-    let h = rule_law may_stay_within may_enclose_within IsWhole IsNested builds_whole Name rules (nested Name rules depth) (inner_nested depth) expr expression_roles w tree d in
+    let h = rule_law Name rules may_stay_within may_enclose_within IsWhole (λ A n. IsNested) builds_whole (nested Name rules depth) (inner_nested depth) expr expression_roles w tree d in
     (h.0, h.1, ap (λ n. n ∷ other_expressions h.0) (whole_first h.0 h.2) ∙ ap (λ more. h.0 ∷ more) (whole_others h.0 h.2))

@@ -73,12 +73,12 @@ single_of_none role.Operator t y = record { nested = token operator t nothing; f
 single_of_none role.Outside t y = record { nested = token outside t nothing; flat = refl; one = refl; parts = refl }
 single_of_none _ t y = cc
 
-bracket_of_none : (m k : Role) (t z : Token) (w : List Marked) → may_enclose m k ≡ true → IsNested w → OfParts 0 (marked (opens m) t ∷ (w ++ marked (closes k) z ∷ []))
-bracket_of_none role.Inward role.Outward t z w y h = record { nested = bracket of_expression t h.0 z nothing; flat = ap (λ v. marked (opens role.Inward) t ∷ (v ++ marked (closes role.Outward) z ∷ [])) h.1; one = refl; parts = refl }
-bracket_of_none role.Opening role.Closing t z w y h = record { nested = bracket of_others t h.0 z nothing; flat = ap (λ v. marked (opens role.Opening) t ∷ (v ++ marked (closes role.Closing) z ∷ [])) h.1; one = refl; parts = refl }
-bracket_of_none _ _ t z w y h = cc
+bracket_of_none : (A : Type 0) (m : Role) (n : Name A) (k : Role) (t z : Token) (w : List Marked) → may_enclose A m n k ≡ true → IsNested w → OfParts 0 (marked (opens m) t ∷ (w ++ marked (closes k) z ∷ []))
+bracket_of_none A role.Inward n role.Outward t z w y h = record { nested = bracket of_expression t h.0 z nothing; flat = ap (λ v. marked (opens role.Inward) t ∷ (v ++ marked (closes role.Outward) z ∷ [])) h.1; one = refl; parts = refl }
+bracket_of_none A role.Opening n role.Closing t z w y h = record { nested = bracket of_others t h.0 z nothing; flat = ap (λ v. marked (opens role.Opening) t ∷ (v ++ marked (closes role.Closing) z ∷ [])) h.1; one = refl; parts = refl }
+bracket_of_none A _ n _ t z w y h = cc
 
-builds_none : Builds may_stay_in_a_part may_enclose (OfParts 0) IsNested
+builds_none : Builds Name may_stay_in_a_part may_enclose (OfParts 0) (λ A n. IsNested)
 builds_none = record {
   none = none_of_parts;
   both = λ v w f g. together 0 0 0 v w (v ++ w) refl refl f g;
@@ -91,7 +91,7 @@ others_of tables p = search (steps, the_lemmas)
 
 module _ (depth : ℕ) where
   has_none : {A : Type 0} (r : Of A) → has_roles may_stay_in_a_part may_enclose r ≡ true → (w : List Marked) (a : A) → derives Name rules depth r w a → OfParts 0 w
-  has_none r h w a d = rule_law may_stay_in_a_part may_enclose (OfParts 0) IsNested builds_none Name rules (nested Name rules depth) (inner_nested depth) r h w a d
+  has_none r h w a d = rule_law Name rules may_stay_in_a_part may_enclose (OfParts 0) (λ A n. IsNested) builds_none (nested Name rules depth) (inner_nested depth) r h w a d
 
   -- ---- parts
 

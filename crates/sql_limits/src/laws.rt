@@ -1,5 +1,5 @@
 // What the counts of the grammar mean. Nothing here runs: each contract is a law.
-ghost use Rattle.std.specs.List.{count_by, sum_by};
+ghost use Rattle.std.specs.List.{All, count_by, sum_by};
 ghost use Rattle.std.specs.Prelude.{◌≡◌, ◌↔◌, ℕ, ◌+◌, List, [], ◌∷◌, length};
 ghost use Rattle.sql_tree.specs.Layers.{of_query};
 ghost use Rattle.sql_tree.specs.declared.expr.Expr.{Expr};
@@ -20,11 +20,14 @@ ghost use Rattle.sql_grammar.specs.StatementTexts.{IsStatement};
 ghost use Rattle.sql_limits.specs.Answers.{IsAnswer};
 ghost use Rattle.sql_limits.specs.Limits.{KeepsAll, first_query, is_operator, is_part, operators, outermost_expressions, parts, queries};
 ghost use Rattle.sql_limits.specs.Nestings.{Nested, flat};
+ghost use Rattle.sql_limits.specs.Outermost.{IsOneAtMost};
 
-/// The marked tokens of each derivation are nested, and in one way. Those of an expression are one outermost expression.
+/// The marked tokens of each derivation are nested, and in one way. Those of an expression are one outermost expression; and each
+/// outermost expression of a statement is one that the grammar derives, with names behind it at most, or names alone: between two of
+/// them there is always a token that stands in none.
 pub fn derived_tokens_are_nested()
     ensures expression { (depth : ℕ) (w : List Marked) (tree : Expr) → Expression depth w tree → (n : Nested) × (w ≡ flat n) × (outermost_expressions n ≡ n ∷ []) }
-    ensures statement { (depth : ℕ) (w : List Marked) (tree : Statement) → IsStatement depth w tree → (n : Nested) × (w ≡ flat n) }
+    ensures statement { (depth : ℕ) (w : List Marked) (tree : Statement) → IsStatement depth w tree → (n : Nested) × (w ≡ flat n) × All IsOneAtMost (outermost_expressions n) }
     ensures one_way { (m n : Nested) → flat m ≡ flat n → m ≡ n }
 {}
 

@@ -2,8 +2,12 @@
 //!
 //! The scan of sql_grammar counts along the tokens, and stops at the first that passes a limit. Here the limits are said of how the tokens
 //! stand in brackets, without a count that runs along them: specs/Nestings.antt nests marked tokens, specs/Limits.antt says what keeps a
-//! limit, specs/Fronts.antt where one is passed, and specs/Answers.antt what answer tokens then have. specs/Examples.antt has these of
-//! small texts. Nothing here runs. Begin with specs/Limits.antt; the laws are in src/laws.rt.
+//! limit, specs/Outermost.antt what an outermost expression of a statement is, specs/Fronts.antt where a limit is passed, and
+//! specs/Answers.antt what answer tokens then have. specs/Examples.antt has these of small texts. Nothing here runs. Begin with
+//! specs/Limits.antt; the laws are in src/laws.rt.
+//!
+//! proofs/Scans.antt follows the scan through nested tokens; proofs/Nests.antt nests what is derived, by the roles that the rules have
+//! (proofs/Shapes.antt); proofs/Outermost.antt goes through the rules of statements.
 #![tactic(auto)]
 
 mod laws;
