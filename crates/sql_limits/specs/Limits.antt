@@ -24,7 +24,7 @@ operators (token operator t behind) = 1 + operators behind
 operators (token s t behind) = operators behind
 operators (bracket b t inside z behind) = operators inside + operators behind
 
--- The expression that stands in front: up to the first token that stands in no expression, and the first bracket of none.
+-- The expression that stands in front: up to the first token, or bracket, that stands in no expression. It may have no token.
 abbrev pub first_expression : Nested → Nested
 first_expression nothing = nothing
 first_expression (token quiet t behind) = token quiet t (first_expression behind)
@@ -33,7 +33,7 @@ first_expression (token s t behind) = nothing
 first_expression (bracket of_expression t inside z behind) = bracket of_expression t inside z (first_expression behind)
 first_expression (bracket of_others t inside z behind) = nothing
 
--- The expressions behind that one: one behind each token that stands in none; and those in brackets of none, and the ones behind these.
+-- The others. Behind each token that stands in no expression another begins; and so in each bracket that stands in none, and behind it.
 abbrev pub other_expressions : Nested → List Nested
 other_expressions nothing = []
 other_expressions (token quiet t behind) = other_expressions behind
@@ -48,21 +48,21 @@ outermost_expressions n = first_expression n ∷ other_expressions n
 
 -- ---- parts of a query
 
--- those that stand in no bracket within it
+-- those that stand in no bracket of it
 abbrev pub parts : Nested → ℕ
 parts nothing = 0
 parts (token part t behind) = 1 + parts behind
 parts (token s t behind) = parts behind
 parts (bracket b t inside z behind) = parts behind
 
--- the query that stands in front, up to the first token behind which none goes on
+-- the query that stands in front: up to the first token behind which none goes on
 abbrev pub first_query : Nested → Nested
 first_query nothing = nothing
 first_query (token fresh t behind) = nothing
 first_query (token s t behind) = token s t (first_query behind)
 first_query (bracket b t inside z behind) = bracket b t inside z (first_query behind)
 
--- the queries behind that one, and those in brackets
+-- the others, which begin behind such a token or in a bracket
 abbrev pub other_queries : Nested → List Nested
 other_queries nothing = []
 other_queries (token fresh t behind) = first_query behind ∷ other_queries behind
