@@ -1,4 +1,5 @@
--- The scan of nested tokens, and of a front of them, fits exactly where they keep the limits; and where not, the limit that is not kept is the one that is passed.
+-- The scan of nested tokens, and of a front of them, fits exactly where they keep the limits; and where not, it stops at the first token
+-- with which one is no longer kept.
 use Rattle.std.proofs.Common.{◌≡◌, ◌∙◌, ℕ, zero, suc, ◌+◌, ◌≤◌, ◌⊎◌, ◌↔◌, List, [], ◌∷◌, ◌++◌, length, length-append, replicate, Result, Ok, Err, refl, sym, subst, ap, append_assoc, arith, inl, inr}
 use Rattle.std.proofs.lemmas.List.Elements.{All-from_recursion, recursion_from_All}
 use Rattle.sql_tree.specs.declared.token.Token.{Token}

@@ -30,14 +30,14 @@ pub record OfParts (k : ℕ) (w : List Marked) : Type 0 where
   pub one : first_query nested ≡ nested
   pub parts : limits.parts nested ≡ k
 
-no_parts_follow : (m n : Nested) → first_query m ≡ m → first_query n ≡ n → (first_query (follow m n) ≡ follow m n)
-no_parts_follow nothing n h k = k
-no_parts_follow (token quiet t m) n h k = let tail : first_query m ≡ m = cc in ap (λ x. token quiet t x) (no_parts_follow m n tail k)
-no_parts_follow (token operator t m) n h k = let tail : first_query m ≡ m = cc in ap (λ x. token operator t x) (no_parts_follow m n tail k)
-no_parts_follow (token outside t m) n h k = let tail : first_query m ≡ m = cc in ap (λ x. token outside t x) (no_parts_follow m n tail k)
-no_parts_follow (token fresh t m) n h k = cc
-no_parts_follow (token part t m) n h k = let tail : first_query m ≡ m = cc in ap (λ x. token part t x) (no_parts_follow m n tail k)
-no_parts_follow (bracket b t i z m) n h k = let tail : first_query m ≡ m = cc in ap (λ x. bracket b t i z x) (no_parts_follow m n tail k)
+one_query_follows : (m n : Nested) → first_query m ≡ m → first_query n ≡ n → first_query (follow m n) ≡ follow m n
+one_query_follows nothing n h k = k
+one_query_follows (token quiet t m) n h k = let tail : first_query m ≡ m = cc in ap (λ x. token quiet t x) (one_query_follows m n tail k)
+one_query_follows (token operator t m) n h k = let tail : first_query m ≡ m = cc in ap (λ x. token operator t x) (one_query_follows m n tail k)
+one_query_follows (token outside t m) n h k = let tail : first_query m ≡ m = cc in ap (λ x. token outside t x) (one_query_follows m n tail k)
+one_query_follows (token fresh t m) n h k = cc
+one_query_follows (token part t m) n h k = let tail : first_query m ≡ m = cc in ap (λ x. token part t x) (one_query_follows m n tail k)
+one_query_follows (bracket b t i z m) n h k = let tail : first_query m ≡ m = cc in ap (λ x. bracket b t i z x) (one_query_follows m n tail k)
 
 parts_follow : (m n : Nested) → limits.parts (follow m n) ≡ limits.parts m + limits.parts n
 parts_follow nothing n = omega arith
@@ -52,7 +52,7 @@ together : (j k l : ℕ) (v w u : List Marked) → l ≡ j + k → u ≡ v ++ w 
 together j k l v w u sum is f g = record {
   nested = follow f.nested g.nested;
   flat = is ∙ ap (λ x. x ++ w) f.flat ∙ ap (λ x. flat f.nested ++ x) g.flat ∙ sym (flat_follow f.nested g.nested);
-  one = no_parts_follow f.nested g.nested f.one g.one;
+  one = one_query_follows f.nested g.nested f.one g.one;
   parts = (let s = parts_follow f.nested g.nested in let a = f.parts in let b = g.parts in omega arith);
 }
 
