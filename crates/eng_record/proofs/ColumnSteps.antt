@@ -1,7 +1,7 @@
--- Passing by the values in front of a column leaves the others where they are.
-use Rattle.std.proofs.Common.{◌≡◌, ℕ, zero, suc, ◌+◌, ◌<◌, ◌≤◌, false, cond, eqb, ltb, List, [], ◌∷◌, length, get_or, take, drop, min, Ok, Err, refl, sym, ap, subst, ◌∙◌, add-one, arith, pos}
+-- The value in a place of a record is that of its row, and a loop that passes by the values in front of it comes to it.
+use Rattle.std.proofs.Common.{◌≡◌, ℕ, zero, suc, ◌-◌, ◌<◌, false, cond, eqb, ltb, List, [], ◌∷◌, length, get_or, take, drop, min, Ok, Err, refl, sym, ap, ◌∙◌, arith, pos}
 use Rattle.std.proofs.lemmas.Bool.{ltb-false, le-ltb, eqb-false}
-use Rattle.std.proofs.lemmas.List.{get_or_past, length-drop}
+use Rattle.std.proofs.lemmas.List.{drop_min, get_or_past, take_min}
 use Rattle.std.specs.Str.{is_utf8}
 use Rattle.eng_value.specs.declared.value.Value.{Value}
 use Rattle.eng_value.specs.declared.value.Value.TheVariants as value
@@ -10,23 +10,33 @@ use Rattle.eng_record.specs.declared.record_error.RecordErr.TheVariants as error
 use Rattle.eng_record.specs.declared.serial_type.SerialType.{SerialType}
 use Rattle.eng_record.specs.declared.serial_type.SerialType.TheVariants as types
 use Rattle.eng_record.specs.Spelling.{integer_len}
-use Rattle.eng_record.specs.Columns.{body_len}
+use Rattle.eng_record.specs.Columns.{body_among, body_len, body_of, column_at, value_at}
 use Rattle.eng_record.specs.Reading.{Read, ◌>>=◌, IsFault, header_len_at, header_at, record_at, reading, type_at, types_in, front, signed, body_at, bodies_at}
 use Rattle.eng_record.proofs.Steps.{read, step_ok, passes, goes_on, same_read}
 use Rattle.eng_record.proofs.ReadingLoops.{fault_of, type_shorter, types_in_enough, region_types}
 
 -- the values whose types and bodies are still to be read
-pub record Stands (kinds_in bodies : List ℕ) (values : List Value) : Type 0 where
-  pub kinds : List SerialType
-  pub rest : List ℕ
-  pub kinds_are : types_in (length kinds_in) kinds_in ≡ Ok kinds
-  pub values_are : bodies_at kinds bodies ≡ Ok (values, rest)
+record Stands (kinds_in bodies : List ℕ) (values : List Value) : Type 0 where
+  kinds : List SerialType
+  rest : List ℕ
+  kinds_are : types_in (length kinds_in) kinds_in ≡ Ok kinds
+  values_are : bodies_at kinds bodies ≡ Ok (values, rest)
 
 -- ---- the start
 
-pub column_start : (bytes : List ℕ) (n m : ℕ) (rest : List ℕ) (row : List Value) → reading bytes ≡ Ok row → header_len_at bytes ≡ Ok (n, rest) → m ≡ min n (length rest) → Stands (take m rest) (drop m rest) row
+-- a row's record has a header
+has_header : (bytes : List ℕ) (row : List Value) → reading bytes ≡ Ok row → (header : ℕ × List ℕ) × (header_len_at bytes ≡ Ok header)
 unfolding reading record_at header_at
-column_start bytes n m rest row is len m-is =
+has_header bytes row is =
+    let types_next = λ (x : ℕ × List ℕ) (kinds : List SerialType). cond (ltb (length x.1) x.0) (Err errors.Short) (read (kinds, drop x.0 x.1)) in
+    let found = step_ok (record_at bytes) (λ found. cond (eqb (length found.1) 0) (Ok found.0) (Err errors.Trailing)) row is in
+    let header = step_ok (header_at bytes) (λ x. bodies_at x.0 x.1) found.0 found.1 in
+    let len = step_ok (header_len_at bytes) (λ (x : ℕ × List ℕ). types_in x.0 (take x.0 x.1) >>= types_next x) header.0 header.1 in
+    (len.0, len.1)
+
+row_stands : (bytes : List ℕ) (n : ℕ) (rest : List ℕ) (row : List Value) → reading bytes ≡ Ok row → header_len_at bytes ≡ Ok (n, rest) → Stands (take n rest) (drop n rest) row
+unfolding reading record_at header_at
+row_stands bytes n rest row is len =
     let types_next = λ (x : ℕ × List ℕ) (kinds : List SerialType). cond (ltb (length x.1) x.0) (Err errors.Short) (read (kinds, drop x.0 x.1)) in
     let len_next = λ (x : ℕ × List ℕ). types_in x.0 (take x.0 x.1) >>= types_next x in
     let found = step_ok (record_at bytes) (λ found. cond (eqb (length found.1) 0) (Ok found.0) (Err errors.Trailing)) row is in
@@ -36,21 +46,11 @@ column_start bytes n m rest row is len m-is =
     let kinds = step_ok (types_in n (take n rest)) (types_next (n, rest)) header.0 after_len in
     let got = goes_on (ltb (length rest) n) errors.Short (read (kinds.0, drop n rest)) header.0 kinds.2 in
     let header_is = same_read (kinds.0, drop n rest) header.0 got.1 in
-    let same : n ≡ m = omega (arith, ltb-false (length rest) n got.0) in
+    let fits : n ≡ min n (length rest) = omega (arith, ltb-false (length rest) n got.0) in
     let values : bodies_at kinds.0 (drop n rest) ≡ Ok (row, found.0.1) = ap (λ (x : List SerialType × List ℕ). bodies_at x.0 x.1) header_is ∙ header.2 ∙ ap (λ (vs : List Value). read (vs, found.0.1)) whole.1 in
-    record { kinds = kinds.0; rest = found.0.1; kinds_are = region_types n m rest m-is ∙ kinds.1; values_are = subst (λ (k : ℕ). bodies_at kinds.0 (drop k rest) ≡ Ok (row, found.0.1)) same values }
-
-header_fails : (bytes : List ℕ) (fault : RecordErr) → header_len_at bytes ≡ Err fault → reading bytes ≡ Err fault
-unfolding reading record_at header_at
-header_fails bytes fault at = rw at refl
-
-pub column_len_fault : {B : Type 0} (e : RecordErr) (bytes : List ℕ) (row : List Value) (whole : Read B) → reading bytes ≡ Ok row → IsFault e (header_len_at bytes) → IsFault e whole
-column_len_fault e bytes row whole is fault = fault_of e (header_len_at bytes) whole fault (λ f at. let fails = header_fails bytes f at in absurd cc)
+    record { kinds = kinds.0; rest = found.0.1; kinds_are = region_types n n rest fits ∙ kinds.1; values_are = values }
 
 -- ---- a value
-
-pub some_left : (n : ℕ) → eqb n 0 ≡ false → 0 < n
-some_left n is = omega (arith, eqb-false n 0 is)
 
 -- the value at the front, and the others
 record Next (kinds_in bodies : List ℕ) (values : List Value) : Type 0 where
@@ -117,69 +117,114 @@ body_front (types.Text k) bodies x is =
     let got = passes (is_utf8 found.0.0) errors.BadText (value.Text found.0.0, found.0.1) x found.2 in
     (found.0.0, found.1 ∙ ap (with_body found.0.0) got.1)
 
-no_fault : {A B : Type 0} (e : RecordErr) (part : Read A) (whole : Read B) (x : A) → part ≡ Ok x → IsFault e part → IsFault e whole
-no_fault e part whole x is fault = fault_of e part whole fault (λ f at. absurd cc)
-
-pub column_type_fault : {B : Type 0} (e : RecordErr) (kinds_in bodies : List ℕ) (values : List Value) (whole : Read B) → Stands kinds_in bodies values → 0 < length kinds_in
-    → IsFault e (type_at kinds_in) → IsFault e whole
-column_type_fault e kinds_in bodies values whole s some fault = no_fault e (type_at kinds_in) whole _ (next_of kinds_in bodies values some s).kind_is fault
-
--- the value at the front, where its type is known
-record Known (kind : SerialType) (after bodies : List ℕ) (values : List Value) : Type 0 where
-  v : Value
-  behind : List ℕ
-  others : List Value
-  v_is : body_at kind bodies ≡ Ok (v, behind)
-  values_is : values ≡ v ∷ others
-  stands : Stands after behind others
-
-known : (kinds_in bodies : List ℕ) (values : List Value) (kind : SerialType) (after : List ℕ) → Stands kinds_in bodies values → 0 < length kinds_in → type_at kinds_in ≡ Ok (kind, after)
-    → Known kind after bodies values
-known kinds_in bodies values kind after s some is =
-    let next = next_of kinds_in bodies values some s in
-    let same = same_read (next.kind, next.after) (kind, after) (sym next.kind_is ∙ is) in
-    subst (λ (x : SerialType × List ℕ). Known x.0 x.1 bodies values) same (record { v = next.v; behind = next.behind; others = next.others; v_is = next.v_is; values_is = next.values_is; stands = next.stands })
-
-pub column_body_fault : {B : Type 0} (e : RecordErr) (kinds_in bodies : List ℕ) (values : List Value) (kind : SerialType) (after : List ℕ) (whole : Read B) → Stands kinds_in bodies values → 0 < length kinds_in
-    → type_at kinds_in ≡ Ok (kind, after) → IsFault e (body_at kind bodies) → IsFault e whole
-column_body_fault e kinds_in bodies values kind after whole s some is fault =
-    no_fault e (body_at kind bodies) whole _ (known kinds_in bodies values kind after s some is).v_is fault
-
-pub column_front_fault : {B : Type 0} (e : RecordErr) (kinds_in bodies : List ℕ) (values : List Value) (kind : SerialType) (after : List ℕ) (whole : Read B) → Stands kinds_in bodies values → 0 < length kinds_in
-    → type_at kinds_in ≡ Ok (kind, after) → IsFault e (front (body_len kind) bodies) → IsFault e whole
-column_front_fault e kinds_in bodies values kind after whole s some is fault =
-    let k = known kinds_in bodies values kind after s some is in
-    no_fault e (front (body_len kind) bodies) whole _ (body_front kind bodies (k.v, k.behind) k.v_is).1 fault
-
 -- ---- places
 
-drop_first : (row : List Value) (i : ℕ) (v : Value) (others : List Value) → drop i row ≡ v ∷ others → (drop (suc i) row ≡ others) × (get_or row i value.Null ≡ v)
-drop_first [] zero v others is = absurd cc
-drop_first [] (suc i) v others is = absurd cc
-drop_first (w ∷ row) zero v others is = (cc, cc)
-drop_first (w ∷ row) (suc i) v others is = drop_first row i v others is
+-- the value of a body, and the bytes behind it
+abbrev value_of : SerialType × List ℕ → Read (Value × List ℕ)
+value_of x = body_at x.0 x.1
 
-pub column_goes_on : (kinds_in bodies : List ℕ) (row : List Value) (i : ℕ) (kind : SerialType) (after body behind : List ℕ) → Stands kinds_in bodies (drop i row) → 0 < length kinds_in
-    → type_at kinds_in ≡ Ok (kind, after) → front (body_len kind) bodies ≡ Ok (body, behind) → Stands after behind (drop (i + 1) row)
-column_goes_on kinds_in bodies row i kind after body behind s some is passed =
-    let k = known kinds_in bodies (drop i row) kind after s some is in
-    let at = body_front kind bodies (k.v, k.behind) k.v_is in
-    let same = same_read (at.0, k.behind) (body, behind) (sym at.1 ∙ passed) in
-    let rest = ap (λ (x : List ℕ × List ℕ). x.1) same in
-    rw (add-one, (drop_first row i k.v k.others k.values_is).0, ← rest) k.stands
-
-pub column_value : (kinds_in bodies : List ℕ) (row : List Value) (i : ℕ) (kind : SerialType) (after : List ℕ) (v : Value) (behind : List ℕ) → Stands kinds_in bodies (drop i row) → 0 < length kinds_in
-    → type_at kinds_in ≡ Ok (kind, after) → body_at kind bodies ≡ Ok (v, behind) → get_or row i value.Null ≡ v
-column_value kinds_in bodies row i kind after v behind s some is read_is =
-    let k = known kinds_in bodies (drop i row) kind after s some is in
-    let same = same_read (k.v, k.behind) (v, behind) (sym k.v_is ∙ read_is) in
-    (drop_first row i k.v k.others k.values_is).1 ∙ ap (λ (x : Value × List ℕ). x.0) same
-
-pub column_missing : (kinds_in bodies : List ℕ) (row : List Value) (i place : ℕ) → Stands kinds_in bodies (drop i row) → length kinds_in ≡ 0 → i ≤ place → get_or row place value.Null ≡ value.Null
-unfolding bodies_at
-column_missing [] bodies row i place s none le =
+value_in_place : (place : ℕ) (kinds_in bodies : List ℕ) (values : List Value) → Stands kinds_in bodies values → (behind : List ℕ) × ((body_among place kinds_in bodies >>= value_of) ≡ Ok (get_or values place value.Null, behind))
+unfolding bodies_at body_at
+value_in_place place [] bodies values s =
     let no_kinds = same_read [] s.kinds s.kinds_are in
-    let at_end : bodies_at [] bodies ≡ Ok (drop i row, s.rest) = ap (λ (kinds : List SerialType). bodies_at kinds bodies) no_kinds ∙ s.values_are in
-    let no_values : [] ≡ drop i row = ap (λ (x : List Value × List ℕ). x.0) (same_read ([], bodies) (drop i row, s.rest) at_end) in
-    get_or_past row place value.Null (omega (arith, length-drop i row, ap length no_values))
-column_missing (b ∷ kinds_in) bodies row i place s none le = absurd (omega arith)
+    let at_end : bodies_at [] bodies ≡ Ok (values, s.rest) = ap (λ (kinds : List SerialType). bodies_at kinds bodies) no_kinds ∙ s.values_are in
+    let no_values : [] ≡ values = ap (λ (x : List Value × List ℕ). x.0) (same_read ([], bodies) (values, s.rest) at_end) in
+    let none : get_or values place value.Null ≡ value.Null = get_or_past values place value.Null (omega (arith, ap length no_values)) in
+    (bodies, ap (λ (v : Value). read (v, bodies)) (sym none))
+value_in_place zero (b ∷ kinds_in) bodies values s =
+    let next = next_of (b ∷ kinds_in) bodies values (omega arith) s in
+    let first : next.v ≡ get_or values 0 value.Null = sym (ap (λ (vs : List Value). get_or vs 0 value.Null) next.values_is) in (
+      next.behind,
+      ap (λ (r : Read (SerialType × List ℕ)). (r >>= λ kind. read (kind.0, bodies)) >>= value_of) next.kind_is ∙ next.v_is ∙ ap (λ (v : Value). read (v, next.behind)) first,
+    )
+value_in_place (suc place) (b ∷ kinds_in) bodies values s =
+    let next = next_of (b ∷ kinds_in) bodies values (omega arith) s in
+    let passed = body_front next.kind bodies (next.v, next.behind) next.v_is in
+    let there = value_in_place place next.after next.behind next.others next.stands in
+    let later : get_or next.others place value.Null ≡ get_or values (suc place) value.Null = sym (ap (λ (vs : List Value). get_or vs (suc place) value.Null) next.values_is) in (
+      there.0,
+      ap (λ (r : Read (SerialType × List ℕ)). (r >>= λ kind. front (body_len kind.0) bodies >>= λ passed. body_among place kind.1 passed.1) >>= value_of) next.kind_is
+          ∙ ap (λ (r : Read (List ℕ × List ℕ)). (r >>= λ passed. body_among place next.after passed.1) >>= value_of) passed.1
+          ∙ there.1
+          ∙ ap (λ (v : Value). read (v, there.0)) later,
+    )
+
+-- two steps behind a first are one step and then another
+both_steps : {A B C : Type 0} (first : Read A) (f : A → Read B) (g : B → Read C) → (first >>= λ x. f x >>= g) ≡ ((first >>= f) >>= g)
+both_steps (Ok x) f g = refl
+both_steps (Err fault) f g = refl
+
+pub column_is : (bytes : List ℕ) (row : List Value) (place : ℕ) → reading bytes ≡ Ok row → column_at place bytes ≡ Ok (get_or row place value.Null)
+unfolding column_at body_of
+column_is bytes row place is =
+    let header = has_header bytes row is in
+    let n : ℕ = header.0.0 in
+    let rest : List ℕ = header.0.1 in
+    let there = value_in_place place (take n rest) (drop n rest) row (row_stands bytes n rest row is header.1) in
+    ap (λ (r : Read (ℕ × List ℕ)). (r >>= λ header. body_among place (take header.0 header.1) (drop header.0 header.1)) >>= λ found. value_at found.0 found.1) header.1
+    ∙ both_steps (body_among place (take n rest) (drop n rest)) value_of (λ x. read x.0)
+    ∙ ap (λ (r : Read (Value × List ℕ)). r >>= λ x. read x.0) there.1
+
+-- ---- the loop
+
+pub among_start : (place : ℕ) (bytes : List ℕ) (n m : ℕ) (rest : List ℕ) → header_len_at bytes ≡ Ok (n, rest) → m ≡ min n (length rest) → body_among (place - 0) (take m rest) (drop m rest) ≡ body_of place bytes
+unfolding body_of
+among_start place bytes n m rest at is =
+    let all : place - 0 ≡ place = omega arith in
+    ap (λ (k : ℕ). body_among k (take m rest) (drop m rest)) all
+    ∙ ap (λ (xs : List ℕ). body_among place xs (drop m rest)) (ap (λ (k : ℕ). take k rest) is ∙ take_min n rest)
+    ∙ ap (body_among place (take n rest)) (ap (λ (k : ℕ). drop k rest) is ∙ drop_min n rest)
+    ∙ sym (ap (λ (r : Read (ℕ × List ℕ)). r >>= λ header. body_among place (take header.0 header.1) (drop header.0 header.1)) at)
+
+pub among_end : (place : ℕ) (kinds_in bodies : List ℕ) (whole : Read (SerialType × List ℕ)) → body_among place kinds_in bodies ≡ whole → length kinds_in ≡ 0 → whole ≡ Ok (types.Null, bodies)
+among_end place [] bodies whole is none = sym is
+among_end place (b ∷ kinds_in) bodies whole is none = absurd (omega arith)
+
+pub among_type_fault : (e : RecordErr) (place : ℕ) (kinds_in bodies : List ℕ) (whole : Read (SerialType × List ℕ)) → body_among place kinds_in bodies ≡ whole → 0 < length kinds_in → IsFault e (type_at kinds_in) → IsFault e whole
+among_type_fault e place [] bodies whole is some fault = absurd (omega arith)
+among_type_fault e zero (b ∷ kinds_in) bodies whole is some fault = fault_of e (type_at (b ∷ kinds_in)) whole fault (λ f at. sym is ∙ ap (λ (r : Read (SerialType × List ℕ)). r >>= λ kind. read (kind.0, bodies)) at)
+among_type_fault e (suc place) (b ∷ kinds_in) bodies whole is some fault =
+    fault_of e (type_at (b ∷ kinds_in)) whole fault (λ f at. sym is ∙ ap (λ (r : Read (SerialType × List ℕ)). r >>= λ kind. front (body_len kind.0) bodies >>= λ passed. body_among place kind.1 passed.1) at)
+
+-- one place further, the type being known
+passed_type : (place more : ℕ) (kinds_in bodies : List ℕ) (kind : SerialType) (after : List ℕ) → place ≡ suc more → 0 < length kinds_in → type_at kinds_in ≡ Ok (kind, after)
+    → body_among place kinds_in bodies ≡ (front (body_len kind) bodies >>= λ passed. body_among more after passed.1)
+passed_type place more [] bodies kind after further some at = absurd (omega arith)
+passed_type place more (b ∷ kinds_in) bodies kind after further some at =
+    ap (λ (k : ℕ). body_among k (b ∷ kinds_in) bodies) further ∙ ap (λ (r : Read (SerialType × List ℕ)). r >>= λ kind. front (body_len kind.0) bodies >>= λ passed. body_among more kind.1 passed.1) at
+
+pub among_front_fault : (e : RecordErr) (place : ℕ) (kinds_in bodies : List ℕ) (whole : Read (SerialType × List ℕ)) (kind : SerialType) (after : List ℕ) → 0 < place → body_among place kinds_in bodies ≡ whole → 0 < length kinds_in
+    → type_at kinds_in ≡ Ok (kind, after) → IsFault e (front (body_len kind) bodies) → IsFault e whole
+among_front_fault e place kinds_in bodies whole kind after more is some at fault =
+    let further : place ≡ suc (place - 1) = omega arith in
+    fault_of e (front (body_len kind) bodies) whole fault (λ f none. sym is ∙ passed_type place (place - 1) kinds_in bodies kind after further some at ∙ ap (λ (r : Read (List ℕ × List ℕ)). r >>= λ passed. body_among (place - 1) after passed.1) none)
+
+pub among_goes_on : (place more : ℕ) (kinds_in bodies : List ℕ) (whole : Read (SerialType × List ℕ)) (kind : SerialType) (after body behind : List ℕ) → place ≡ suc more → body_among place kinds_in bodies ≡ whole → 0 < length kinds_in
+    → type_at kinds_in ≡ Ok (kind, after) → front (body_len kind) bodies ≡ Ok (body, behind) → body_among more after behind ≡ whole
+among_goes_on place more kinds_in bodies whole kind after body behind further is some at passed =
+    sym (passed_type place more kinds_in bodies kind after further some at ∙ ap (λ (r : Read (List ℕ × List ℕ)). r >>= λ passed. body_among more after passed.1) passed) ∙ is
+
+pub among_here : (place : ℕ) (kinds_in bodies : List ℕ) (whole : Read (SerialType × List ℕ)) (kind : SerialType) (after : List ℕ) → place ≡ 0 → body_among place kinds_in bodies ≡ whole → 0 < length kinds_in → type_at kinds_in ≡ Ok (kind, after)
+    → whole ≡ Ok (kind, bodies)
+among_here place [] bodies whole kind after here is some at = absurd (omega arith)
+among_here place (b ∷ kinds_in) bodies whole kind after here is some at =
+    sym is ∙ ap (λ (k : ℕ). body_among k (b ∷ kinds_in) bodies) here ∙ ap (λ (r : Read (SerialType × List ℕ)). r >>= λ kind. read (kind.0, bodies)) at
+
+pub some_left : (n : ℕ) → eqb n 0 ≡ false → 0 < n
+some_left n is = omega (arith, eqb-false n 0 is)
+
+-- ---- the value behind the loop
+
+pub column_fault : (e : RecordErr) (place : ℕ) (bytes : List ℕ) → IsFault e (body_of place bytes) → IsFault e (column_at place bytes)
+unfolding column_at
+column_fault e place bytes fault = fault_of e (body_of place bytes) (column_at place bytes) fault (λ f at. ap (λ (r : Read (SerialType × List ℕ)). r >>= λ found. value_at found.0 found.1) at)
+
+pub column_there : (place : ℕ) (bytes : List ℕ) (kind : SerialType) (bodies : List ℕ) → body_of place bytes ≡ Ok (kind, bodies) → column_at place bytes ≡ value_at kind bodies
+unfolding column_at
+column_there place bytes kind bodies at = ap (λ (r : Read (SerialType × List ℕ)). r >>= λ found. value_at found.0 found.1) at
+
+pub value_fault : (e : RecordErr) (kind : SerialType) (bodies : List ℕ) (whole : Read Value) → whole ≡ value_at kind bodies → IsFault e (body_at kind bodies) → IsFault e whole
+value_fault e kind bodies whole is fault = fault_of e (body_at kind bodies) whole fault (λ f at. is ∙ ap (λ (r : Read (Value × List ℕ)). r >>= λ x. read x.0) at)
+
+pub value_there : (kind : SerialType) (bodies : List ℕ) (whole : Read Value) (v : Value) (behind : List ℕ) → whole ≡ value_at kind bodies → body_at kind bodies ≡ Ok (v, behind) → whole ≡ Ok v
+value_there kind bodies whole v behind is at = is ∙ ap (λ (r : Read (Value × List ℕ)). r >>= λ x. read x.0) at

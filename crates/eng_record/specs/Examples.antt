@@ -4,6 +4,7 @@ use Rattle.eng_value.specs.declared.value.Value.{Value}
 use Rattle.eng_value.specs.declared.value.Value.TheVariants.{Null, Integer, Text, Blob}
 use Rattle.eng_record.specs.declared.record_error.RecordErr.TheVariants.{Short, BadKind, Trailing, NotShortest}
 use Rattle.eng_record.specs.Spelling.{varint, varint_len, header_len, integer_len, spelling}
+use Rattle.eng_record.specs.Columns.{body_of, column_at}
 use Rattle.eng_record.specs.Reading.{reading, record_at, bodies_at, body_at, signed, header_at, header_len_at, type_at, varint_at, number_at, front}
 
 -- ---- NULL, 1, 'ab', 300
@@ -108,3 +109,18 @@ more_behind = (refl, refl)
 first_from_the_left : (reading (0x03 ∷ 0x07 ∷ 0x80 ∷ []) ≡ Err BadKind) × (reading (0x04 ∷ 0x80 ∷ 0x00 ∷ 0x07 ∷ []) ≡ Err NotShortest) × (reading (0x03 ∷ 0x02 ∷ 0x01 ∷ 0x00 ∷ 0x01 ∷ []) ≡ Err NotShortest) × (reading (0x09 ∷ 0x07 ∷ []) ≡ Err BadKind)
 unfolding reading record_at header_at header_len_at type_at varint_at number_at bodies_at body_at front signed varint_len header_len integer_len
 first_from_the_left = (refl, refl, refl, refl)
+
+-- ---- one column
+
+-- NULL, 1, x'6162', 300, and nothing behind them
+abbrev with_blob : List ℕ
+with_blob = 0x05 ∷ 0x00 ∷ 0x09 ∷ 0x10 ∷ 0x02 ∷ 0x61 ∷ 0x62 ∷ 0x01 ∷ 0x2c ∷ []
+
+columns_of_the_row : (column_at 0 with_blob ≡ Ok Null) × (column_at 1 with_blob ≡ Ok (Integer (pos 1))) × (column_at 2 with_blob ≡ Ok (Blob (0x61 ∷ 0x62 ∷ []))) × (column_at 3 with_blob ≡ Ok (Integer (pos 300))) × (column_at 4 with_blob ≡ Ok Null)
+unfolding column_at body_of header_len_at type_at varint_at number_at body_at front signed varint_len header_len integer_len
+columns_of_the_row = (refl, refl, refl, refl, refl)
+
+-- 0 with a body, 0, and a byte behind both: the record of no row
+columns_of_no_row : (reading (0x03 ∷ 0x01 ∷ 0x08 ∷ 0x00 ∷ 0x00 ∷ []) ≡ Err NotShortest) × (column_at 0 (0x03 ∷ 0x01 ∷ 0x08 ∷ 0x00 ∷ 0x00 ∷ []) ≡ Err NotShortest) × (column_at 1 (0x03 ∷ 0x01 ∷ 0x08 ∷ 0x00 ∷ 0x00 ∷ []) ≡ Ok (Integer (pos 0))) × (column_at 2 (0x03 ∷ 0x01 ∷ 0x08 ∷ 0x00 ∷ 0x00 ∷ []) ≡ Ok Null)
+unfolding column_at body_of reading record_at header_at header_len_at type_at varint_at number_at bodies_at body_at front signed varint_len header_len integer_len
+columns_of_no_row = (refl, refl, refl, refl)

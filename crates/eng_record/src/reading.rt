@@ -1,6 +1,7 @@
 // Reading records.
-ghost use Rattle.std.specs.Prelude.{◌≡◌, ◌<◌, ◌≤◌, List, length, IfOk, Ok, SomeIff};
+ghost use Rattle.std.specs.Prelude.{◌≡◌, ◌≢◌, ◌<◌, ◌≤◌, List, length, IfErr, IfOk, Ok, SomeIff};
 ghost use Rattle.eng_value.specs.declared.value.Value.{Value as SqlValue};
+ghost use Rattle.eng_record.specs.declared.record_error.RecordErr.TheVariants.{Mem};
 ghost use Rattle.eng_record.specs.declared.serial_type.SerialType.TheVariants as types;
 ghost use Rattle.eng_record.specs.Spelling.{spelling, IsSpellable};
 ghost use Rattle.eng_record.specs.Reading.{Gives, bodies_at, body_at as body_in, front as front_of, header_at as header_in, header_len_at as header_len_in, reading, record_at as record_in, sign_of as sign_byte, signed as signed_of, type_at as type_in, types_in};
@@ -64,7 +65,8 @@ fn header_at(alloc: Global, bytes: &[u8]) -> Result<(Vec<SerialType>, &[u8]), Re
 #[inline(always)]
 #[tactic(auto, unfolding(crate::specs::Reading::header_len_at))]
 pub(crate) fn header_len_at(bytes: &[u8]) -> Result<(usize, &[u8]), RecordErr>
-    ensures { Gives (λ x. (x.0, x.1.now)) result (header_len_in bytes.now) }
+    ensures exact { Gives (λ x. (x.0, x.1.now)) result (header_len_in bytes.now) }
+    ensures no_memory { IfErr result (λ e. e ≢ Mem) }
 {
     let (n, rest) = number_at(bytes)?;
     let own_len = (bytes.len() - rest.len()) as u64;
@@ -99,6 +101,7 @@ fn types_of(alloc: Global, bytes: &[u8]) -> Result<Vec<SerialType>, RecordErr>
 pub(crate) fn type_at(bytes: &[u8]) -> Result<(SerialType, &[u8]), RecordErr>
     ensures exact { Gives (λ x. (x.0, x.1.now)) result (type_in bytes.now) }
     ensures shorter { IfOk result (λ x. length x.1.now < length bytes.now) }
+    ensures no_memory { IfErr result (λ e. e ≢ Mem) }
 {
     let (code, rest) = varint_at(bytes)?;
     match SerialType::from_code(code) {
@@ -179,7 +182,8 @@ fn text_at(alloc: Global, len: usize, bytes: &[u8]) -> Result<(Value, &[u8]), Re
 /// So many bytes from the front, and the bytes behind them.
 #[tactic(auto, unfolding(crate::specs::Reading::front))]
 pub(crate) fn front(len: usize, bytes: &[u8]) -> Result<(&[u8], &[u8]), RecordErr>
-    ensures { Gives (λ x. (x.0.now, x.1.now)) result (front_of len bytes.now) }
+    ensures exact { Gives (λ x. (x.0.now, x.1.now)) result (front_of len bytes.now) }
+    ensures no_memory { IfErr result (λ e. e ≢ Mem) }
 {
     if bytes.len() < len {
         return Err(RecordErr::Short);

@@ -1,5 +1,6 @@
 // Varints (Database File Format, section 1.6), and the length of a header, which counts the bytes of its own varint.
-ghost use Rattle.std.specs.Prelude.{◌≡◌, ◌++◌, ◌<◌, ◌≤◌, ◌^◌, length, IfOk, OnOk, SomeIff};
+ghost use Rattle.std.specs.Prelude.{◌≡◌, ◌≢◌, ◌++◌, ◌<◌, ◌≤◌, ◌^◌, length, IfErr, IfOk, OnOk, SomeIff};
+ghost use Rattle.eng_record.specs.declared.record_error.RecordErr.TheVariants.{Mem};
 ghost use Rattle.eng_record.specs.Spelling.{header_len as len_of_header, leading, varint, varint_len as len_of_varint};
 ghost use Rattle.eng_record.specs.Reading.{Gives, number_at as number_in, varint_at as varint_in};
 
@@ -69,6 +70,7 @@ fn push_leading(out: &mut Vec<u8>, count: usize, n: u64) -> Result<(), AllocErro
 pub(crate) fn varint_at(bytes: &[u8]) -> Result<(u64, &[u8]), RecordErr>
     ensures exact { Gives (λ x. (x.0, x.1.now)) result (varint_in bytes.now) }
     ensures shorter { IfOk result (λ x. length x.1.now < length bytes.now) }
+    ensures no_memory { IfErr result (λ e. e ≢ Mem) }
 {
     let (n, rest) = number_at(bytes)?;
     if bytes.len() - rest.len() != varint_len(n) {
@@ -83,6 +85,7 @@ pub(crate) fn varint_at(bytes: &[u8]) -> Result<(u64, &[u8]), RecordErr>
 pub(crate) fn number_at(bytes: &[u8]) -> Result<(u64, &[u8]), RecordErr>
     ensures exact { Gives (λ x. (x.0, x.1.now)) result (number_in bytes.now) }
     ensures shorter { IfOk result (λ x. length x.1.now < length bytes.now) }
+    ensures no_memory { IfErr result (λ e. e ≢ Mem) }
 {
     match bytes {
         [byte, rest @ ..] if *byte < 128 => Ok((u64::from(*byte), rest)),
@@ -95,6 +98,7 @@ pub(crate) fn number_at(bytes: &[u8]) -> Result<(u64, &[u8]), RecordErr>
 fn number_of_several(bytes: &[u8]) -> Result<(u64, &[u8]), RecordErr>
     ensures exact { Gives (λ x. (x.0, x.1.now)) result (number_in bytes.now) }
     ensures shorter { IfOk result (λ x. length x.1.now < length bytes.now) }
+    ensures no_memory { IfErr result (λ e. e ≢ Mem) }
 {
     let mut high: u64 = 0;
     let mut rest = bytes;

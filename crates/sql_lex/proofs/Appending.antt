@@ -41,7 +41,7 @@ run_stays_behind p n xs more lt =
     ∙ run_stays p (drop n xs) more (omega (arith, length-drop n xs))
 
 -- what passes one test passes the other
-run_shorter : (p q : ℕ → Bool) → ((b : ℕ) → p b ≡ true → q b ≡ true) → (xs : List ℕ) → length (take_while p xs) ≤ length (take_while q xs)
+pub run_shorter : (p q : ℕ → Bool) → ((b : ℕ) → p b ≡ true → q b ≡ true) → (xs : List ℕ) → length (take_while p xs) ≤ length (take_while q xs)
 run_shorter p q both [] = omega arith
 run_shorter p q both (x ∷ xs) = rw (take_while-cons p x xs, take_while-cons q x xs) (by (p x) (q x) (both x) (run_shorter p q both xs))
   where
@@ -119,7 +119,7 @@ blob_stays (Some w) p bytes more h e =
 
 -- ---- numbers
 
-number_width : (w : ℕ) (xs : List ℕ) → width_of (number_of_width w xs) ≡ w + word_width (drop w xs)
+pub number_width : (w : ℕ) (xs : List ℕ) → width_of (number_of_width w xs) ≡ w + word_width (drop w xs)
 number_width w xs = by (nat_eq (word_width (drop w xs)) 0) refl
   where
     by : (t : Bool) → nat_eq (word_width (drop w xs)) 0 ≡ t → width_of (cond t (Lexeme kind.Number w) (Lexeme kind.Illegal (w + word_width (drop w xs)))) ≡ w + word_width (drop w xs)
@@ -247,7 +247,7 @@ by_digits_stays (d ∷ ds) xs more on = by (nat_le (length (without_zeros (d ∷
     by true on = width_stays (2 + length (d ∷ ds)) xs more (omega (arith, number_width (2 + length (d ∷ ds)) xs, on.0))
     by false on = ap (λ ys. Lexeme kind.Illegal (2 + length ys)) (run_stays_behind is_word_byte 2 xs more (omega (arith, on.0)))
 
-hex_digit_word : (b : ℕ) → is_ascii_hexdigit b ≡ true → is_word_byte b ≡ true
+pub hex_digit_word : (b : ℕ) → is_ascii_hexdigit b ≡ true → is_word_byte b ≡ true
 hex_digit_word b h = grind (arith, nat_tests)
 
 x_word : (b : ℕ) → is_x b ≡ true → is_word_byte b ≡ true
@@ -287,7 +287,7 @@ number_stays b c cs more digit on =
 
 -- ---- parameters
 
-parameter_width : (ds : List ℕ) → width_of (parameter_piece ds) ≡ suc (length ds)
+pub parameter_width : (ds : List ℕ) → width_of (parameter_piece ds) ≡ suc (length ds)
 parameter_width [] = refl
 parameter_width (d ∷ ds) = by (is_parameter (digits_value 10 (d ∷ ds)))
   where

@@ -1,11 +1,11 @@
 -- A text is made up of its tokens and of blanks.
-use Rattle.std.proofs.Common.{◌≡◌, ℕ, suc, zero, ◌+◌, ◌<◌, ◌≤◌, List, [], ◌∷◌, length, length-drop, drop, Option, Some, None, IfSome, refl, sym, ap, ◌∙◌, subst, arith}
+use Rattle.std.proofs.Common.{◌≡◌, ℕ, suc, zero, ◌+◌, ◌≤◌, List, [], ◌∷◌, length, length-drop, drop, Option, Some, None, IfSome, refl, sym, ap, ◌∙◌, subst, arith}
 use Rattle.std.proofs.lemmas.List.{drop-drop}
 use Rattle.sql_tree.specs.declared.token.Token.{Token}
 use Rattle.sql_lex.specs.declared.piece.Piece.{Piece}
 use Rattle.sql_lex.specs.declared.piece.Piece.TheVariants.{Blank, Lexeme, Parameter}
 use Rattle.sql_lex.specs.Cutting.{blank_of, blank_width}
-use Rattle.sql_lex.specs.Gaps.{AreBlanks, MakeUp, StandsIn, none, one_more}
+use Rattle.sql_lex.specs.Gaps.{AreBlanks, MakeUp, none, one_more}
 use Rattle.sql_lex.specs.Pieces.{piece}
 use Rattle.sql_lex.specs.Tokens.{in_front, largest_in, lexed, token_in, tokens_of, width_of}
 use Rattle.sql_lex.proofs.Cuts.{piece_fits}

@@ -1,3 +1,4 @@
+pub mod AloneLaws
 mod Appending
 mod Cuts
 pub mod CuttingLaws
@@ -10,4 +11,5 @@ mod Numbering
 mod Readings
 mod Semicolons
 mod Signing
+mod Taking
 mod Widths

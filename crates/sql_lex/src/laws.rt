@@ -1,6 +1,7 @@
 // What holds of the ends of statements, of blanks and of tokens, whoever cuts a text. Nothing here runs: each contract is a law.
-ghost use Rattle.std.specs.Prelude.{◌≡◌, ℕ, ◌<◌, ◌≤◌, List, ◌++◌, length, Some};
+ghost use Rattle.std.specs.Prelude.{◌≡◌, ℕ, ◌<◌, ◌≤◌, All, List, ◌++◌, length, Some};
 ghost use Rattle.sql_tree.specs.declared.token.TokenKind.{TokenKind};
+ghost use Rattle.sql_lex.specs.Alone.{IsItself};
 ghost use Rattle.sql_lex.specs.Cutting.{blank_width, end_among, is_end, statement_end};
 ghost use Rattle.sql_lex.specs.Gaps.{MakeUp};
 ghost use Rattle.sql_lex.specs.Places.{IsFirst};
@@ -26,4 +27,10 @@ pub fn a_blank_stays()
 /// what the text goes on with where it starts.
 pub fn tokens_make_up_the_text()
     ensures { (text : List ℕ) → MakeUp text 0 (tokens_of text) }
+{}
+
+/// The bytes of a token, alone, are that token and no other. Only of `?` what stands in front of it counts: alone it is parameter 1,
+/// in a text the one behind the largest so far, or, behind 999, none.
+pub fn a_token_alone_is_itself()
+    ensures { (text : List ℕ) → All (IsItself text) (tokens_of text) }
 {}
