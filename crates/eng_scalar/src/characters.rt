@@ -4,16 +4,17 @@ ghost use Rattle.std.specs.Char.{to_ascii_uppercase};
 ghost use Rattle.std.specs.Str.{chars};
 ghost use Rattle.eng_scalar.specs.Characters.{of_text};
 ghost use Rattle.eng_text.specs.Texts.{folded};
-ghost use Rattle.eng_value.specs.Functions.{char_of, char_of_number, first_char, length_of_value, on_text};
+ghost use Rattle.eng_value.specs.Functions.{char_of, char_of_number, first_char, length_of_value, on_bytes, on_text};
+ghost use Rattle.eng_value.specs.OperandTexts.{value_of};
 ghost use Rattle.eng_value.specs.Operators.{made};
 ghost use Rattle.eng_value.specs.declared.out.Out.TheVariants.{Good};
 ghost use Rattle.eng_value.specs.declared.value.Value.TheVariants as sql;
 
-use crate::arguments::{Argument, int_of, text_of};
+use crate::arguments::int_of;
 use crate::text_ends::count;
 use crate::trimming::trim_spaces;
 use eng_text::fold;
-use eng_value::{Builtin, Cause, MAX_VALUE_BYTES, Out, Text, Value};
+use eng_value::{Builtin, Cause, MAX_VALUE_BYTES, OperandText, Out, Spelling, Text, Value};
 use std::alloc::{AllocError, Global};
 
 /// The text of the characters that these numbers stand for (Built-in Scalar SQL Functions, "char"). A number that is no character
@@ -59,10 +60,18 @@ pub(crate) enum OfText {
 pub(crate) fn on_text(alloc: Global, f: OfText, value: &Value) -> Result<Out, AllocError>
     ensures { IfOk result (λ out. out ≡ on_text (of_text f) value.now) }
 {
-    match &text_of(alloc, value)? {
-        Argument::Null => Ok(Out::Good(Value::Null)),
-        Argument::Text(text) => of_text(alloc, f, text),
-        Argument::NotText => Ok(Out::bad(alloc, Cause::NotText)),
+    match OperandText::of_value(alloc, value)? {
+        OperandText::Good(text) => on_spelling(alloc, f, &text),
+        OperandText::Bad(causes) => Ok(Out::Bad(causes)),
+    }
+}
+
+fn on_spelling(alloc: Global, f: OfText, text: &Spelling<'_>) -> Result<Out, AllocError>
+    ensures { IfOk result (λ out. out ≡ on_bytes (of_text f) (value_of text.now)) }
+{
+    match text.as_str() {
+        Some(text) => of_text(alloc, f, text),
+        None => Ok(Out::Good(Value::Null)),
     }
 }
 
