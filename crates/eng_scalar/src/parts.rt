@@ -1,7 +1,7 @@
 // Parts of texts and blobs.
 ghost use Rattle.std.specs.Prelude.{◌≡◌, ℕ, ◌^◌, ◌<◌, ◌≤◌, List, length, min, encode_utf8_all, IfOk};
 ghost use Rattle.std.specs.Str.{chars};
-ghost use Rattle.eng_value.specs.Functions.{on_bytes, start_of, substr_by, substr_in, substr_of, text_of_chars};
+ghost use Rattle.eng_value.specs.Functions.{given, on_bytes, start_of, substr_by, substr_in, substr_of, text_of_chars};
 ghost use Rattle.eng_value.specs.OperandTexts.{value_of};
 ghost use Rattle.eng_value.specs.declared.out.Out.TheVariants.{Good};
 ghost use Rattle.eng_value.specs.declared.value.Value.TheVariants as sql;
@@ -16,7 +16,7 @@ use std::alloc::{AllocError, Global};
 /// blob places count bytes, and of anything else the characters of the text that it is cast to. Time is linear in X, and only
 /// the part is copied.
 pub(crate) fn substr(alloc: Global, args: &[Value]) -> Result<Out, AllocError>
-    ensures { IfOk result (λ out. out ≡ substr_of args.now) }
+    ensures { IfOk result (λ out. out ≡ given (substr_of args.now)) }
 {
     match args {
         [x, y] => substr_by(alloc, x, int_of(y), None),
@@ -31,7 +31,7 @@ fn substr_by(
     start: i64,
     wanted: Option<i64>,
 ) -> Result<Out, AllocError>
-    ensures { IfOk result (λ out. out ≡ substr_by value.now start wanted) }
+    ensures { IfOk result (λ out. out ≡ given (substr_by value.now start wanted)) }
 {
     match value {
         Value::Blob(blob) => part_of_blob(alloc, blob.as_slice(), start, wanted),

@@ -2,7 +2,7 @@
 ghost use Rattle.std.specs.Prelude.{◌≡◌, ◌+◌, ◌^◌, ◌<◌, Some, IfOk};
 ghost use Rattle.std.specs.Str.{chars};
 ghost use Rattle.eng_text.specs.Texts.{place_of};
-ghost use Rattle.eng_value.specs.Functions.{instr_of, number_of_place, on_texts};
+ghost use Rattle.eng_value.specs.Functions.{given, instr_of, number_of_place, on_texts};
 ghost use Rattle.eng_scalar.specs.Places.{text_place};
 
 use crate::text_ends::count;
@@ -13,7 +13,7 @@ use std::alloc::{AllocError, Global};
 /// The first place, counted from 1, from which on Y stands in X, and 0 where it does not: instr(X,Y) (Built-in Scalar SQL
 /// Functions). Of two blobs places count bytes, and else the characters of the texts that X and Y are cast to.
 pub(crate) fn instr(alloc: Global, x: &Value, y: &Value) -> Result<Out, AllocError>
-    ensures { IfOk result (λ out. out ≡ instr_of x.now y.now) }
+    ensures { IfOk result (λ out. out ≡ given (instr_of x.now y.now)) }
 {
     match (x, y) {
         (Value::Blob(hay), Value::Blob(needle)) => {

@@ -2,7 +2,7 @@
 ghost use Rattle.std.specs.Prelude.{◌≡◌, ◌==◌, codes, encode_utf8_all, IfOk};
 ghost use Rattle.std.specs.List.{list_any};
 ghost use Rattle.std.specs.Str.{chars};
-ghost use Rattle.eng_value.specs.Functions.{on_texts, text_of_chars, trim_by, trim_of, without_back, without_front};
+ghost use Rattle.eng_value.specs.Functions.{given, on_texts, text_of_chars, trim_by, trim_of, without_back, without_front};
 ghost use Rattle.eng_value.specs.declared.out.Out.TheVariants.{Good};
 ghost use Rattle.eng_scalar.specs.Trims.{trimmed};
 
@@ -15,7 +15,7 @@ use std::alloc::{AllocError, Global};
 /// X without the spaces at its ends, or without the characters of Y there: trim(X) and trim(X,Y), ltrim at the beginning and rtrim
 /// at the end alone (Built-in Scalar SQL Functions). `which` tells the three apart.
 pub(crate) fn trim(alloc: Global, which: Builtin, args: &[Value]) -> Result<Out, AllocError>
-    ensures { IfOk result (λ out. out ≡ trim_of which args.now) }
+    ensures { IfOk result (λ out. out ≡ given (trim_of which args.now)) }
 {
     match args {
         [x] => on_text(alloc, OfText::Trim(which), x),
