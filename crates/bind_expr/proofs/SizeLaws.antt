@@ -1,10 +1,10 @@
 -- A bound expression is at most twice as large as the tree that it is bound from, and what it is split into four times.
 use Rattle.std.proofs.Common.{rules, arith, subst, ◌≡◌, ℕ, true, false, if◌then◌else◌, unwrap_or, ◌+◌, ◌*◌, ◌≤◌, Bool, List, [], ◌∷◌, ◌++◌, map, length, Option, Some, None, Result, Ok, Err, IfOk, refl, sym, ap, ◌∙◌}
 use Rattle.std.specs.Option.{option_map}
+use Rattle.eng_value.specs.Functions.{FunctionKind, FirstKnown, Choice, ByKeys, OfText, OfValues, kind_of}
 use Rattle.eng_value.specs.declared.affinity.Affinity.{Affinity}
 use Rattle.eng_value.specs.declared.built.Built.{Built}
 use Rattle.eng_value.specs.declared.builtin.Builtin.{Builtin}
-use Rattle.eng_value.specs.declared.builtin.Builtin.TheVariants as builtin
 use Rattle.eng_value.specs.declared.built.Built.TheVariants as built
 use Rattle.eng_value.specs.declared.cause.Cause.{Cause}
 use Rattle.eng_value.specs.declared.compare_op.CompareOp.TheVariants as compare
@@ -52,7 +52,7 @@ use Rattle.sql_meaning.specs.declared.bound.BoundExpr.{BoundExpr, fold-roll-Boun
 use Rattle.sql_meaning.specs.declared.bound.BoundExpr.TheVariants as e
 use Rattle.sql_meaning.specs.declared.bound.BoundMatch.{BoundMatch, roll-BoundMatch}
 use Rattle.sql_meaning.specs.declared.bound.Literal.{Literal}
-use Rattle.sql_meaning.specs.Binding.{◌>>=◌, Scope, Bound, Form, Plain, LeastMagnitude, Truth, Arm, all_in, option_in, bound_of, arm_bound, tree_of, chosen_arm, matched_arm, call_tree, or_null, literal_bound, unary_bound, negative_bound, binary_bound, is_bound, not_bound, between_bound, like_bound, in_bound, collate_bound, cast_bound, call_bound, case_bound, affinity_of_type, builtin_named, collation_named, column_at, column_bound, column_found, column_place, dotted, first_collation, function_called, member_sides, parameter_bound, sides_of, table_column_bound, unknown_column}
+use Rattle.sql_meaning.specs.Binding.{◌>>=◌, Scope, Bound, Form, Plain, LeastMagnitude, Truth, Arm, all_in, option_in, bound_of, arm_bound, tree_of, chosen_arm, matched_arm, call_tree, tree_by, or_null, literal_bound, unary_bound, negative_bound, binary_bound, is_bound, not_bound, between_bound, like_bound, in_bound, collate_bound, cast_bound, call_bound, case_bound, affinity_of_type, builtin_named, collation_named, column_at, column_bound, column_found, column_place, dotted, first_collation, function_called, member_sides, parameter_bound, sides_of, table_column_bound, unknown_column}
 use Rattle.sql_meaning.specs.Sizes.{nodes_of, nodes_of_arm, nodes_of_match, all_nodes}
 
 -- ---- sizes, clause by clause
@@ -250,33 +250,19 @@ collate_sized name (Some c) n a b h is =
     let same : record a { collation = Some c; form = Plain; conjuncts = a.tree ∷ [] } ≡ b = cc in
     rw (← same) (unsplit_sized (1 + n) _ refl (omega (arith, h.tree)))
 
+kind_nodes : (k : FunctionKind) (f : Builtin) (collation : Built) (args : List BoundExpr) → nodes_of (tree_by k f collation args) ≤ 2 + all_nodes args
+kind_nodes FirstKnown f c args = omega (arith, nodes-Coalesce args)
+kind_nodes Choice f c [] = omega (arith, nodes-Call f c [])
+kind_nodes Choice f c (x ∷ []) = omega (arith, nodes-Call f c (x ∷ []))
+kind_nodes Choice f c (x ∷ y ∷ []) = omega (arith, nodes-Call f c (x ∷ y ∷ []))
+kind_nodes Choice f c (x ∷ y ∷ z ∷ []) = omega (arith, nodes-Choose (roll-BoundArm (record { condition = x; value = y }) ∷ []) z, nodes-arm x y)
+kind_nodes Choice f c (x ∷ y ∷ z ∷ w ∷ more) = omega (arith, nodes-Call f c (x ∷ y ∷ z ∷ w ∷ more))
+kind_nodes (ByKeys g) f c args = omega (arith, nodes-Call f c args)
+kind_nodes (OfText g) f c args = omega (arith, nodes-Call f c args)
+kind_nodes (OfValues g) f c args = omega (arith, nodes-Call f c args)
+
 call_nodes : (f : Builtin) (collation : Built) (args : List BoundExpr) → nodes_of (call_tree f collation args) ≤ 2 + all_nodes args
-call_nodes builtin.Coalesce c args = omega (arith, nodes-Coalesce args)
-call_nodes builtin.IfNull c args = omega (arith, nodes-Coalesce args)
-call_nodes builtin.Iif c [] = omega (arith, nodes-Call builtin.Iif c [])
-call_nodes builtin.Iif c (x ∷ []) = omega (arith, nodes-Call builtin.Iif c (x ∷ []))
-call_nodes builtin.Iif c (x ∷ y ∷ []) = omega (arith, nodes-Call builtin.Iif c (x ∷ y ∷ []))
-call_nodes builtin.Iif c (x ∷ y ∷ z ∷ []) = omega (arith, nodes-Choose (roll-BoundArm (record { condition = x; value = y }) ∷ []) z, nodes-arm x y)
-call_nodes builtin.Iif c (x ∷ y ∷ z ∷ w ∷ more) = omega (arith, nodes-Call builtin.Iif c (x ∷ y ∷ z ∷ w ∷ more))
-call_nodes builtin.Abs c args = omega (arith, nodes-Call builtin.Abs c args)
-call_nodes builtin.Char c args = omega (arith, nodes-Call builtin.Char c args)
-call_nodes builtin.Hex c args = omega (arith, nodes-Call builtin.Hex c args)
-call_nodes builtin.Instr c args = omega (arith, nodes-Call builtin.Instr c args)
-call_nodes builtin.Length c args = omega (arith, nodes-Call builtin.Length c args)
-call_nodes builtin.Lower c args = omega (arith, nodes-Call builtin.Lower c args)
-call_nodes builtin.Upper c args = omega (arith, nodes-Call builtin.Upper c args)
-call_nodes builtin.Trim c args = omega (arith, nodes-Call builtin.Trim c args)
-call_nodes builtin.TrimLeft c args = omega (arith, nodes-Call builtin.TrimLeft c args)
-call_nodes builtin.TrimRight c args = omega (arith, nodes-Call builtin.TrimRight c args)
-call_nodes builtin.Max c args = omega (arith, nodes-Call builtin.Max c args)
-call_nodes builtin.Min c args = omega (arith, nodes-Call builtin.Min c args)
-call_nodes builtin.NullIf c args = omega (arith, nodes-Call builtin.NullIf c args)
-call_nodes builtin.Quote c args = omega (arith, nodes-Call builtin.Quote c args)
-call_nodes builtin.Replace c args = omega (arith, nodes-Call builtin.Replace c args)
-call_nodes builtin.Substr c args = omega (arith, nodes-Call builtin.Substr c args)
-call_nodes builtin.TypeOf c args = omega (arith, nodes-Call builtin.TypeOf c args)
-call_nodes builtin.Unicode c args = omega (arith, nodes-Call builtin.Unicode c args)
-call_nodes builtin.ZeroBlob c args = omega (arith, nodes-Call builtin.ZeroBlob c args)
+call_nodes f c args = kind_nodes (kind_of f) f c args
 
 call_sized : (f : Builtin) (n : ℕ) (args : List Bound) → all_nodes (map tree_of args) ≤ 2 * n → Sized (1 + n) (call_bound f args)
 call_sized f n args h = unsplit_sized (1 + n) _ refl (omega (arith, h, call_nodes f (unwrap_or (first_collation args) built.Binary) (map tree_of args)))

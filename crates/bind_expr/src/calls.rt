@@ -1,11 +1,12 @@
 // Calls of functions (Built-in Scalar SQL Functions).
 ghost use Rattle.std.specs.Prelude.{◌≡◌, [], ◌∷◌, map, IfOk};
+ghost use Rattle.eng_value.specs.Functions.{Choice};
 ghost use Rattle.eng_value.specs.declared.builtin.Builtin.TheVariants as builtin;
 ghost use Rattle.sql_meaning.specs.declared.bound.BoundArm.{roll-BoundArm};
 ghost use Rattle.sql_meaning.specs.declared.bound.BoundExpr.TheVariants as e;
 ghost use Rattle.std.specs.List.{find};
 ghost use Rattle.std.specs.Option.{option_map};
-ghost use Rattle.sql_meaning.specs.Binding.{builtin_named, call_checked, call_tree, function_called, takes};
+ghost use Rattle.sql_meaning.specs.Binding.{builtin_named, call_checked, call_tree, function_called, takes, tree_by};
 ghost use Rattle.sql_meaning.specs.Names.{is_same_name};
 ghost use Rattle.sql_meaning.specs.Spelled.{name_at};
 ghost use Rattle.bind_expr.specs.Calls.{named_in, row};
@@ -89,7 +90,7 @@ pub(crate) fn function_called(
 
 /// `iif(a, b, c)`, which is a CASE.
 fn iif(alloc: Global, collation: Built, mut args: Items<BoundExpr>) -> Result<BoundExpr, AllocError>
-    ensures { IfOk result (λ tree. tree ≡ call_tree builtin.Iif collation args) }
+    ensures { IfOk result (λ tree. tree ≡ tree_by Choice builtin.Iif collation args) }
 {
     if args.len() != 3 {
         return Ok(BoundExpr::Call(Builtin::Iif, collation, args));
@@ -130,6 +131,7 @@ fn one_arm(
 }
 
 /// The tree of a call. coalesce and iif look at their arguments in order.
+#[tactic(auto, unfolding(eng_value::specs::Functions::kind_of))]
 fn call_tree(
     alloc: Global,
     f: Builtin,

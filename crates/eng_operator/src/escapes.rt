@@ -1,14 +1,14 @@
 // The character of an ESCAPE.
 ghost use Rattle.std.specs.Prelude.{◌≡◌, [], ◌∷◌, IfOk, MatchOption};
 ghost use Rattle.std.specs.Str.{chars};
-ghost use Rattle.eng_operator.specs.Spellings.{escape_out, value_of};
+ghost use Rattle.eng_operator.specs.Escapes.{escape_out};
 ghost use Rattle.eng_value.specs.Comparisons.{escape_char, one_char, to_escape};
+ghost use Rattle.eng_value.specs.OperandTexts.{value_of};
 ghost use Rattle.eng_value.specs.Outs.{bad};
 ghost use Rattle.eng_value.specs.declared.cause.Cause.TheVariants as cause;
 
-use crate::spelling::{OperandText, Spelling};
 use eng_text::first_char;
-use eng_value::{Cause, Causes, Out};
+use eng_value::{Cause, Causes, OperandText, Out, Spelling};
 use std::alloc::{AllocError, Global};
 
 /// What an ESCAPE came to.

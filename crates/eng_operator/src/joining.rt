@@ -1,11 +1,10 @@
 // Texts behind one another.
 ghost use Rattle.std.specs.Prelude.{◌≡◌, ◌++◌, IfOk};
-ghost use Rattle.eng_operator.specs.Spellings.{value_of};
+ghost use Rattle.eng_value.specs.OperandTexts.{value_of};
 ghost use Rattle.eng_value.specs.Operators.{concatenation_of, joined, made};
 ghost use Rattle.eng_value.specs.declared.value.Value.TheVariants as sql;
 
-use crate::spelling::{BothTexts, Spelling};
-use eng_value::{Cause, MAX_VALUE_BYTES, Out, Text, Value};
+use eng_value::{BothTexts, Cause, MAX_VALUE_BYTES, Out, Spelling, Text, Value};
 use std::alloc::{AllocError, Global};
 
 /// `||` (SQL Language Expressions, "Operators") of the operands as CAST to TEXT makes them: NULL beside NULL. It is bad where the

@@ -4,8 +4,8 @@
 //! and OR, where one operand can decide alone, and for a choice, where the condition does. What each operator gives stands in
 //! eng_value's definitions (Operators, Truths, Comparisons), and each function here has that as its one clause. Only memory can
 //! fail, and a text that an operator only reads is not copied. `applying` calls an operator by what it is told apart by, and
-//! `plain` answers in its place for two integers and two texts where no memory is needed. Begin with
-//! `numbers`; `spelling` says how a text is read.
+//! `plain` answers in its place, without memory, exactly where the operator looks at two integers or two texts as they are and an
+//! integer comes of it. Begin with `numbers`; eng_value's `OperandText` says how a text is read.
 #![tactic(auto)]
 
 mod applying;
@@ -16,7 +16,6 @@ mod joining;
 mod matching;
 mod numbers;
 mod plain;
-mod spelling;
 mod truths;
 
 pub use applying::{binary, unary};

@@ -1,15 +1,15 @@
 // LIKE and GLOB.
 ghost use Rattle.std.specs.Prelude.{◌≡◌, IfOk, pos};
 ghost use Rattle.std.specs.FinSet as set;
-ghost use Rattle.eng_operator.specs.Spellings.{escape_out, out_of, value_of};
+ghost use Rattle.eng_operator.specs.Escapes.{escape_out};
 ghost use Rattle.eng_value.specs.Comparisons.{glob_of, globbed, like_escaped_of, like_of, liked, liked_beside};
+ghost use Rattle.eng_value.specs.OperandTexts.{out_of, value_of};
 ghost use Rattle.eng_value.specs.Outs.{causes_in, on_both};
 ghost use Rattle.eng_value.specs.declared.out.Out.TheVariants.{Good};
 ghost use Rattle.eng_value.specs.declared.value.Value.TheVariants as sql;
 
 use crate::escapes::Escape;
-use crate::spelling::{BothTexts, OperandText, Spelling};
-use eng_value::{Causes, Out, Value};
+use eng_value::{BothTexts, Causes, OperandText, Out, Spelling, Value};
 use std::alloc::{AllocError, Global};
 
 /// LIKE (SQL Language Expressions, "The LIKE, GLOB, REGEXP, MATCH, and extract operators") of a text and a pattern as CAST to TEXT

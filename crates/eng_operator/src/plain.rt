@@ -1,5 +1,5 @@
 // The operators on two integers and on two texts, where the result is an integer: the most common cases, which need no memory.
-ghost use Rattle.std.specs.Prelude.{◌≡◌, ◌⊎◌, ℤ, true, false, not, IfSome, IfNone};
+ghost use Rattle.std.specs.Prelude.{◌≡◌, ◌&&◌, ℤ, true, not, is_some, IfSome};
 ghost use Rattle.eng_operator.specs.Plain.{is_integer, is_integer_value, is_of_integers, is_of_texts, is_text, keep_integers};
 ghost use Rattle.eng_value.specs.Applied.{binary_of};
 ghost use Rattle.eng_value.specs.Casts.{beside};
@@ -14,12 +14,12 @@ ghost use Rattle.eng_value.specs.declared.value.Value.TheVariants.{Integer};
 use crate::bits::of_bits;
 use eng_value::{Affinity, ArithmeticOp, BinaryOperator, CompareOp, IntegerOp, Sides, Text, Value};
 
-/// What an operator gives for two integers; None only where it is no integer, or the operator is none that looks at two integers as
-/// they are: `binary` then answers.
+/// What an operator gives for two integers: Some exactly where it is one that looks at two integers as they are and an integer comes
+/// of it. Else `binary` answers.
 #[tactic(auto, unfolding(eng_value::specs::Operators::arithmetic_of, eng_value::specs::Operators::integers_of, eng_value::specs::Comparisons::comparison_of))]
 pub fn binary_of_integers(op: &BinaryOperator, a: i64, b: i64) -> Option<i64>
     ensures some { IfSome result (λ n. binary_of op.now (Good (Integer a)) (Good (Integer b)) ≡ Good (Integer n)) }
-    ensures none { IfNone result ((is_of_integers op.now ≡ false) ⊎ (is_integer (binary_of op.now (Good (Integer a)) (Good (Integer b))) ≡ false)) }
+    ensures exactly { is_some result ≡ is_of_integers op.now && is_integer (binary_of op.now (Good (Integer a)) (Good (Integer b))) }
 {
     match op {
         BinaryOperator::Arithmetic(op) => arithmetic(*op, a, b),
@@ -31,11 +31,11 @@ pub fn binary_of_integers(op: &BinaryOperator, a: i64, b: i64) -> Option<i64>
     }
 }
 
-/// The same of two texts: 1 or 0 for LIKE and GLOB, and None only for the others.
+/// The same of two texts: 1 or 0 for LIKE and GLOB, and None exactly for the others.
 #[tactic(auto, unfolding(eng_value::specs::Comparisons::like_of, eng_value::specs::Comparisons::glob_of))]
 pub fn binary_of_texts(op: &BinaryOperator, a: &Text, b: &Text) -> Option<i64>
     ensures some { IfSome result (λ n. binary_of op.now (Good (sql.Text a.now)) (Good (sql.Text b.now)) ≡ Good (Integer n)) }
-    ensures none { IfNone result (is_of_texts op.now ≡ false) }
+    ensures exactly { is_some result ≡ is_of_texts op.now }
 {
     match op {
         BinaryOperator::Like => Some(like(a.as_str(), b.as_str())),
@@ -46,7 +46,7 @@ pub fn binary_of_texts(op: &BinaryOperator, a: &Text, b: &Text) -> Option<i64>
 
 fn arithmetic(op: ArithmeticOp, a: i64, b: i64) -> Option<i64>
     ensures some { IfSome result (λ n. of_integers op a b ≡ Good (Integer n)) }
-    ensures none { IfNone result (is_integer (of_integers op a b) ≡ false) }
+    ensures exactly { is_some result ≡ is_integer (of_integers op a b) }
 {
     match op {
         ArithmeticOp::Add => a.checked_add(b),
@@ -59,7 +59,7 @@ fn arithmetic(op: ArithmeticOp, a: i64, b: i64) -> Option<i64>
 
 fn integers(op: IntegerOp, a: i64, b: i64) -> Option<i64>
     ensures some { IfSome result (λ n. of_bits op a b ≡ Integer n) }
-    ensures none { IfNone result (is_integer_value (of_bits op a b) ≡ false) }
+    ensures exactly { is_some result ≡ is_integer_value (of_bits op a b) }
 {
     match of_bits(op, a, b) {
         Value::Integer(n) => Some(n),
@@ -69,7 +69,7 @@ fn integers(op: IntegerOp, a: i64, b: i64) -> Option<i64>
 
 fn comparison(op: CompareOp, sides: Sides, a: i64, b: i64) -> Option<i64>
     ensures some { IfSome result (λ n. comparison op sides (Integer a) (Integer b) ≡ Integer n) }
-    ensures none { IfNone result (keep_integers sides ≡ false) }
+    ensures exactly { is_some result ≡ keep_integers sides }
 {
     if keeps_integers(sides.right, sides.left) && keeps_integers(sides.left, sides.right) {
         Some(truth(op.passes(a.cmp(&b))))

@@ -7,43 +7,28 @@ use Rattle.std.specs.FinSet as set
 use Rattle.std.specs.Ordering.{nat_cmp}
 use Rattle.eng_value.proofs.CauseLaws.{same_causes}
 use Rattle.eng_key.specs.Values.{value_key}
-use Rattle.eng_scalar.specs.Called.{bad_in, beside_causes, compares_keys, function_of, value_in}
+use Rattle.eng_scalar.specs.Called.{bad_in, beside_causes, function_of, looks_at_keys, value_in}
 use Rattle.eng_value.specs.Applied.{causes_of_all, on_all}
 use Rattle.eng_value.specs.Causes.{CauseSet}
-use Rattle.eng_value.specs.Functions.{call_of}
+use Rattle.eng_value.specs.Functions.{FunctionKind, FirstKnown, Choice, ByKeys, OfText, OfValues, call_by, call_of, kind_of}
 use Rattle.eng_value.specs.declared.built.Built.{Built}
 use Rattle.eng_value.specs.declared.builtin.Builtin.{Builtin}
-use Rattle.eng_value.specs.declared.builtin.Builtin.TheVariants as builtin
 use Rattle.eng_value.specs.declared.out.Out.{Out}
 use Rattle.eng_value.specs.declared.out.Out.TheVariants.{Good, Bad}
 use Rattle.eng_value.specs.declared.value.Value.{Value}
 use Rattle.eng_value.specs.declared.value.Value.TheVariants.{Null}
 
--- only max, min and nullif look at the keys
-pub without_keys : (f : Builtin) (vs : List Value) (keys : List (List ℕ)) → compares_keys f ≡ false → call_of f vs [] ≡ call_of f vs keys
+-- only some kinds look at the keys
+by_no_keys : (k : FunctionKind) (vs : List Value) (keys : List (List ℕ)) → looks_at_keys k ≡ false → call_by k vs [] ≡ call_by k vs keys
+by_no_keys FirstKnown vs keys is = refl
+by_no_keys Choice vs keys is = refl
+by_no_keys (ByKeys f) vs keys is = absurd (cc)
+by_no_keys (OfText f) vs keys is = refl
+by_no_keys (OfValues f) vs keys is = refl
+
+pub without_keys : (f : Builtin) (vs : List Value) (keys : List (List ℕ)) → looks_at_keys (kind_of f) ≡ false → call_of f vs [] ≡ call_of f vs keys
 unfolding call_of
-without_keys builtin.Abs vs keys is = refl
-without_keys builtin.Char vs keys is = refl
-without_keys builtin.Coalesce vs keys is = refl
-without_keys builtin.IfNull vs keys is = refl
-without_keys builtin.Iif vs keys is = refl
-without_keys builtin.Hex vs keys is = refl
-without_keys builtin.Instr vs keys is = refl
-without_keys builtin.Length vs keys is = refl
-without_keys builtin.Lower vs keys is = refl
-without_keys builtin.Upper vs keys is = refl
-without_keys builtin.Trim vs keys is = refl
-without_keys builtin.TrimLeft vs keys is = refl
-without_keys builtin.TrimRight vs keys is = refl
-without_keys builtin.Max vs keys is = absurd (cc)
-without_keys builtin.Min vs keys is = absurd (cc)
-without_keys builtin.NullIf vs keys is = absurd (cc)
-without_keys builtin.Quote vs keys is = refl
-without_keys builtin.Replace vs keys is = refl
-without_keys builtin.Substr vs keys is = refl
-without_keys builtin.TypeOf vs keys is = refl
-without_keys builtin.Unicode vs keys is = refl
-without_keys builtin.ZeroBlob vs keys is = refl
+without_keys f vs keys is = by_no_keys (kind_of f) vs keys is
 
 -- ---- arguments that are bad
 

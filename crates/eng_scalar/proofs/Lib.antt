@@ -1,4 +1,3 @@
-pub mod ArgumentLaws
 pub mod CalledLaws
 pub mod CharLaws
 pub mod ExtremeLaws

@@ -4,7 +4,7 @@ use Rattle.std.specs.FinSet as set
 use Rattle.eng_key.specs.Values.{value_key}
 use Rattle.eng_value.specs.Applied.{function_by}
 use Rattle.eng_value.specs.Causes.{CauseSet}
-use Rattle.eng_value.specs.Functions.{call_of}
+use Rattle.eng_value.specs.Functions.{FunctionKind, ByKeys, call_of, kind_of}
 use Rattle.eng_value.specs.declared.built.Built.{Built}
 use Rattle.eng_value.specs.declared.built.Built.TheVariants as built
 use Rattle.eng_value.specs.declared.builtin.Builtin.{Builtin}
@@ -19,11 +19,9 @@ abbrev pub function_of : Builtin → Built → List Out → Out
 function_of = function_by value_key
 
 -- whether a function looks at the keys of its arguments
-abbrev pub compares_keys : Builtin → Bool
-compares_keys builtin.Max = true
-compares_keys builtin.Min = true
-compares_keys builtin.NullIf = true
-compares_keys f = false
+abbrev pub looks_at_keys : FunctionKind → Bool
+looks_at_keys (ByKeys f) = true
+looks_at_keys other = false
 
 -- what stands in the place of an argument, NULL where it is bad
 abbrev pub value_in : Out → Value
@@ -41,5 +39,5 @@ bad_in [] = None
 bad_in (a ∷ rest) = beside_causes a (bad_in rest)
 
 examples : (function_of builtin.Max built.NoCase (Good (Text (codes "b")) ∷ Good (Text (codes "A")) ∷ []) ≡ Good (Text (codes "b"))) × (function_of builtin.NullIf built.NoCase (Good (Text (codes "a")) ∷ Good (Text (codes "A")) ∷ []) ≡ Good Null) × (function_of builtin.NullIf built.Binary (Good (Text (codes "a")) ∷ Good (Text (codes "A")) ∷ []) ≡ Good (Text (codes "a"))) × (function_of builtin.Abs built.Binary [] ≡ Good Null)
-unfolding value_key call_of
+unfolding value_key call_of kind_of
 examples = (refl, refl, refl, refl)

@@ -1,8 +1,8 @@
 // A call of a built-in function on what its arguments came to.
 ghost use Rattle.std.specs.Prelude.{◌≡◌, ◌≤◌, [], IfOk, None, length, map, vec_capacity, vec_len};
 ghost use Rattle.eng_key.specs.Values.{value_key};
-ghost use Rattle.eng_scalar.specs.Called.{bad_in, beside_causes, compares_keys, function_of, value_in};
-ghost use Rattle.eng_value.specs.Functions.{call_of};
+ghost use Rattle.eng_scalar.specs.Called.{bad_in, beside_causes, function_of, looks_at_keys, value_in};
+ghost use Rattle.eng_value.specs.Functions.{call_of, kind_of};
 ghost use Rattle.eng_value.specs.declared.out.Out.TheVariants.{Good};
 
 use crate::calling::call;
@@ -111,15 +111,16 @@ fn call_by_keys(
 ) -> Result<Out, AllocError>
     ensures { IfOk result (λ out. out ≡ call_of f values.now (map (value_key collation) values.now)) }
 {
-    if compares_keys(f) {
+    if looks_at_keys(f) {
         call(alloc, f, values, &keys_of(alloc, collation, values)?)
     } else {
         call(alloc, f, values, &[])
     }
 }
 
-fn compares_keys(f: Builtin) -> bool
-    ensures { result ≡ compares_keys f }
+#[tactic(auto, unfolding(eng_value::specs::Functions::kind_of))]
+fn looks_at_keys(f: Builtin) -> bool
+    ensures { result ≡ looks_at_keys (kind_of f) }
 {
     matches!(f, Builtin::Max | Builtin::Min | Builtin::NullIf)
 }

@@ -1,6 +1,6 @@
 // A call of a built-in function.
 ghost use Rattle.std.specs.Prelude.{◌≡◌, List, [], ℕ, IfOk};
-ghost use Rattle.eng_value.specs.Functions.{call_of, instr_of, on_two};
+ghost use Rattle.eng_value.specs.Functions.{call_of, given, instr_of, on_two};
 ghost use Rattle.eng_scalar.specs.Arguments.{IsFirst};
 
 use crate::arguments::any_null;
@@ -30,7 +30,7 @@ pub fn call(alloc: Global, f: Builtin, args: &[Value], keys: &[Blob]) -> Result<
 }
 
 // With no argument.
-#[tactic(auto, unfolding(eng_value::specs::Functions::call_of))]
+#[tactic(auto, unfolding(eng_value::specs::Functions::call_of, eng_value::specs::Functions::kind_of))]
 fn call_of_none(alloc: Global, f: Builtin) -> Result<Out, AllocError>
     ensures { IfOk result (λ out. (keys : List (List ℕ)) → out ≡ call_of f [] keys) }
 {
@@ -40,7 +40,7 @@ fn call_of_none(alloc: Global, f: Builtin) -> Result<Out, AllocError>
     }
 }
 
-#[tactic(auto, unfolding(eng_value::specs::Functions::call_of))]
+#[tactic(auto, unfolding(eng_value::specs::Functions::call_of, eng_value::specs::Functions::kind_of))]
 fn call_of_some(
     alloc: Global,
     f: Builtin,
@@ -58,13 +58,13 @@ fn call_of_some(
         (Builtin::Hex, _) => hex(alloc, first),
         (Builtin::Iif, _) => iif(alloc, args),
         (Builtin::Length, _) => length(alloc, first),
-        (Builtin::Lower, _) => on_text(alloc, OfText::Lower, first),
         (Builtin::NullIf, _) => unless_equal(args, keys),
         (Builtin::Quote, _) => quote(alloc, first),
         (Builtin::TypeOf, _) => type_of(alloc, first),
-        (Builtin::Unicode, _) => on_text(alloc, OfText::Unicode, first),
-        (Builtin::Upper, _) => on_text(alloc, OfText::Upper, first),
         (Builtin::ZeroBlob, _) => zeroblob(alloc, first),
+        (Builtin::Lower | Builtin::Unicode | Builtin::Upper, _) => {
+            on_text(alloc, OfText::Function(f), first)
+        }
         (_, true) => Ok(Out::Good(Value::Null)),
         (Builtin::Max, false) => best(Extreme::Largest, args, keys),
         (Builtin::Min, false) => best(Extreme::Smallest, args, keys),
@@ -76,7 +76,7 @@ fn call_of_some(
 }
 
 fn place(alloc: Global, args: &[Value]) -> Result<Out, AllocError>
-    ensures { IfOk result (λ out. out ≡ on_two instr_of args.now) }
+    ensures { IfOk result (λ out. out ≡ given (on_two instr_of args.now)) }
 {
     match args {
         [x, y, ..] => instr(alloc, x, y),

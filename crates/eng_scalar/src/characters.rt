@@ -1,25 +1,22 @@
 // Characters, and the letters of a text.
-ghost use Rattle.std.specs.Prelude.{◌≡◌, IfOk, map};
-ghost use Rattle.std.specs.Char.{to_ascii_uppercase};
+ghost use Rattle.std.specs.Prelude.{◌≡◌, IfOk};
 ghost use Rattle.std.specs.Str.{chars};
-ghost use Rattle.eng_scalar.specs.Characters.{of_text};
-ghost use Rattle.eng_text.specs.Texts.{folded};
-ghost use Rattle.eng_value.specs.Functions.{char_of, char_of_number, first_char, length_of_value, on_text};
-ghost use Rattle.eng_value.specs.Operators.{made};
+ghost use Rattle.eng_scalar.specs.Characters.{of_kind, of_text};
+ghost use Rattle.eng_value.specs.Functions.{char_of, char_of_number, given, kind_of, length_of_value, lower_of, on_bytes, on_text, unicode_of, upper_of};
+ghost use Rattle.eng_value.specs.OperandTexts.{value_of};
 ghost use Rattle.eng_value.specs.declared.out.Out.TheVariants.{Good};
-ghost use Rattle.eng_value.specs.declared.value.Value.TheVariants as sql;
 
-use crate::arguments::{Argument, int_of, text_of};
+use crate::arguments::int_of;
 use crate::text_ends::count;
 use crate::trimming::trim_spaces;
 use eng_text::fold;
-use eng_value::{Builtin, Cause, MAX_VALUE_BYTES, Out, Text, Value};
+use eng_value::{Builtin, Cause, MAX_VALUE_BYTES, OperandText, Out, Spelling, Text, Value};
 use std::alloc::{AllocError, Global};
 
 /// The text of the characters that these numbers stand for (Built-in Scalar SQL Functions, "char"). A number that is no character
 /// stands for U+FFFD, and NULL for U+0000.
 pub(crate) fn char_text(alloc: Global, args: &[Value]) -> Result<Out, AllocError>
-    ensures { IfOk result (λ out. out ≡ char_of args.now) }
+    ensures { IfOk result (λ out. out ≡ given (char_of args.now)) }
 {
     let mut text = String::new(alloc);
     for arg in args {
@@ -43,14 +40,10 @@ fn char_of_number(n: i64) -> char
 /// A function of one text.
 #[derive(Clone, Copy)]
 pub(crate) enum OfText {
-    /// The number of the first character, NULL where there is none (Built-in Scalar SQL Functions, "unicode").
-    Unicode,
-    /// How many characters it has ("length").
+    /// One that is of one text whatever its argument is.
+    Function(Builtin),
+    /// How many characters it has (Built-in Scalar SQL Functions, "length").
     Length,
-    /// The text with the letters of ASCII in lower case ("lower").
-    Lower,
-    /// The text with the letters of ASCII in upper case ("upper").
-    Upper,
     /// The text without the spaces at its ends ("trim", "ltrim" and "rtrim").
     Trim(Builtin),
 }
@@ -59,10 +52,18 @@ pub(crate) enum OfText {
 pub(crate) fn on_text(alloc: Global, f: OfText, value: &Value) -> Result<Out, AllocError>
     ensures { IfOk result (λ out. out ≡ on_text (of_text f) value.now) }
 {
-    match &text_of(alloc, value)? {
-        Argument::Null => Ok(Out::Good(Value::Null)),
-        Argument::Text(text) => of_text(alloc, f, text),
-        Argument::NotText => Ok(Out::bad(alloc, Cause::NotText)),
+    match OperandText::of_value(alloc, value)? {
+        OperandText::Good(text) => on_spelling(alloc, f, &text),
+        OperandText::Bad(causes) => Ok(Out::Bad(causes)),
+    }
+}
+
+fn on_spelling(alloc: Global, f: OfText, text: &Spelling<'_>) -> Result<Out, AllocError>
+    ensures { IfOk result (λ out. out ≡ on_bytes (of_text f) (value_of text.now)) }
+{
+    match text.as_str() {
+        Some(text) => of_text(alloc, f, text),
+        None => Ok(Out::Good(Value::Null)),
     }
 }
 
@@ -70,16 +71,27 @@ fn of_text(alloc: Global, f: OfText, text: &str) -> Result<Out, AllocError>
     ensures { IfOk result (λ out. out ≡ of_text f text.now) }
 {
     match f {
-        OfText::Unicode => Ok(Out::Good(first_char(text))),
+        OfText::Function(f) => of_function(alloc, f, text),
         OfText::Length => Ok(Out::Good(Value::Integer(count(text) as i64))),
-        OfText::Lower => lower(alloc, text),
-        OfText::Upper => upper(alloc, text),
         OfText::Trim(which) => trim_spaces(alloc, which, text),
     }
 }
 
-fn first_char(text: &str) -> Value
-    ensures { result ≡ first_char (chars text.now) }
+#[tactic(auto, unfolding(eng_value::specs::Functions::kind_of))]
+fn of_function(alloc: Global, f: Builtin, text: &str) -> Result<Out, AllocError>
+    ensures { IfOk result (λ out. out ≡ of_kind (kind_of f) text.now) }
+{
+    match f {
+        Builtin::Lower => lower(alloc, text),
+        Builtin::Unicode => Ok(Out::Good(unicode(text))),
+        Builtin::Upper => upper(alloc, text),
+        _ => Ok(Out::Good(Value::Null)),
+    }
+}
+
+/// The number of the first character, NULL where there is none (Built-in Scalar SQL Functions, "unicode").
+fn unicode(text: &str) -> Value
+    ensures { result ≡ unicode_of text.now }
 {
     match text.chars().next() {
         Some(c) => Value::Integer(i64::from(u32::from(c))),
@@ -87,21 +99,23 @@ fn first_char(text: &str) -> Value
     }
 }
 
+/// The text with the letters of ASCII in lower case ("lower").
 fn lower(alloc: Global, text: &str) -> Result<Out, AllocError>
-    ensures { IfOk result (λ out. out ≡ Good (sql.Text (folded text.now))) }
+    ensures { IfOk result (λ out. out ≡ Good (lower_of text.now)) }
 {
     Ok(Out::Good(Value::Text(Text::new(fold(alloc, text)?))))
 }
 
+/// The text with the letters of ASCII in upper case ("upper").
 fn upper(alloc: Global, text: &str) -> Result<Out, AllocError>
-    ensures { IfOk result (λ out. out ≡ Good (sql.Text (map to_ascii_uppercase text.now))) }
+    ensures { IfOk result (λ out. out ≡ Good (upper_of text.now)) }
 {
     Ok(Out::Good(Value::Text(Text::new(text.to_ascii_uppercase(alloc)?))))
 }
 
 /// How many characters a text has, and how many bytes a blob (Built-in Scalar SQL Functions, "length").
 pub(crate) fn length(alloc: Global, value: &Value) -> Result<Out, AllocError>
-    ensures { IfOk result (λ out. out ≡ length_of_value value.now) }
+    ensures { IfOk result (λ out. out ≡ given (length_of_value value.now)) }
 {
     match value {
         Value::Blob(blob) => Ok(Out::Good(Value::Integer(blob.as_slice().len() as i64))),

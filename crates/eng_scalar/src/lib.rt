@@ -2,9 +2,8 @@
 //!
 //! `call` is all of it: what a function gives for some arguments is what eng_value's specs/Functions.antt says. `function` is
 //! `call` on what the arguments came to, values or causes (specs/Called.antt). Begin with `calling`, which names the body of each
-//! function. The bodies stand by subject: `characters`, `choosing`, `extremes`,
-//! `numbers`, `parts`, `places`, `replacing`, `spelling` and `trimming`. `arguments` says what an argument is where a text or an integer
-//! is wanted.
+//! function. The bodies stand by subject: `characters`, `choosing`, `extremes`, `numbers`, `parts`, `places`, `replacing`, `spelling` and
+//! `trimming`. `arguments` says what an argument is where an integer is wanted, and eng_value's `OperandText` where a text is.
 #![tactic(auto)]
 
 mod applying;
@@ -19,7 +18,6 @@ mod places;
 mod replacing;
 mod spelling;
 mod text_ends;
-mod texts;
 mod trimming;
 
 pub use applying::function;

@@ -1,21 +1,22 @@
 // Parts of texts and blobs.
 ghost use Rattle.std.specs.Prelude.{◌≡◌, ℕ, ◌^◌, ◌<◌, ◌≤◌, List, length, min, encode_utf8_all, IfOk};
 ghost use Rattle.std.specs.Str.{chars};
-ghost use Rattle.eng_value.specs.Functions.{start_of, substr_by, substr_in, substr_of, text_of_chars};
+ghost use Rattle.eng_value.specs.Functions.{given, on_bytes, start_of, substr_by, substr_in, substr_of, text_of_chars};
+ghost use Rattle.eng_value.specs.OperandTexts.{value_of};
 ghost use Rattle.eng_value.specs.declared.out.Out.TheVariants.{Good};
 ghost use Rattle.eng_value.specs.declared.value.Value.TheVariants as sql;
 ghost use Rattle.eng_scalar.specs.Parts.{IsNearby, between, in_front, substr_from};
 
-use crate::arguments::{Argument, int_of, text_of};
+use crate::arguments::int_of;
 use crate::text_ends::{behind, count, front};
-use eng_value::{Blob, Cause, Out, Text, Value};
+use eng_value::{Blob, OperandText, Out, Spelling, Text, Value};
 use std::alloc::{AllocError, Global};
 
 /// The part of X from the place Y on, Z characters long: substr(X,Y) and substr(X,Y,Z) (Built-in Scalar SQL Functions). Of a
 /// blob places count bytes, and of anything else the characters of the text that it is cast to. Time is linear in X, and only
 /// the part is copied.
 pub(crate) fn substr(alloc: Global, args: &[Value]) -> Result<Out, AllocError>
-    ensures { IfOk result (λ out. out ≡ substr_of args.now) }
+    ensures { IfOk result (λ out. out ≡ given (substr_of args.now)) }
 {
     match args {
         [x, y] => substr_by(alloc, x, int_of(y), None),
@@ -30,15 +31,28 @@ fn substr_by(
     start: i64,
     wanted: Option<i64>,
 ) -> Result<Out, AllocError>
-    ensures { IfOk result (λ out. out ≡ substr_by value.now start wanted) }
+    ensures { IfOk result (λ out. out ≡ given (substr_by value.now start wanted)) }
 {
     match value {
         Value::Blob(blob) => part_of_blob(alloc, blob.as_slice(), start, wanted),
-        _ => match &text_of(alloc, value)? {
-            Argument::Null => Ok(Out::Good(Value::Null)),
-            Argument::Text(text) => part_of_text(alloc, text, start, wanted),
-            Argument::NotText => Ok(Out::bad(alloc, Cause::NotText)),
+        _ => match OperandText::of_value(alloc, value)? {
+            OperandText::Good(text) => part_of_spelling(alloc, &text, start, wanted),
+            OperandText::Bad(causes) => Ok(Out::Bad(causes)),
         },
+    }
+}
+
+fn part_of_spelling(
+    alloc: Global,
+    text: &Spelling<'_>,
+    start: i64,
+    wanted: Option<i64>,
+) -> Result<Out, AllocError>
+    ensures { IfOk result (λ out. out ≡ on_bytes (λ t. Good (text_of_chars (substr_in start wanted (chars t)))) (value_of text.now)) }
+{
+    match text.as_str() {
+        Some(text) => part_of_text(alloc, text, start, wanted),
+        None => Ok(Out::Good(Value::Null)),
     }
 }
 

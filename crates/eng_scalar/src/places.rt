@@ -1,23 +1,19 @@
 // Where one text or blob stands in another.
 ghost use Rattle.std.specs.Prelude.{◌≡◌, ◌+◌, ◌^◌, ◌<◌, Some, IfOk};
-ghost use Rattle.std.specs.Option.{option_map};
 ghost use Rattle.std.specs.Str.{chars};
 ghost use Rattle.eng_text.specs.Texts.{place_of};
-ghost use Rattle.eng_value.specs.Functions.{instr_of, number_of_place, on_texts};
+ghost use Rattle.eng_value.specs.Functions.{given, instr_of, number_of_place, on_texts};
 ghost use Rattle.eng_scalar.specs.Places.{text_place};
-ghost use Rattle.eng_scalar.specs.Texts.{on_both_given};
 
-use crate::arguments::text_of;
 use crate::text_ends::count;
-use crate::texts::given;
 use eng_text::find;
-use eng_value::{Cause, Out, Value};
+use eng_value::{BothTexts, Out, Value};
 use std::alloc::{AllocError, Global};
 
 /// The first place, counted from 1, from which on Y stands in X, and 0 where it does not: instr(X,Y) (Built-in Scalar SQL
 /// Functions). Of two blobs places count bytes, and else the characters of the texts that X and Y are cast to.
 pub(crate) fn instr(alloc: Global, x: &Value, y: &Value) -> Result<Out, AllocError>
-    ensures { IfOk result (λ out. out ≡ instr_of x.now y.now) }
+    ensures { IfOk result (λ out. out ≡ given (instr_of x.now y.now)) }
 {
     match (x, y) {
         (Value::Blob(hay), Value::Blob(needle)) => {
@@ -30,17 +26,9 @@ pub(crate) fn instr(alloc: Global, x: &Value, y: &Value) -> Result<Out, AllocErr
 fn place_in_texts(alloc: Global, x: &Value, y: &Value) -> Result<Out, AllocError>
     ensures { IfOk result (λ out. out ≡ on_texts text_place x.now y.now) }
 {
-    let text = text_of(alloc, x)?;
-    let needle = text_of(alloc, y)?;
-    Ok(place_given(alloc, given(&text), given(&needle)))
-}
-
-fn place_given(alloc: Global, text: Option<&str>, needle: Option<&str>) -> Out
-    ensures { result ≡ on_both_given text_place (option_map (λ t. t.now) text.entry) (option_map (λ t. t.now) needle.entry) }
-{
-    match (text, needle) {
-        (Some(text), Some(needle)) => Out::Good(place_in_text(text, needle)),
-        _ => Out::bad(alloc, Cause::NotText),
+    match BothTexts::of_values(alloc, x, y)? {
+        BothTexts::Good(x, y) => Ok(Out::Good(place_in_text(x.or_empty(), y.or_empty()))),
+        BothTexts::Bad(causes) => Ok(Out::Bad(causes)),
     }
 }
 

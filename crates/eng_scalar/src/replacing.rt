@@ -1,20 +1,17 @@
 // One text for another within a text.
 ghost use Rattle.std.specs.Prelude.{◌≡◌, [], ◌∷◌, IfOk};
-ghost use Rattle.std.specs.Option.{option_map};
-ghost use Rattle.eng_value.specs.Functions.{on_texts, replace_of, replaced_in};
-ghost use Rattle.eng_scalar.specs.Texts.{on_both_given, on_given};
+ghost use Rattle.eng_value.specs.Functions.{given, on_bytes, on_texts, replace_of, replaced_in};
+ghost use Rattle.eng_value.specs.OperandTexts.{value_of};
 ghost use Rattle.eng_scalar.specs.Replacements.{replacement};
 
-use crate::arguments::text_of;
 use crate::choosing::good;
-use crate::texts::given;
-use eng_value::{Cause, MAX_VALUE_BYTES, Out, Text, Value};
+use eng_value::{BothTexts, Cause, MAX_VALUE_BYTES, OperandText, Out, Spelling, Text, Value};
 use std::alloc::{AllocError, Global};
 
 /// X with Z for each Y, from the left: replace(X,Y,Z) (Built-in Scalar SQL Functions). Where Y is empty it is X as it is. A
 /// result that is longer than a value may be is not made beyond that, and is bad.
 pub(crate) fn replace(alloc: Global, args: &[Value]) -> Result<Out, AllocError>
-    ensures { IfOk result (λ out. out ≡ replace_of args.now) }
+    ensures { IfOk result (λ out. out ≡ given (replace_of args.now)) }
 {
     match args {
         [x, y, z, ..] => replace_all(alloc, x, y, z),
@@ -23,23 +20,30 @@ pub(crate) fn replace(alloc: Global, args: &[Value]) -> Result<Out, AllocError>
 }
 
 fn replace_all(alloc: Global, x: &Value, y: &Value, z: &Value) -> Result<Out, AllocError>
-    ensures { IfOk result (λ out. out ≡ replace_of (x.now ∷ y.now ∷ z.now ∷ [])) }
+    ensures { IfOk result (λ out. out ≡ given (replace_of (x.now ∷ y.now ∷ z.now ∷ []))) }
 {
-    let old = text_of(alloc, y)?;
-    replace_given(alloc, x, given(&old), z)
+    match OperandText::of_value(alloc, y)? {
+        OperandText::Good(old) => replace_spelled(alloc, x, &old, z),
+        OperandText::Bad(causes) => Ok(Out::Bad(causes)),
+    }
 }
 
-fn replace_given(alloc: Global, x: &Value, old: Option<&str>, z: &Value) -> Result<Out, AllocError>
-    ensures { IfOk result (λ out. out ≡ on_given (λ t. replaced_in x.now t z.now) (option_map (λ t. t.now) old.entry)) }
+fn replace_spelled(
+    alloc: Global,
+    x: &Value,
+    old: &Spelling<'_>,
+    z: &Value,
+) -> Result<Out, AllocError>
+    ensures { IfOk result (λ out. out ≡ on_bytes (λ t. given (replaced_in x.now t z.now)) (value_of old.now)) }
 {
-    match old {
+    match old.as_str() {
         Some(old) => replace_old(alloc, x, old, z),
-        None => Ok(Out::bad(alloc, Cause::NotText)),
+        None => Ok(Out::Good(Value::Null)),
     }
 }
 
 fn replace_old(alloc: Global, x: &Value, old: &str, z: &Value) -> Result<Out, AllocError>
-    ensures { IfOk result (λ out. out ≡ replaced_in x.now old.now z.now) }
+    ensures { IfOk result (λ out. out ≡ given (replaced_in x.now old.now z.now)) }
 {
     if old.is_empty() {
         good(x)
@@ -51,22 +55,9 @@ fn replace_old(alloc: Global, x: &Value, old: &str, z: &Value) -> Result<Out, Al
 fn replace_in_texts(alloc: Global, x: &Value, old: &str, z: &Value) -> Result<Out, AllocError>
     ensures { IfOk result (λ out. out ≡ on_texts (replacement old.now) x.now z.now) }
 {
-    let text = text_of(alloc, x)?;
-    let new = text_of(alloc, z)?;
-    replace_both_given(alloc, given(&text), old, given(&new))
-}
-
-fn replace_both_given(
-    alloc: Global,
-    text: Option<&str>,
-    old: &str,
-    new: Option<&str>,
-) -> Result<Out, AllocError>
-    ensures { IfOk result (λ out. out ≡ on_both_given (replacement old.now) (option_map (λ t. t.now) text.entry) (option_map (λ t. t.now) new.entry)) }
-{
-    match (text, new) {
-        (Some(text), Some(new)) => replace_text(alloc, text, old, new),
-        _ => Ok(Out::bad(alloc, Cause::NotText)),
+    match BothTexts::of_values(alloc, x, z)? {
+        BothTexts::Good(x, z) => replace_text(alloc, x.or_empty(), old, z.or_empty()),
+        BothTexts::Bad(causes) => Ok(Out::Bad(causes)),
     }
 }
 

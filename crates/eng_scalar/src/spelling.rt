@@ -3,7 +3,7 @@ ghost use Rattle.std.specs.Prelude.{◌≡◌, ◌≤◌, ◌++◌, IfOk, codes,
 ghost use Rattle.std.specs.Fmt.{signed_decimal};
 ghost use Rattle.std.specs.Option.{option_map};
 ghost use Rattle.eng_text.specs.Texts.{IsWithin};
-ghost use Rattle.eng_value.specs.Functions.{bytes_of, doubled, hex_of, hex_of_bytes, quoted, type_name, zeroblob_of};
+ghost use Rattle.eng_value.specs.Functions.{bytes_of, doubled, given, hex_of, hex_of_bytes, quoted, type_name, zeroblob_of};
 ghost use Rattle.eng_value.specs.Operators.{made};
 ghost use Rattle.eng_value.specs.declared.out.Out.TheVariants.{Good};
 ghost use Rattle.eng_value.specs.declared.value.Value.TheVariants as sql;
@@ -17,7 +17,7 @@ use std::alloc::{AllocError, Global};
 /// The bytes of an argument in hexadecimal digits, with letters in upper case (Built-in Scalar SQL Functions, "hex"). Of NULL it
 /// is the empty text.
 pub(crate) fn hex(alloc: Global, value: &Value) -> Result<Out, AllocError>
-    ensures { IfOk result (λ out. out ≡ hex_of value.now) }
+    ensures { IfOk result (λ out. out ≡ given (hex_of value.now)) }
 {
     match value {
         Value::Null => hex_of_bytes(alloc, b""),
@@ -110,7 +110,7 @@ pub(crate) fn type_of(alloc: Global, value: &Value) -> Result<Out, AllocError>
 
 /// A blob of so many zeros, none where the number is negative (Built-in Scalar SQL Functions, "zeroblob").
 pub(crate) fn zeroblob(alloc: Global, value: &Value) -> Result<Out, AllocError>
-    ensures { IfOk result (λ out. out ≡ zeroblob_of value.now) }
+    ensures { IfOk result (λ out. out ≡ given (zeroblob_of value.now)) }
 {
     let n = int_of(value);
     if n < 0 {

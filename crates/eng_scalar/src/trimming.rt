@@ -1,25 +1,21 @@
 // Texts without some characters at their ends.
 ghost use Rattle.std.specs.Prelude.{◌≡◌, ◌==◌, codes, encode_utf8_all, IfOk};
 ghost use Rattle.std.specs.List.{list_any};
-ghost use Rattle.std.specs.Option.{option_map};
 ghost use Rattle.std.specs.Str.{chars};
-ghost use Rattle.eng_value.specs.Functions.{on_texts, text_of_chars, trim_by, trim_of, without_back, without_front};
+ghost use Rattle.eng_value.specs.Functions.{given, on_texts, text_of_chars, trim_by, trim_of, without_back, without_front};
 ghost use Rattle.eng_value.specs.declared.out.Out.TheVariants.{Good};
-ghost use Rattle.eng_scalar.specs.Texts.{on_both_given};
 ghost use Rattle.eng_scalar.specs.Trims.{trimmed};
 
-use crate::arguments::text_of;
 use crate::characters::{OfText, on_text};
 use crate::text_ends::last_char;
-use crate::texts::given;
 use eng_text::first_char;
-use eng_value::{Builtin, Cause, Out, Text, Value};
+use eng_value::{BothTexts, Builtin, Out, Text, Value};
 use std::alloc::{AllocError, Global};
 
 /// X without the spaces at its ends, or without the characters of Y there: trim(X) and trim(X,Y), ltrim at the beginning and rtrim
 /// at the end alone (Built-in Scalar SQL Functions). `which` tells the three apart.
 pub(crate) fn trim(alloc: Global, which: Builtin, args: &[Value]) -> Result<Out, AllocError>
-    ensures { IfOk result (λ out. out ≡ trim_of which args.now) }
+    ensures { IfOk result (λ out. out ≡ given (trim_of which args.now)) }
 {
     match args {
         [x] => on_text(alloc, OfText::Trim(which), x),
@@ -39,22 +35,9 @@ pub(crate) fn trim_spaces(alloc: Global, which: Builtin, text: &str) -> Result<O
 fn trim_these(alloc: Global, which: Builtin, x: &Value, y: &Value) -> Result<Out, AllocError>
     ensures { IfOk result (λ out. out ≡ on_texts (trimmed which) x.now y.now) }
 {
-    let text = text_of(alloc, x)?;
-    let these = text_of(alloc, y)?;
-    trim_given(alloc, which, given(&text), given(&these))
-}
-
-fn trim_given(
-    alloc: Global,
-    which: Builtin,
-    text: Option<&str>,
-    these: Option<&str>,
-) -> Result<Out, AllocError>
-    ensures { IfOk result (λ out. out ≡ on_both_given (trimmed which) (option_map (λ t. t.now) text.entry) (option_map (λ t. t.now) these.entry)) }
-{
-    match (text, these) {
-        (Some(text), Some(these)) => trim_text(alloc, which, text, these),
-        _ => Ok(Out::bad(alloc, Cause::NotText)),
+    match BothTexts::of_values(alloc, x, y)? {
+        BothTexts::Good(x, y) => trim_text(alloc, which, x.or_empty(), y.or_empty()),
+        BothTexts::Bad(causes) => Ok(Out::Bad(causes)),
     }
 }
 

@@ -10,13 +10,15 @@ use Rattle.std.specs.Str.{chars}
 use Rattle.eng_text.specs.Texts.{folded, place_of, replaced}
 use Rattle.eng_value.specs.declared.builtin.Builtin.{Builtin}
 use Rattle.eng_value.specs.declared.builtin.Builtin.TheVariants as builtin
+use Rattle.eng_value.specs.declared.cause.Cause.{Cause}
 use Rattle.eng_value.specs.declared.cause.Cause.TheVariants as cause
 use Rattle.eng_value.specs.declared.out.Out.{Out}
 use Rattle.eng_value.specs.declared.out.Out.TheVariants.{Good}
 use Rattle.eng_value.specs.declared.value.Value.{Value}
 use Rattle.eng_value.specs.declared.value.Value.TheVariants.{Null, Integer, Text, Blob}
 use Rattle.eng_value.specs.Casts.{to_text, to_blob, to_integer}
-use Rattle.eng_value.specs.Operators.{made, integer_in_range}
+use Rattle.eng_number.specs.Numbers.{fits_integer}
+use Rattle.eng_value.specs.Operators.{made}
 use Rattle.eng_value.specs.Outs.{bad, turned, on_both}
 use Rattle.eng_value.specs.Truths.{chosen, truth_in, truth_of}
 
@@ -27,10 +29,6 @@ is_null Null = true
 is_null (Integer n) = false
 is_null (Text text) = false
 is_null (Blob bytes) = false
-
--- NULL where an argument is
-abbrev pub strict : (List Value → Out) → List Value → Out
-strict f args = if list_any is_null args then Good Null else f args
 
 abbrev pub bytes_of : Value → List ℕ
 bytes_of Null = []
@@ -63,13 +61,52 @@ on_text f v = turned (on_bytes f) (to_text v)
 abbrev pub on_texts : (List ℕ → List ℕ → Out) → Value → Value → Out
 on_texts f v w = on_both (λ s t. f (bytes_of s) (bytes_of t)) (to_text v) (to_text w)
 
+-- ---- what a function gives for values, told so that it has a cause wherever it is bad
+
+pub data FunctionResult : Type 0 where
+  -- this value
+  value : Value → FunctionResult
+  -- this value, unless it is too big
+  limited : Value → FunctionResult
+  -- no value, for this cause
+  refused : Cause → FunctionResult
+  -- the first where the test is true, else the second
+  either : Bool → FunctionResult → FunctionResult → FunctionResult
+  -- by the text that a value is cast to, and NULL for NULL
+  with_text : Value → (List ℕ → FunctionResult) → FunctionResult
+  -- by the texts that two values are cast to, which are empty for NULL
+  with_texts : Value → Value → (List ℕ → List ℕ → FunctionResult) → FunctionResult
+
+abbrev pub given : FunctionResult → Out
+given (value v) = Good v
+given (limited v) = made v
+given (refused why) = bad why
+given (either test g h) = if test then given g else given h
+given (with_text v g) = on_text (λ t. given (g t)) v
+given (with_texts v w g) = on_texts (λ s t. given (g s t)) v w
+
+-- NULL where an argument is
+abbrev pub strict : (List Value → FunctionResult) → List Value → FunctionResult
+strict f args = either (list_any is_null args) (value Null) (f args)
+
+abbrev pub on_one : (Value → FunctionResult) → List Value → FunctionResult
+on_one f (x ∷ rest) = f x
+on_one f [] = value Null
+
+abbrev pub on_two : (Value → Value → FunctionResult) → List Value → FunctionResult
+on_two f (x ∷ y ∷ rest) = f x y
+on_two f args = value Null
+
 -- ---- numbers
 
-abbrev pub abs_of : Value → Out
-abs_of Null = Good Null
-abs_of (Integer n) = integer_in_range (pos (unsigned_abs n))
-abs_of (Text text) = bad cause.Real
-abs_of (Blob bytes) = bad cause.Real
+abbrev pub in_range : ℤ → FunctionResult
+in_range n = either (fits_integer n) (value (Integer n)) (refused cause.Overflow)
+
+abbrev pub abs_of : Value → FunctionResult
+abs_of Null = value Null
+abs_of (Integer n) = in_range (pos (unsigned_abs n))
+abs_of (Text text) = refused cause.Real
+abs_of (Blob bytes) = refused cause.Real
 
 -- ---- characters
 
@@ -80,25 +117,25 @@ is_scalar n = int_le (pos 0) n && (int_lt n (pos 0xd800) || (int_lt (pos 0xdfff)
 abbrev pub char_of_number : ℤ → ℕ
 char_of_number n = if is_scalar n then unsigned_abs n else 0xfffd
 
-abbrev pub char_of : List Value → Out
-char_of args = made (text_of_chars (map (λ v. char_of_number (int_of v)) args))
+abbrev pub char_of : List Value → FunctionResult
+char_of args = limited (text_of_chars (map (λ v. char_of_number (int_of v)) args))
 
 abbrev pub first_char : List ℕ → Value
 first_char [] = Null
 first_char (c ∷ cs) = Integer (pos c)
 
-abbrev pub unicode_of : Value → Out
-unicode_of v = on_text (λ t. Good (first_char (chars t))) v
+abbrev pub unicode_of : List ℕ → Value
+unicode_of t = first_char (chars t)
 
-abbrev pub length_of_value : Value → Out
-length_of_value (Blob bytes) = Good (Integer (pos (length bytes)))
-length_of_value v = on_text (λ t. Good (Integer (pos (length (chars t))))) v
+abbrev pub length_of_value : Value → FunctionResult
+length_of_value (Blob bytes) = value (Integer (pos (length bytes)))
+length_of_value v = with_text v (λ t. value (Integer (pos (length (chars t)))))
 
-abbrev pub lower_of : Value → Out
-lower_of v = on_text (λ t. Good (Text (folded t))) v
+abbrev pub lower_of : List ℕ → Value
+lower_of t = Text (folded t)
 
-abbrev pub upper_of : Value → Out
-upper_of v = on_text (λ t. Good (Text (map to_ascii_uppercase t))) v
+abbrev pub upper_of : List ℕ → Value
+upper_of t = Text (map to_ascii_uppercase t)
 
 -- ---- trimming: the longest beginning and the longest end of these characters are taken away
 
@@ -114,10 +151,10 @@ trim_by builtin.TrimLeft these cs = without_front these cs
 trim_by builtin.TrimRight these cs = without_back these cs
 trim_by f these cs = without_back these (without_front these cs)
 
-abbrev pub trim_of : Builtin → List Value → Out
-trim_of f (x ∷ []) = on_text (λ t. Good (text_of_chars (trim_by f (codes " ") (chars t)))) x
-trim_of f (x ∷ y ∷ rest) = on_texts (λ t u. Good (text_of_chars (trim_by f (chars u) (chars t)))) x y
-trim_of f [] = Good Null
+abbrev pub trim_of : Builtin → List Value → FunctionResult
+trim_of f (x ∷ []) = with_text x (λ t. value (text_of_chars (trim_by f (codes " ") (chars t))))
+trim_of f (x ∷ y ∷ rest) = with_texts x y (λ t u. value (text_of_chars (trim_by f (chars u) (chars t))))
+trim_of f [] = value Null
 
 -- ---- places
 
@@ -127,9 +164,9 @@ number_of_place None = Integer (pos 0)
 number_of_place (Some n) = Integer (pos (suc n))
 
 -- by bytes where both are blobs, else by characters
-abbrev pub instr_of : Value → Value → Out
-instr_of (Blob a) (Blob b) = Good (number_of_place (place_of b a))
-instr_of x y = on_texts (λ s t. Good (number_of_place (place_of (chars t) (chars s)))) x y
+abbrev pub instr_of : Value → Value → FunctionResult
+instr_of (Blob a) (Blob b) = value (number_of_place (place_of b a))
+instr_of x y = with_texts x y (λ s t. value (number_of_place (place_of (chars t) (chars s))))
 
 -- ---- parts: places count from 1, and from the end where Y is negative
 
@@ -148,14 +185,14 @@ substr_in y (Some z) xs =
     if int_lt z (pos 0) then part (start_of (length xs) y +ℤ z) (start_of (length xs) y) (pos 1) xs
     else part (start_of (length xs) y) (start_of (length xs) y +ℤ z) (pos 1) xs
 
-abbrev pub substr_by : Value → ℤ → Option ℤ → Out
-substr_by (Blob bytes) y z = Good (Blob (substr_in y z bytes))
-substr_by v y z = on_text (λ t. Good (text_of_chars (substr_in y z (chars t)))) v
+abbrev pub substr_by : Value → ℤ → Option ℤ → FunctionResult
+substr_by (Blob bytes) y z = value (Blob (substr_in y z bytes))
+substr_by v y z = with_text v (λ t. value (text_of_chars (substr_in y z (chars t))))
 
-abbrev pub substr_of : List Value → Out
+abbrev pub substr_of : List Value → FunctionResult
 substr_of (x ∷ y ∷ []) = substr_by x (int_of y) None
 substr_of (x ∷ y ∷ z ∷ rest) = substr_by x (int_of y) (Some (int_of z))
-substr_of args = Good Null
+substr_of args = value Null
 
 -- ---- spelling
 
@@ -165,8 +202,8 @@ hex_digit d = if nat_lt d 10 then 48 + d else 55 + d
 abbrev pub hex_of_bytes : List ℕ → List ℕ
 hex_of_bytes bytes = flat_map (λ b. hex_digit (b / 16) ∷ hex_digit (b % 16) ∷ []) bytes
 
-abbrev pub hex_of : Value → Out
-hex_of v = made (Text (hex_of_bytes (bytes_of (to_blob v))))
+abbrev pub hex_of : Value → FunctionResult
+hex_of v = limited (Text (hex_of_bytes (bytes_of (to_blob v))))
 
 abbrev pub doubled : List ℕ → List ℕ
 doubled text = flat_map (λ b. if b == 0x27 then 0x27 ∷ 0x27 ∷ [] else b ∷ []) text
@@ -184,19 +221,19 @@ type_name (Integer n) = codes "integer"
 type_name (Text text) = codes "text"
 type_name (Blob bytes) = codes "blob"
 
-abbrev pub zeroblob_of : Value → Out
-zeroblob_of v = if int_lt (int_of v) (pos 0) then Good (Blob []) else made (Blob (replicate (unsigned_abs (int_of v)) 0))
+abbrev pub zeroblob_of : Value → FunctionResult
+zeroblob_of v = either (int_lt (int_of v) (pos 0)) (value (Blob [])) (limited (Blob (replicate (unsigned_abs (int_of v)) 0)))
 
 -- ---- replacing
 
 -- where `old` is empty it is the value itself
-abbrev pub replaced_in : Value → List ℕ → Value → Out
-replaced_in x [] z = Good x
-replaced_in x (o ∷ os) z = on_both (λ s u. made (Text (replaced (o ∷ os) (bytes_of u) (bytes_of s)))) (to_text x) (to_text z)
+abbrev pub replaced_in : Value → List ℕ → Value → FunctionResult
+replaced_in x [] z = value x
+replaced_in x (o ∷ os) z = with_texts x z (λ s u. limited (Text (replaced (o ∷ os) u s)))
 
-abbrev pub replace_of : List Value → Out
-replace_of (x ∷ y ∷ z ∷ rest) = turned (λ t. replaced_in x (bytes_of t) z) (to_text y)
-replace_of args = Good Null
+abbrev pub replace_of : List Value → FunctionResult
+replace_of (x ∷ y ∷ z ∷ rest) = with_text y (λ t. replaced_in x t z)
+replace_of args = value Null
 
 -- ---- the largest and the smallest, and equality, by keys that the arguments have under a collation
 
@@ -229,55 +266,69 @@ abbrev pub iif_of : List Value → Out
 iif_of (x ∷ y ∷ z ∷ rest) = chosen (truth_in (truth_of (Good x))) (Good y) (Good z)
 iif_of args = Good Null
 
--- ---- all of them
+-- ---- all of them, each by how it comes to what it gives
 
-abbrev pub on_one : (Value → Out) → List Value → Out
-on_one f (x ∷ rest) = f x
-on_one f [] = Good Null
+pub data FunctionKind : Type 0 where
+  -- the first argument that is not NULL
+  FirstKnown : FunctionKind
+  -- the second argument where the first is true, else the third
+  Choice : FunctionKind
+  -- by the arguments and the keys that they have under a collation
+  ByKeys : (List Value → List (List ℕ) → FunctionResult) → FunctionKind
+  -- by the one text that its argument is cast to
+  OfText : (List ℕ → Value) → FunctionKind
+  -- by the arguments
+  OfValues : (List Value → FunctionResult) → FunctionKind
 
-abbrev pub on_two : (Value → Value → Out) → List Value → Out
-on_two f (x ∷ y ∷ rest) = f x y
-on_two f args = Good Null
+unfoldable pub kind_of : Builtin → FunctionKind
+kind_of builtin.Abs = OfValues (on_one abs_of)
+kind_of builtin.Char = OfValues char_of
+kind_of builtin.Coalesce = FirstKnown
+kind_of builtin.IfNull = FirstKnown
+kind_of builtin.Iif = Choice
+kind_of builtin.Hex = OfValues (on_one hex_of)
+kind_of builtin.Instr = OfValues (strict (on_two instr_of))
+kind_of builtin.Length = OfValues (on_one length_of_value)
+kind_of builtin.Lower = OfText lower_of
+kind_of builtin.Upper = OfText upper_of
+kind_of builtin.Trim = OfValues (strict (trim_of builtin.Trim))
+kind_of builtin.TrimLeft = OfValues (strict (trim_of builtin.TrimLeft))
+kind_of builtin.TrimRight = OfValues (strict (trim_of builtin.TrimRight))
+kind_of builtin.Max = ByKeys (λ args keys. strict (λ vs. value (best_of is_above vs keys)) args)
+kind_of builtin.Min = ByKeys (λ args keys. strict (λ vs. value (best_of is_below vs keys)) args)
+kind_of builtin.NullIf = ByKeys (λ args keys. value (unless_equal args keys))
+kind_of builtin.Quote = OfValues (on_one (λ v. limited (Text (quoted v))))
+kind_of builtin.Replace = OfValues (strict replace_of)
+kind_of builtin.Substr = OfValues (strict substr_of)
+kind_of builtin.TypeOf = OfValues (on_one (λ v. value (Text (type_name v))))
+kind_of builtin.Unicode = OfText unicode_of
+kind_of builtin.ZeroBlob = OfValues (on_one zeroblob_of)
+
+abbrev pub call_by : FunctionKind → List Value → List (List ℕ) → Out
+call_by FirstKnown args keys = Good (first_known args)
+call_by Choice args keys = iif_of args
+call_by (ByKeys f) args keys = given (f args keys)
+call_by (OfText f) args keys = given (on_one (λ v. with_text v (λ t. value (f t))) args)
+call_by (OfValues f) args keys = given (f args)
 
 -- of the arguments, and of their keys for max, min and nullif
 unfoldable pub call_of : Builtin → List Value → List (List ℕ) → Out
-call_of builtin.Abs args keys = on_one abs_of args
-call_of builtin.Char args keys = char_of args
-call_of builtin.Coalesce args keys = Good (first_known args)
-call_of builtin.IfNull args keys = Good (first_known args)
-call_of builtin.Iif args keys = iif_of args
-call_of builtin.Hex args keys = on_one hex_of args
-call_of builtin.Instr args keys = strict (on_two instr_of) args
-call_of builtin.Length args keys = on_one length_of_value args
-call_of builtin.Lower args keys = on_one lower_of args
-call_of builtin.Upper args keys = on_one upper_of args
-call_of builtin.Trim args keys = strict (trim_of builtin.Trim) args
-call_of builtin.TrimLeft args keys = strict (trim_of builtin.TrimLeft) args
-call_of builtin.TrimRight args keys = strict (trim_of builtin.TrimRight) args
-call_of builtin.Max args keys = strict (λ vs. Good (best_of is_above vs keys)) args
-call_of builtin.Min args keys = strict (λ vs. Good (best_of is_below vs keys)) args
-call_of builtin.NullIf args keys = Good (unless_equal args keys)
-call_of builtin.Quote args keys = on_one (λ v. made (Text (quoted v))) args
-call_of builtin.Replace args keys = strict replace_of args
-call_of builtin.Substr args keys = strict substr_of args
-call_of builtin.TypeOf args keys = on_one (λ v. Good (Text (type_name v))) args
-call_of builtin.Unicode args keys = on_one unicode_of args
-call_of builtin.ZeroBlob args keys = on_one zeroblob_of args
+call_of f args keys = call_by (kind_of f) args keys
 
 -- ---- examples
 
 parts : (call_of builtin.Substr (Text (codes "abc") ∷ Integer (pos 0) ∷ Integer (pos 2) ∷ []) [] ≡ Good (Text (codes "a"))) × (call_of builtin.Substr (Blob (codes "abc") ∷ Integer (negsuc 1) ∷ []) [] ≡ Good (Blob (codes "bc"))) × (call_of builtin.Substr (Blob (codes "abc") ∷ Integer (pos 3) ∷ Integer (negsuc 1) ∷ []) [] ≡ Good (Blob (codes "ab")))
-unfolding call_of chars encode_utf8
+unfolding call_of kind_of chars encode_utf8
 parts = (refl, refl, refl)
 
 spelled : (call_of builtin.Hex (Text (codes "abc") ∷ []) [] ≡ Good (Text (codes "616263"))) × (call_of builtin.Quote (Text (codes "it's") ∷ []) [] ≡ Good (Text (codes "'it''s'"))) × (call_of builtin.Hex (Null ∷ []) [] ≡ Good (Text []))
-unfolding call_of
+unfolding call_of kind_of
 spelled = (refl, refl, refl)
 
 places : (call_of builtin.Instr (Blob (codes "abc") ∷ Blob (codes "c") ∷ []) [] ≡ Good (Integer (pos 3))) × (call_of builtin.Instr (Blob (codes "abc") ∷ Blob [] ∷ []) [] ≡ Good (Integer (pos 1))) × (call_of builtin.Instr (Null ∷ Blob [] ∷ []) [] ≡ Good Null)
-unfolding call_of
+unfolding call_of kind_of
 places = (refl, refl, refl)
 
 others : (call_of builtin.Length (Null ∷ []) [] ≡ Good Null) × (call_of builtin.Abs (Integer (negsuc 6) ∷ []) [] ≡ Good (Integer (pos 7))) × (call_of builtin.Replace (Text (codes "aaab") ∷ Text (codes "aa") ∷ Text (codes "x") ∷ []) [] ≡ Good (Text (codes "xab"))) × (call_of builtin.TypeOf (Blob [] ∷ []) [] ≡ Good (Text (codes "blob")))
-unfolding call_of
+unfolding call_of kind_of
 others = (refl, refl, refl, refl)

@@ -13,3 +13,4 @@ pub mod Comparisons
 pub mod Functions
 pub mod Applied
 pub mod Literals
+pub mod OperandTexts

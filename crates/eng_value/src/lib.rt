@@ -2,7 +2,8 @@
 //!
 //! Contracts see each plain type as a list: a text and a blob as their bytes, a row as its values, rows as their
 //! rows. So `≡` between two of them compares what they hold, and never a capacity or a pointer. Begin with `Value`;
-//! `Cause` says why a statement is refused, `Steps` counts what a run costs, and `Meanings` names what hosts mean.
+//! `Cause` says why a statement is refused, `Steps` counts what a run costs, `Meanings` names what hosts mean, and
+//! `OperandText` is how operators and functions read a text.
 #![tactic(auto)]
 
 mod affinity;
@@ -18,6 +19,7 @@ mod compare_op;
 mod laws;
 mod limits;
 mod meanings;
+mod operand_text;
 mod operators;
 mod out;
 mod row;
@@ -42,6 +44,7 @@ pub use laws::{
 };
 pub use limits::{DEFAULT_BUDGET, MAX_COLUMNS, MAX_ROWID, MAX_SCRIPT_BYTES, MAX_VALUE_BYTES};
 pub use meanings::Meanings;
+pub use operand_text::{BothTexts, OperandText, Spelling};
 pub use operators::{ArithmeticOp, BinaryOperator, IntegerOp, Sides, UnaryOperator};
 pub use out::Out;
 pub use row::{Row, Rows};

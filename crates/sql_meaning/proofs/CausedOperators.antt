@@ -1,13 +1,10 @@
 -- What an operator or a function finds bad has a cause, where its operands have one.
-use Rattle.std.proofs.Common.{◌≡◌, ℕ, List, [], ◌∷◌, Bool, true, false, ◌||◌, ℤ, pos, int_eq, int_lt, Some, None, map, fold, refl, ◌∙◌, ap, if◌then◌else◌}
+use Rattle.std.proofs.Common.{◌≡◌, ℕ, List, [], ◌∷◌, Bool, true, false, ◌||◌, ℤ, pos, int_eq, Some, None, fold, refl, ◌∙◌, ap, if◌then◌else◌}
 use Rattle.std.specs.Bool.{⊤}
 use Rattle.std.specs.FinSet as set
 use Rattle.std.specs.Cmp.Lexicographic.{nat_list_cmp_total}
-use Rattle.std.specs.List.{list_any}
 use Rattle.std.specs.Ordering.{is_eq}
-use Rattle.std.specs.Char.{to_ascii_uppercase}
-use Rattle.std.specs.Prelude.{◌++◌, ◌+ℤ◌, ◌-ℤ◌, ◌*ℤ◌, codes, int_div, length, neg_ℤ, replicate, unsigned_abs}
-use Rattle.eng_text.specs.Texts.{folded, place_of, replaced}
+use Rattle.std.specs.Prelude.{◌++◌, ◌+ℤ◌, ◌-ℤ◌, ◌*ℤ◌, int_div, neg_ℤ}
 use Rattle.std.specs.Str.{chars}
 use Rattle.std.specs.declared.option.Option.{Option}
 use Rattle.std.proofs.lemmas.Cmp.{tied_itself}
@@ -15,7 +12,7 @@ use Rattle.eng_number.specs.Numbers.{fits_integer, number_prefix, text_kind}
 use Rattle.eng_number.specs.declared.numbers.TextKind.{TextKind}
 use Rattle.eng_number.specs.declared.numbers.TextKind.TheVariants as kind
 use Rattle.eng_value.specs.Applied.{unary_of, binary_of, falsehood_of, or_equal, member_of, or_else, merged, causes_of_all, on_all, function_by}
-use Rattle.eng_value.specs.Casts.{cast, integer_or_real, numeric_text, store_as, store_number, to_blob, to_number, to_text}
+use Rattle.eng_value.specs.Casts.{cast, integer_or_real, numeric_text, store_as, store_number, to_number, to_text}
 use Rattle.eng_value.specs.Causes.{CauseSet, cause_key, has_cause, only}
 use Rattle.eng_value.specs.Comparisons.{comparison_of, escape_char, glob_of, is_of, like_escaped_of, like_of, one_char}
 use Rattle.eng_value.specs.Functions as f
@@ -27,7 +24,6 @@ use Rattle.eng_value.specs.declared.affinity.Affinity.{Affinity}
 use Rattle.eng_value.specs.declared.affinity.Affinity.TheVariants as affinity
 use Rattle.eng_value.specs.declared.built.Built.{Built}
 use Rattle.eng_value.specs.declared.builtin.Builtin.{Builtin}
-use Rattle.eng_value.specs.declared.builtin.Builtin.TheVariants as builtin
 use Rattle.eng_value.specs.declared.cause.Cause.{Cause}
 use Rattle.eng_value.specs.declared.cause.Cause.TheVariants as cause
 use Rattle.eng_value.specs.declared.compare_op.CompareOp.{CompareOp}
@@ -360,9 +356,6 @@ binary_of-caused binary.Glob a b c d = glob_of-caused a b c d
 
 -- ---- functions
 
-strict-caused : (g : List Value → Out) (args : List Value) → IsCaused (g args) → IsCaused (f.strict g args)
-strict-caused g args c = if-caused (list_any f.is_null args) _ _ (good Null) c
-
 on_bytes-caused : (g : List ℕ → Out) (v : Value) → ((t : List ℕ) → IsCaused (g t)) → IsCaused (f.on_bytes g v)
 on_bytes-caused g Null h = good Null
 on_bytes-caused g (Integer n) h = h _
@@ -375,73 +368,14 @@ on_text-caused g v h = turned-caused (f.on_bytes g) (to_text v) (λ w. on_bytes-
 on_texts-caused : (g : List ℕ → List ℕ → Out) (v w : Value) → ((s t : List ℕ) → IsCaused (g s t)) → IsCaused (f.on_texts g v w)
 on_texts-caused g v w h = on_both-caused _ (to_text v) (to_text w) (λ s t. h _ _) (to_text-caused v) (to_text-caused w)
 
-abs-caused : (v : Value) → IsCaused (f.abs_of v)
-abs-caused Null = good Null
-abs-caused (Integer n) = in_range-caused (pos (unsigned_abs n))
-abs-caused (Text text) = bad-caused cause.Real
-abs-caused (Blob bytes) = bad-caused cause.Real
-
-in_text-good : (g : List ℕ → Value) (v : Value) → IsCaused (f.on_text (λ t. Good (g t)) v)
-in_text-good g v = on_text-caused (λ t. Good (g t)) v (λ t. good (g t))
-
-in_texts-good : (g : List ℕ → List ℕ → Value) (v w : Value) → IsCaused (f.on_texts (λ s t. Good (g s t)) v w)
-in_texts-good g v w = on_texts-caused (λ s t. Good (g s t)) v w (λ s t. good (g s t))
-
-abbrev count : List ℕ → Value
-count t = Integer (pos (length (chars t)))
-
-length-caused : (v : Value) → IsCaused (f.length_of_value v)
-length-caused Null = in_text-good count Null
-length-caused (Integer n) = in_text-good count (Integer n)
-length-caused (Text text) = in_text-good count (Text text)
-length-caused (Blob bytes) = good _
-
-trim-caused : (b : Builtin) (args : List Value) → IsCaused (f.trim_of b args)
-trim-caused b [] = good Null
-trim-caused b (x ∷ []) = in_text-good (λ t. f.text_of_chars (f.trim_by b (codes " ") (chars t))) x
-trim-caused b (x ∷ y ∷ rest) = in_texts-good (λ t u. f.text_of_chars (f.trim_by b (chars u) (chars t))) x y
-
-abbrev place : List ℕ → List ℕ → Value
-place s t = f.number_of_place (place_of (chars t) (chars s))
-
-instr-caused : (x y : Value) → IsCaused (f.instr_of x y)
-instr-caused (Blob a) (Blob b) = good _
-instr-caused (Blob a) Null = in_texts-good place (Blob a) Null
-instr-caused (Blob a) (Integer n) = in_texts-good place (Blob a) (Integer n)
-instr-caused (Blob a) (Text t) = in_texts-good place (Blob a) (Text t)
-instr-caused Null y = in_texts-good place Null y
-instr-caused (Integer n) y = in_texts-good place (Integer n) y
-instr-caused (Text a) y = in_texts-good place (Text a) y
-
-abbrev chars_from : ℤ → Option ℤ → List ℕ → Value
-chars_from y z t = f.text_of_chars (f.substr_in y z (chars t))
-
-substr_by-caused : (v : Value) (y : ℤ) (z : Option ℤ) → IsCaused (f.substr_by v y z)
-substr_by-caused Null y z = in_text-good (chars_from y z) Null
-substr_by-caused (Integer n) y z = in_text-good (chars_from y z) (Integer n)
-substr_by-caused (Text text) y z = in_text-good (chars_from y z) (Text text)
-substr_by-caused (Blob bytes) y z = good _
-
-substr-caused : (args : List Value) → IsCaused (f.substr_of args)
-substr-caused [] = good Null
-substr-caused (x ∷ []) = good Null
-substr-caused (x ∷ y ∷ []) = substr_by-caused x (f.int_of y) None
-substr-caused (x ∷ y ∷ z ∷ rest) = substr_by-caused x (f.int_of y) (Some (f.int_of z))
-
-zeroblob-caused : (v : Value) → IsCaused (f.zeroblob_of v)
-zeroblob-caused v = if-caused (int_lt (f.int_of v) (pos 0)) _ _ (good (Blob [])) (made-caused (Blob (replicate (unsigned_abs (f.int_of v)) 0)))
-
-replaced-caused : (x : Value) (old : List ℕ) (z : Value) → IsCaused (f.replaced_in x old z)
-replaced-caused x [] z = good x
-replaced-caused x (o ∷ os) z =
-    let new : Value → Value → Value = λ s u. Text (replaced (o ∷ os) (f.bytes_of u) (f.bytes_of s)) in
-    on_both-caused (λ s u. made (new s u)) (to_text x) (to_text z) (λ s u. made-caused (new s u)) (to_text-caused x) (to_text-caused z)
-
-replace-caused : (args : List Value) → IsCaused (f.replace_of args)
-replace-caused [] = good Null
-replace-caused (x ∷ []) = good Null
-replace-caused (x ∷ y ∷ []) = good Null
-replace-caused (x ∷ y ∷ z ∷ rest) = turned-caused (λ t. f.replaced_in x (f.bytes_of t) z) (to_text y) (λ t. replaced-caused x (f.bytes_of t) z) (to_text-caused y)
+-- whatever a function gives
+given-caused : (g : f.FunctionResult) → IsCaused (f.given g)
+given-caused (f.value v) = good v
+given-caused (f.limited v) = made-caused v
+given-caused (f.refused why) = bad-caused why
+given-caused (f.either test g h) = if-caused test (f.given g) (f.given h) (given-caused g) (given-caused h)
+given-caused (f.with_text v g) = on_text-caused (λ t. f.given (g t)) v (λ t. given-caused (g t))
+given-caused (f.with_texts v w g) = on_texts-caused (λ s t. f.given (g s t)) v w (λ s t. given-caused (g s t))
 
 iif-caused : (args : List Value) → IsCaused (f.iif_of args)
 iif-caused [] = good Null
@@ -449,39 +383,16 @@ iif-caused (x ∷ []) = good Null
 iif-caused (x ∷ y ∷ []) = good Null
 iif-caused (x ∷ y ∷ z ∷ rest) = chosen-caused (truth_in (truth_of (Good x))) (Good y) (Good z) (truth_caused (Good x) (good x)) (good y) (good z)
 
-on_one-caused : (g : Value → Out) (args : List Value) → ((v : Value) → IsCaused (g v)) → IsCaused (f.on_one g args)
-on_one-caused g [] h = good Null
-on_one-caused g (x ∷ rest) h = h x
-
-on_two-caused : (g : Value → Value → Out) (args : List Value) → ((v w : Value) → IsCaused (g v w)) → IsCaused (f.on_two g args)
-on_two-caused g [] h = good Null
-on_two-caused g (x ∷ []) h = good Null
-on_two-caused g (x ∷ y ∷ rest) h = h x y
+call_by-caused : (k : f.FunctionKind) (args : List Value) (keys : List (List ℕ)) → IsCaused (f.call_by k args keys)
+call_by-caused f.FirstKnown args keys = good (f.first_known args)
+call_by-caused f.Choice args keys = iif-caused args
+call_by-caused (f.ByKeys g) args keys = given-caused (g args keys)
+call_by-caused (f.OfText g) args keys = given-caused (f.on_one (λ v. f.with_text v (λ t. f.value (g t))) args)
+call_by-caused (f.OfValues g) args keys = given-caused (g args)
 
 call_of-caused : (b : Builtin) (args : List Value) (keys : List (List ℕ)) → IsCaused (call_of b args keys)
 unfolding call_of
-call_of-caused builtin.Abs args keys = on_one-caused f.abs_of args abs-caused
-call_of-caused builtin.Char args keys = made-caused (f.text_of_chars (map (λ v. f.char_of_number (f.int_of v)) args))
-call_of-caused builtin.Coalesce args keys = good _
-call_of-caused builtin.IfNull args keys = good _
-call_of-caused builtin.Iif args keys = iif-caused args
-call_of-caused builtin.Hex args keys = on_one-caused f.hex_of args (λ v. made-caused (Text (f.hex_of_bytes (f.bytes_of (to_blob v)))))
-call_of-caused builtin.Instr args keys = strict-caused (f.on_two f.instr_of) args (on_two-caused f.instr_of args instr-caused)
-call_of-caused builtin.Length args keys = on_one-caused f.length_of_value args length-caused
-call_of-caused builtin.Lower args keys = on_one-caused f.lower_of args (in_text-good (λ t. Text (folded t)))
-call_of-caused builtin.Upper args keys = on_one-caused f.upper_of args (in_text-good (λ t. Text (map to_ascii_uppercase t)))
-call_of-caused builtin.Trim args keys = strict-caused (f.trim_of builtin.Trim) args (trim-caused builtin.Trim args)
-call_of-caused builtin.TrimLeft args keys = strict-caused (f.trim_of builtin.TrimLeft) args (trim-caused builtin.TrimLeft args)
-call_of-caused builtin.TrimRight args keys = strict-caused (f.trim_of builtin.TrimRight) args (trim-caused builtin.TrimRight args)
-call_of-caused builtin.Max args keys = strict-caused (λ vs. Good (f.best_of f.is_above vs keys)) args (good (f.best_of f.is_above args keys))
-call_of-caused builtin.Min args keys = strict-caused (λ vs. Good (f.best_of f.is_below vs keys)) args (good (f.best_of f.is_below args keys))
-call_of-caused builtin.NullIf args keys = good _
-call_of-caused builtin.Quote args keys = on_one-caused (λ v. made (Text (f.quoted v))) args (λ v. made-caused (Text (f.quoted v)))
-call_of-caused builtin.Replace args keys = strict-caused f.replace_of args (replace-caused args)
-call_of-caused builtin.Substr args keys = strict-caused f.substr_of args (substr-caused args)
-call_of-caused builtin.TypeOf args keys = on_one-caused (λ v. Good (Text (f.type_name v))) args (λ v. good (Text (f.type_name v)))
-call_of-caused builtin.Unicode args keys = on_one-caused f.unicode_of args (in_text-good (λ t. f.first_char (chars t)))
-call_of-caused builtin.ZeroBlob args keys = on_one-caused f.zeroblob_of args zeroblob-caused
+call_of-caused b args keys = call_by-caused (f.kind_of b) args keys
 
 -- ---- lists of operands
 

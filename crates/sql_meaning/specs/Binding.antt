@@ -7,8 +7,8 @@ use Rattle.eng_value.specs.declared.affinity.Affinity.{Affinity}
 use Rattle.eng_value.specs.declared.affinity.Affinity.TheVariants as affinity
 use Rattle.eng_value.specs.declared.built.Built.{Built}
 use Rattle.eng_value.specs.declared.built.Built.TheVariants as built
+use Rattle.eng_value.specs.Functions.{FunctionKind, FirstKnown, Choice, kind_of}
 use Rattle.eng_value.specs.declared.builtin.Builtin.{Builtin}
-use Rattle.eng_value.specs.declared.builtin.Builtin.TheVariants as builtin
 use Rattle.eng_value.specs.declared.cause.Cause.{Cause}
 use Rattle.eng_value.specs.declared.cause.Cause.TheVariants as cause
 use Rattle.eng_value.specs.declared.cause.NameKind.TheVariants as named
@@ -306,11 +306,13 @@ takes (count.Between least most) given = nat_le least given && nat_le given most
 takes (count.AtLeast least) given = nat_le least given
 
 -- coalesce and iif look at their arguments in order
+abbrev pub tree_by : FunctionKind → Builtin → Built → List BoundExpr → BoundExpr
+tree_by FirstKnown f collation args = e.Coalesce args
+tree_by Choice f collation (a ∷ b ∷ c ∷ []) = e.Choose (roll-BoundArm (record { condition = a; value = b }) ∷ []) c
+tree_by other f collation args = e.Call f collation args
+
 abbrev pub call_tree : Builtin → Built → List BoundExpr → BoundExpr
-call_tree builtin.Coalesce collation args = e.Coalesce args
-call_tree builtin.IfNull collation args = e.Coalesce args
-call_tree builtin.Iif collation (a ∷ b ∷ c ∷ []) = e.Choose (roll-BoundArm (record { condition = a; value = b }) ∷ []) c
-call_tree f collation args = e.Call f collation args
+call_tree f collation args = tree_by (kind_of f) f collation args
 
 abbrev pub call_bound : Builtin → List Bound → Bound
 call_bound f args = over args (call_tree f (unwrap_or (first_collation args) built.Binary) (map tree_of args))

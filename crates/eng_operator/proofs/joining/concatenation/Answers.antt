@@ -1,5 +1,5 @@
 use Rattle.std.proofs.Common.{◌≡◌, ◌∙◌, ap, sym}
-use Rattle.eng_operator.specs.Spellings.{applied, value_of}
+use Rattle.eng_value.specs.OperandTexts.{applied, value_of}
 use Rattle.eng_value.specs.Casts.{to_text}
 use Rattle.eng_value.specs.Operators.{concatenation_of, joined}
 use Rattle.eng_value.specs.Outs.{on_both, turned}

@@ -3,7 +3,7 @@ use Rattle.std.specs.Str.{is_utf8, IsUtf8}
 use Rattle.std.proofs.lemmas.Str.{IsUtf8-from_is_utf8, is_utf8-from_IsUtf8}
 use Rattle.eng_value.specs.declared.out.Out.TheVariants.{Good}
 use Rattle.eng_value.specs.declared.value.Value.TheVariants as sql
-use Rattle.eng_operator.proofs.spelling.OperandText.of_blob.Goals as goal
+use Rattle.eng_value.proofs.operand_text.OperandText.of_blob.Goals as goal
 
 not_utf8 : (bytes : List ℕ) → (IsUtf8 bytes → ⊥) → is_utf8 bytes ≡ false
 not_utf8 bytes other = by (is_utf8 bytes) refl
