@@ -64,11 +64,13 @@ def literal_of(kind, text):
 
 
 class Bound:
-    """An expression: what it comes to at a row, its affinity, its collation, its form, and its conjuncts at the top of WHERE."""
+    """An expression: what it comes to at a row, its affinity, the collation of its COLLATE, that of the column that it is, its form, and its
+    conjuncts at the top of WHERE."""
 
     def __init__(self, value, operands=(), affinity="NONE", form=None):
         self.value, self.affinity, self.form = value, affinity, form
         self.collation = next((o.collation for o in operands if o.collation), None)
+        self.column = None
         self.conjuncts = [value]
 
 
@@ -82,12 +84,12 @@ def once(a):
         return seen[1]
 
     found = Bound(value, (), a.affinity, a.form)
-    found.collation, found.conjuncts = a.collation, a.conjuncts
+    found.collation, found.column, found.conjuncts = a.collation, a.column, a.conjuncts
     return found
 
 
 def sides_of(a, b):
-    return Sides(a.affinity, b.affinity, a.collation or b.collation or "BINARY")
+    return Sides(a.affinity, b.affinity, a.collation or b.collation or a.column or b.column or "BINARY")
 
 
 def over(f, *operands):
@@ -234,7 +236,7 @@ class Parser:
         self.expect("(")
         others = [] if self.kind() == ")" else self.listed(self.expr)
         self.expect(")")
-        sides = Sides(a.affinity, "NONE", a.collation or "BINARY")
+        sides = Sides(a.affinity, "NONE", a.collation or a.column or "BINARY")
 
         def found_in(row):
             x = a.value(row)
@@ -279,7 +281,9 @@ class Parser:
         a = self.signed()
         if sign == "-" and a.form == "least":
             return Bound(lambda row: -(2 ** 63))
-        return over({"-": negative, "+": lambda x: x, "~": inverse}[sign], a)
+        found = over({"-": negative, "+": lambda x: x, "~": inverse}[sign], a)
+        found.column = a.column if sign == "+" else None
+        return found
 
     def primary(self):
         token = self.next()
@@ -308,7 +312,7 @@ class Parser:
         self.expect(")")
         to = affinity_of(words)
         found = over(lambda x: turned(lambda v: cast(to, v), x), a)
-        found.affinity = to
+        found.affinity, found.column = to, a.column
         return found
 
     def type_words(self):
@@ -352,7 +356,9 @@ class Parser:
         columns = self.table.columns if self.table and (table is None or same(self.table.name, table)) else []
         for place, column in enumerate(columns):
             if same(column[0], name):
-                return Bound(lambda row: row[place], affinity=column[1])
+                found = Bound(lambda row: row[place], affinity=column[1])
+                found.column = "BINARY"
+                return found
         raise Refused("1: no such column: " + shown)
 
     def call(self, name):
@@ -380,7 +386,7 @@ class Parser:
             return Bound(first, args)
         if function == "iif":
             return Bound(lambda row: choice(args[0].value(row), lambda: args[1].value(row), lambda: args[2].value(row)), args)
-        collation = next((a.collation for a in args if a.collation), "BINARY")
+        collation = next((a.collation or a.column for a in args if a.collation or a.column), "BINARY")
         if isinstance(function, str):
             return over(lambda *outs: on_all(lambda *vs: by_keys(function, collation, *vs), outs), *args)
         return over(lambda *outs: on_all(function, outs), *args)

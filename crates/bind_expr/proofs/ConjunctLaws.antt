@@ -2,7 +2,7 @@
 use Rattle.std.specs.Prelude.{◌≡◌, ◌≢◌, ℕ, List, [], ◌∷◌, ◌++◌, map, length, Option, Some, None, Result, Ok, Err, refl}
 use Rattle.std.specs.Option.{option_map}
 use Rattle.std.proofs.Common.{inl, inr, ap, sym, ◌∙◌, append_assoc}
-use Rattle.eng_value.specs.declared.built.Built.{Built}
+use Rattle.eng_value.specs.declared.collation.Collation.{Collation}
 use Rattle.eng_value.specs.declared.cause.Cause.{Cause}
 use Rattle.eng_value.specs.declared.compare_op.CompareOp.TheVariants as compare
 use Rattle.sql_tree.specs.declared.expr.Arguments.{Arguments}
@@ -80,7 +80,7 @@ case_whole : (a : Option Bound) (arms : List Arm) (otherwise : Option Bound) →
 case_whole None arms otherwise = refl
 case_whole (Some a) arms otherwise = refl
 
-collate_whole : (name : List ℕ) (found : Option Built) (a : Bound) → part_in (collate_bound name found a) ≡ collate_bound name found a
+collate_whole : (name : List ℕ) (found : Option Collation) (a : Bound) → part_in (collate_bound name found a) ≡ collate_bound name found a
 collate_whole name None a = refl
 collate_whole name (Some c) a = refl
 

@@ -2,7 +2,7 @@
 use Rattle.std.specs.Prelude.{if◌then◌else◌, ◌≡◌, ℕ, Bool, true, false, List, [], ◌∷◌, map, length, Option, Some, None, Result, Ok, Err, refl}
 use Rattle.std.specs.Option.{option_map}
 use Rattle.std.proofs.Common.{ap, sym, ◌∙◌, append_assoc, append-nil}
-use Rattle.eng_value.specs.declared.built.Built.{Built}
+use Rattle.eng_value.specs.declared.collation.Collation.{Collation}
 use Rattle.eng_value.specs.declared.cause.Cause.{Cause}
 use Rattle.eng_value.specs.declared.cause.Cause.TheVariants as cause
 use Rattle.sql_tree.specs.declared.expr.Arguments.{Arguments}
@@ -19,15 +19,15 @@ use Rattle.sql_tree.specs.declared.token.Token.{Token}
 use Rattle.sql_meaning.specs.declared.bound.BoundArm.{BoundArm}
 use Rattle.sql_meaning.specs.declared.bound.BoundExpr.{BoundExpr}
 use Rattle.sql_meaning.specs.declared.bound.BoundMatch.{BoundMatch}
-use Rattle.sql_meaning.specs.Binding.{◌>>=◌, in_turn, Scope, Bound, Form, Plain, LeastMagnitude, Truth, Arm, all_in, option_in, option_list, bound_of, arm_bound, arm_parts, first_collation, tree_of, chosen_arm, matched_arm, literal_bound, parameter_bound, column_bound, column_found, column_place, table_column_bound, unary_bound, negative_bound, binary_bound, is_bound, not_bound, unknown_column, dotted, between_bound, like_bound, in_bound, collate_bound, collation_named, cast_bound, affinity_of_type, function_called, builtin_named, call_bound, case_bound}
+use Rattle.sql_meaning.specs.Binding.{◌>>=◌, in_turn, Scope, Bound, Form, Plain, LeastMagnitude, Truth, Arm, all_in, option_in, option_list, bound_of, arm_bound, arm_parts, first_collation, first_explicit, tree_of, chosen_arm, matched_arm, literal_bound, parameter_bound, column_bound, column_found, column_place, table_column_bound, unary_bound, negative_bound, binary_bound, is_bound, not_bound, unknown_column, dotted, between_bound, like_bound, in_bound, collate_bound, collation_named, cast_bound, affinity_of_type, function_called, builtin_named, call_bound, case_bound}
 use Rattle.sql_meaning.specs.Names.{is_same_name}
 use Rattle.sql_meaning.specs.Spelled.{name_at}
 use Rattle.bind_expr.specs.declared.groups.Group.{Group}
 use Rattle.bind_expr.specs.Gathers.{part_of, option_part, arm_in, operand, operand_of, operands_of, choice, choice_of, choices_of, matching, match_of, matches_of, call_part, case_part}
-use Rattle.bind_expr.specs.Groups.{empty, beside, gathered, collation_of, in_group, call_group, choose_group, match_group}
+use Rattle.bind_expr.specs.Groups.{empty, beside, gathered, explicit_of, in_group, call_group, choose_group, match_group}
 use Rattle.bind_expr.specs.Parts.{part_in, unsplit}
 use Rattle.bind_expr.proofs.Clauses.{bound_of-Literal, bound_of-Parameter, bound_of-Column, bound_of-TableColumn, bound_of-Unary, bound_of-Binary, bound_of-Between, bound_of-Like, bound_of-In, bound_of-Collate, bound_of-Cast, bound_of-Call, bound_of-Case, bound_of-InQuery, bound_of-Subquery, bound_of-Exists, bound_of-RaiseIgnore, bound_of-RaiseAbort}
-use Rattle.bind_expr.proofs.Collations.{or_else-none, or_else-assoc, first_collation-append}
+use Rattle.bind_expr.proofs.Collations.{or_else-none, or_else-assoc, first_explicit-append}
 
 -- ---- refusals
 
@@ -122,7 +122,7 @@ like_part : (a b : Bound) (c : Option Bound) → unsplit (like_bound a b c) ≡ 
 like_part a b None = refl
 like_part a b (Some c) = refl
 
-collate_part : (name : List ℕ) (found : Option Built) (a : Bound) → part_in (collate_bound name found a) ≡ collate_bound name found (unsplit a)
+collate_part : (name : List ℕ) (found : Option Collation) (a : Bound) → part_in (collate_bound name found a) ≡ collate_bound name found (unsplit a)
 collate_part name None a = refl
 collate_part name (Some c) a = refl
 
@@ -139,10 +139,10 @@ option_part_is s (Some e) f g same =
 -- ---- operands and arms, one behind the other
 
 pub beside-empty : {T : Type 0} (g : Group T) → beside g empty ≡ g
-beside-empty g = rw (append-nil g.items, or_else-none g.collation) refl
+beside-empty g = rw (append-nil g.items, or_else-none g.explicit, or_else-none g.first) refl
 
 pub beside-assoc : {T : Type 0} (f g h : Group T) → beside (beside f g) h ≡ beside f (beside g h)
-beside-assoc f g h = rw (append_assoc f.items g.items h.items, or_else-assoc f.collation g.collation h.collation) refl
+beside-assoc f g h = rw (append_assoc f.items g.items h.items, or_else-assoc f.explicit g.explicit h.explicit, or_else-assoc f.first g.first h.first) refl
 
 -- one more in front of what is gathered
 turn : {A T B : Type 0} (r : Result A Cause) (rest : Result (List A) Cause) (found : Result (Group T) Cause) (single : A → Group T) (all : List A → Group T) (k : Group T → Result B Cause)
@@ -167,7 +167,7 @@ in_turn_map s g [] = refl
 in_turn_map s g (x ∷ xs) = ap (λ r. g x s >>= λ b. r >>= λ bs. Ok (b ∷ bs)) (in_turn_map s g xs)
 
 abbrev pub all_operands : List Bound → Group BoundExpr
-all_operands ys = record { items = map tree_of ys; collation = first_collation ys }
+all_operands ys = record { items = map tree_of ys; explicit = first_explicit ys; first = first_collation ys }
 
 pub operands_are : {B : Type 0} (s : Scope) (es : List Expr) (k : Group BoundExpr → Result B Cause)
     → (all_in s (map bound_of es) >>= λ ys. k (all_operands ys)) ≡ (operands_of s es >>= k)
@@ -180,17 +180,17 @@ in_arm (Ok a) f g same = same a
 in_arm (Err why) f g same = refl
 
 abbrev pub all_choices : List Arm → Group BoundArm
-all_choices ys = record { items = map chosen_arm ys; collation = first_collation (arm_parts ys) }
+all_choices ys = record { items = map chosen_arm ys; explicit = first_explicit (arm_parts ys); first = None }
 
 pub choices_are : {B : Type 0} (s : Scope) (arms : List SyntaxArm) (k : Group BoundArm → Result B Cause)
     → (all_in s (map arm_bound arms) >>= λ ys. k (all_choices ys)) ≡ (choices_of s arms >>= k)
 choices_are s arms k =
     rw (in_turn_map s arm_bound arms)
     (turned (λ arm. arm_bound arm s) (choice_of s) choice all_choices (λ arm. sym (in_arm (arm_bound arm s) (λ a. Ok (choice a)) (λ a. Ok (choice a)) (λ a. refl))) refl
-    (λ a rest. rw (or_else-assoc a.condition.collation a.value.collation (first_collation (arm_parts rest))) refl) arms k)
+    (λ a rest. rw (or_else-assoc a.condition.explicit a.value.explicit (first_explicit (arm_parts rest))) refl) arms k)
 
 abbrev pub all_matches : Bound → List Arm → Group BoundMatch
-all_matches operand ys = record { items = map (matched_arm operand) ys; collation = first_collation (arm_parts ys) }
+all_matches operand ys = record { items = map (matched_arm operand) ys; explicit = first_explicit (arm_parts ys); first = None }
 
 pub matches_are : {B : Type 0} (operand : Bound) (s : Scope) (arms : List SyntaxArm) (k : Group BoundMatch → Result B Cause)
     → (all_in s (map arm_bound arms) >>= λ ys. k (all_matches operand ys)) ≡ (matches_of operand s arms >>= k)
@@ -198,7 +198,7 @@ matches_are operand s arms k =
     rw (in_turn_map s arm_bound arms)
     (turned (λ arm. arm_bound arm s) (match_of operand s) (matching operand) (all_matches operand)
     (λ arm. sym (in_arm (arm_bound arm s) (λ a. Ok (matching operand a)) (λ a. Ok (matching operand a)) (λ a. refl))) refl
-    (λ a rest. rw (or_else-assoc a.condition.collation a.value.collation (first_collation (arm_parts rest))) refl) arms k)
+    (λ a rest. rw (or_else-assoc a.condition.explicit a.value.explicit (first_explicit (arm_parts rest))) refl) arms k)
 
 -- ---- each kind of expression
 
@@ -275,17 +275,17 @@ part_of-Call t how args filter s =
     ∙ same_then called (λ f. part_in (all_in s (map bound_of args) >>= λ xs. Ok (call_bound f xs))) (λ f. operands_of s args >>= λ g. Ok (call_group f g))
     (λ f. then_then (all_in s (map bound_of args)) (λ xs. Ok (call_bound f xs)) (λ b. Ok (unsplit b)) ∙ operands_are s args (λ g. Ok (call_group f g))))
 
-last_collation : (o : Option Bound) → first_collation (option_list o) ≡ collation_of (option_map unsplit o)
-last_collation None = refl
-last_collation (Some b) = or_else-none b.collation
+last_explicit : (o : Option Bound) → first_explicit (option_list o) ≡ explicit_of (option_map unsplit o)
+last_explicit None = refl
+last_explicit (Some b) = or_else-none b.explicit
 
 chosen_part : (arms : List Arm) (o : Option Bound) → unsplit (case_bound None arms o) ≡ choose_group (all_choices arms) (option_map unsplit o)
-chosen_part arms None = rw (first_collation-append (arm_parts arms) []) refl
-chosen_part arms (Some b) = rw (first_collation-append (arm_parts arms) (b ∷ []), or_else-none b.collation) refl
+chosen_part arms None = rw (first_explicit-append (arm_parts arms) []) refl
+chosen_part arms (Some b) = rw (first_explicit-append (arm_parts arms) (b ∷ []), or_else-none b.explicit) refl
 
 matched_part : (a : Bound) (arms : List Arm) (o : Option Bound) → unsplit (case_bound (Some a) arms o) ≡ match_group (unsplit a) (all_matches (unsplit a) arms) (option_map unsplit o)
-matched_part a arms None = rw (first_collation-append (arm_parts arms) []) refl
-matched_part a arms (Some b) = rw (first_collation-append (arm_parts arms) (b ∷ []), or_else-none b.collation) refl
+matched_part a arms None = rw (first_explicit-append (arm_parts arms) []) refl
+matched_part a arms (Some b) = rw (first_explicit-append (arm_parts arms) (b ∷ []), or_else-none b.explicit) refl
 
 -- the arms and what ELSE gives
 case_behind : (f : List Arm → Option Bound → Bound) (s : Scope) (arms : List SyntaxArm) (otherwise : Option Expr) (g : List Arm → Option Bound → Bound)

@@ -3,9 +3,8 @@ use Rattle.std.proofs.Common.{rules, arith, subst, ◌≡◌, ℕ, true, false, 
 use Rattle.std.specs.Option.{option_map}
 use Rattle.eng_value.specs.Functions.{FunctionKind, FirstKnown, Choice, ByKeys, OfText, OfValues, kind_of}
 use Rattle.eng_value.specs.declared.affinity.Affinity.{Affinity}
-use Rattle.eng_value.specs.declared.built.Built.{Built}
+use Rattle.eng_value.specs.declared.collation.Collation.{Collation}
 use Rattle.eng_value.specs.declared.builtin.Builtin.{Builtin}
-use Rattle.eng_value.specs.declared.built.Built.TheVariants as built
 use Rattle.eng_value.specs.declared.cause.Cause.{Cause}
 use Rattle.eng_value.specs.declared.compare_op.CompareOp.TheVariants as compare
 use Rattle.eng_value.specs.declared.operators.BinaryOperator.TheVariants as binary
@@ -52,7 +51,7 @@ use Rattle.sql_meaning.specs.declared.bound.BoundExpr.{BoundExpr, fold-roll-Boun
 use Rattle.sql_meaning.specs.declared.bound.BoundExpr.TheVariants as e
 use Rattle.sql_meaning.specs.declared.bound.BoundMatch.{BoundMatch, roll-BoundMatch}
 use Rattle.sql_meaning.specs.declared.bound.Literal.{Literal}
-use Rattle.sql_meaning.specs.Binding.{◌>>=◌, Scope, Bound, Form, Plain, LeastMagnitude, Truth, Arm, all_in, option_in, bound_of, arm_bound, tree_of, chosen_arm, matched_arm, call_tree, tree_by, or_null, literal_bound, unary_bound, negative_bound, binary_bound, is_bound, not_bound, between_bound, like_bound, in_bound, collate_bound, cast_bound, call_bound, case_bound, affinity_of_type, builtin_named, collation_named, column_at, column_bound, column_found, column_place, dotted, first_collation, function_called, member_sides, parameter_bound, sides_of, table_column_bound, unknown_column}
+use Rattle.sql_meaning.specs.Binding.{◌>>=◌, Scope, Bound, Form, Plain, LeastMagnitude, Truth, Arm, all_in, option_in, bound_of, arm_bound, tree_of, chosen_arm, matched_arm, call_tree, tree_by, or_null, by_bytes, literal_bound, unary_bound, negative_bound, binary_bound, is_bound, not_bound, between_bound, like_bound, in_bound, collate_bound, cast_bound, call_bound, case_bound, affinity_of_type, builtin_named, collation_named, column_at, column_bound, column_found, column_place, dotted, first_collation, function_called, member_sides, parameter_bound, sides_of, table_column_bound, unknown_column}
 use Rattle.sql_meaning.specs.Sizes.{nodes_of, nodes_of_arm, nodes_of_match, all_nodes}
 
 -- ---- sizes, clause by clause
@@ -138,7 +137,7 @@ nodes-Choose arms otherwise = rw (← e.rolls-Choose arms otherwise, fold-roll-B
 pub nodes-Match : (a : BoundExpr) (arms : List BoundMatch) (otherwise : BoundExpr) → nodes_of (e.Match a arms otherwise) ≡ 1 + nodes_of a + total (map nodes_of_match arms) + nodes_of otherwise
 nodes-Match a arms otherwise = rw (← e.rolls-Match a arms otherwise, fold-roll-BoundExpr) refl
 
-pub nodes-Call : (f : Builtin) (collation : Built) (args : List BoundExpr) → nodes_of (e.Call f collation args) ≡ 1 + all_nodes args
+pub nodes-Call : (f : Builtin) (collation : Collation) (args : List BoundExpr) → nodes_of (e.Call f collation args) ≡ 1 + all_nodes args
 nodes-Call f collation args = rw (← e.rolls-Call f collation args, fold-roll-BoundExpr) refl
 
 pub nodes-arm : (condition shown : BoundExpr) → nodes_of_arm (roll-BoundArm (record { condition = condition; value = shown })) ≡ 1 + nodes_of condition + nodes_of shown
@@ -244,13 +243,13 @@ cast_sized to n a h = unsplit_sized (1 + n) _ refl (omega (arith, h.tree, nodes-
 larger_sized : (n m : ℕ) (b : Bound) → n ≤ m → Sized n b → Sized m b
 larger_sized n m b le h = record { tree = omega (arith, h.tree, le); conjuncts = omega (arith, h.conjuncts, le) }
 
-collate_sized : (name : List ℕ) (found : Option Built) (n : ℕ) (a b : Bound) → Sized n a → collate_bound name found a ≡ Ok b → Sized (1 + n) b
+collate_sized : (name : List ℕ) (found : Option Collation) (n : ℕ) (a b : Bound) → Sized n a → collate_bound name found a ≡ Ok b → Sized (1 + n) b
 collate_sized name None n a b h is = cc
 collate_sized name (Some c) n a b h is =
-    let same : record a { collation = Some c; form = Plain; conjuncts = a.tree ∷ [] } ≡ b = cc in
+    let same : record a { explicit = Some c; form = Plain; conjuncts = a.tree ∷ [] } ≡ b = cc in
     rw (← same) (unsplit_sized (1 + n) _ refl (omega (arith, h.tree)))
 
-kind_nodes : (k : FunctionKind) (f : Builtin) (collation : Built) (args : List BoundExpr) → nodes_of (tree_by k f collation args) ≤ 2 + all_nodes args
+kind_nodes : (k : FunctionKind) (f : Builtin) (collation : Collation) (args : List BoundExpr) → nodes_of (tree_by k f collation args) ≤ 2 + all_nodes args
 kind_nodes FirstKnown f c args = omega (arith, nodes-Coalesce args)
 kind_nodes Choice f c [] = omega (arith, nodes-Call f c [])
 kind_nodes Choice f c (x ∷ []) = omega (arith, nodes-Call f c (x ∷ []))
@@ -261,11 +260,11 @@ kind_nodes (ByKeys g) f c args = omega (arith, nodes-Call f c args)
 kind_nodes (OfText g) f c args = omega (arith, nodes-Call f c args)
 kind_nodes (OfValues g) f c args = omega (arith, nodes-Call f c args)
 
-call_nodes : (f : Builtin) (collation : Built) (args : List BoundExpr) → nodes_of (call_tree f collation args) ≤ 2 + all_nodes args
+call_nodes : (f : Builtin) (collation : Collation) (args : List BoundExpr) → nodes_of (call_tree f collation args) ≤ 2 + all_nodes args
 call_nodes f c args = kind_nodes (kind_of f) f c args
 
 call_sized : (f : Builtin) (n : ℕ) (args : List Bound) → all_nodes (map tree_of args) ≤ 2 * n → Sized (1 + n) (call_bound f args)
-call_sized f n args h = unsplit_sized (1 + n) _ refl (omega (arith, h, call_nodes f (unwrap_or (first_collation args) built.Binary) (map tree_of args)))
+call_sized f n args h = unsplit_sized (1 + n) _ refl (omega (arith, h, call_nodes f (unwrap_or (first_collation args) by_bytes) (map tree_of args)))
 
 null_nodes : (o : Option Bound) → nodes_of (or_null o) ≤ 1 + option_nodes o
 null_nodes None = omega (arith, nodes-Literal (literal.Value value.Null))

@@ -8,10 +8,10 @@ use Rattle.sql_tree.specs.declared.token.Token.{Token}
 use Rattle.sql_meaning.specs.declared.bound.BoundArm.{BoundArm}
 use Rattle.sql_meaning.specs.declared.bound.BoundExpr.{BoundExpr}
 use Rattle.sql_meaning.specs.declared.bound.BoundMatch.{BoundMatch}
-use Rattle.sql_meaning.specs.Binding.{◌>>=◌, Arm, Bound, Scope, arm_bound, bound_of, builtin_named, chosen_arm, function_called, matched_arm}
+use Rattle.sql_meaning.specs.Binding.{◌>>=◌, Arm, Bound, Scope, arm_bound, bound_of, builtin_named, chosen_arm, collation_of, function_called, matched_arm}
 use Rattle.sql_meaning.specs.Spelled.{name_at}
 use Rattle.bind_expr.specs.declared.groups.Group.{Group}
-use Rattle.bind_expr.specs.Groups.{arm_collation, call_group, choose_group, gathered, match_group, one}
+use Rattle.bind_expr.specs.Groups.{arm_explicit, call_group, choose_group, gathered, match_group, one}
 use Rattle.bind_expr.specs.Parts.{part_in, unsplit}
 
 abbrev pub part_of : Scope → Expr → Result Bound Cause
@@ -27,7 +27,7 @@ arm_in meant = meant >>= λ a. Ok (record { condition = unsplit a.condition; val
 -- ---- operands
 
 abbrev pub operand : Bound → Group BoundExpr
-operand b = one b.tree b.collation
+operand b = one b.tree b.explicit (collation_of b)
 
 abbrev pub operand_of : Scope → Expr → Result (Group BoundExpr) Cause
 operand_of s e = part_of s e >>= λ b. Ok (operand b)
@@ -38,7 +38,7 @@ operands_of s es = gathered (operand_of s) es
 -- ---- arms
 
 abbrev pub choice : Arm → Group BoundArm
-choice a = one (chosen_arm a) (arm_collation a)
+choice a = one (chosen_arm a) (arm_explicit a) None
 
 abbrev pub choice_of : Scope → SyntaxArm → Result (Group BoundArm) Cause
 choice_of s arm = arm_in (arm_bound arm s) >>= λ a. Ok (choice a)
@@ -47,7 +47,7 @@ abbrev pub choices_of : Scope → List SyntaxArm → Result (Group BoundArm) Cau
 choices_of s arms = gathered (choice_of s) arms
 
 abbrev pub matching : Bound → Arm → Group BoundMatch
-matching operand a = one (matched_arm operand a) (arm_collation a)
+matching operand a = one (matched_arm operand a) (arm_explicit a) None
 
 abbrev pub match_of : Bound → Scope → SyntaxArm → Result (Group BoundMatch) Cause
 match_of operand s arm = arm_in (arm_bound arm s) >>= λ a. Ok (matching operand a)

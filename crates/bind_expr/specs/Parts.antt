@@ -1,10 +1,10 @@
 -- What the code finds of a bound expression, and how its results stand to the definitions.
 use Rattle.std.specs.Prelude.{◌≡◌, ◌⊎◌, ℕ, List, [], ◌∷◌, ◌++◌, Option, Some, None, Result, Ok, Err}
 use Rattle.eng_value.specs.declared.affinity.Affinity.TheVariants as affinity
-use Rattle.eng_value.specs.declared.built.Built.{Built}
 use Rattle.eng_value.specs.declared.cause.Cause.{Cause}
 use Rattle.eng_value.specs.declared.cause.Cause.TheVariants as cause
 use Rattle.eng_value.specs.declared.cause.NameKind.TheVariants as named
+use Rattle.eng_value.specs.declared.collation.Collation.{Collation}
 use Rattle.eng_value.specs.declared.compare_op.CompareOp.{CompareOp}
 use Rattle.sql_meaning.specs.declared.bound.BoundExpr.{BoundExpr}
 use Rattle.sql_meaning.specs.Binding.{◌>>=◌, Bound, compared, Plain, LeastMagnitude, Truth}
@@ -20,13 +20,13 @@ form_of form.Plain = Plain
 form_of form.LeastMagnitude = LeastMagnitude
 form_of (form.Truth wanted) = Truth wanted
 
--- over this tree, without an affinity, and one conjunct
-abbrev pub bare : Option Built → BoundExpr → Bound
-bare collation tree = record { tree = tree; affinity = affinity.None; collation = collation; form = Plain; conjuncts = tree ∷ [] }
+-- over this tree, without an affinity and no column, and one conjunct
+abbrev pub bare : Option Collation → BoundExpr → Bound
+bare explicit tree = record { tree = tree; affinity = affinity.None; explicit = explicit; column = None; form = Plain; conjuncts = tree ∷ [] }
 
 -- the bound expression that a part tells, as one conjunct
 abbrev pub whole : BoundPart → Bound
-whole p = record { tree = p.tree; affinity = p.affinity; collation = p.collation; form = form_of p.form; conjuncts = p.tree ∷ [] }
+whole p = record { tree = p.tree; affinity = p.affinity; explicit = p.explicit; column = p.column; form = form_of p.form; conjuncts = p.tree ∷ [] }
 
 abbrev pub unsplit : Bound → Bound
 unsplit b = record b { conjuncts = b.tree ∷ [] }
@@ -35,13 +35,13 @@ abbrev pub part_in : Result Bound Cause → Result Bound Cause
 part_in meant = meant >>= λ b. Ok (unsplit b)
 
 -- the collation that was found of a name
-abbrev pub collation_in : List ℕ → Option Built → Result Built Cause
+abbrev pub collation_in : List ℕ → Option Collation → Result Collation Cause
 collation_in name None = Err (cause.Unknown named.Collation name)
 collation_in name (Some c) = Ok c
 
 -- under a collation
-abbrev pub collated : Bound → Built → Bound
-collated a c = record a { collation = Some c; form = Plain; conjuncts = a.tree ∷ [] }
+abbrev pub collated : Bound → Collation → Bound
+collated a c = record a { explicit = Some c; form = Plain; conjuncts = a.tree ∷ [] }
 
 -- ---- results
 

@@ -112,7 +112,8 @@ fn bind_all(alloc: Global, scope: &Scope<'_>, es: &[Expr]) -> Result<Group<Bound
     let mut found = Group::new(alloc);
     for e in es {
         let part = bind(alloc, scope, e)?;
-        found.push(part.tree, part.collation)?;
+        let first = part.collation();
+        found.push(part.tree, part.explicit, first)?;
     }
     Ok(found)
 }
@@ -151,8 +152,8 @@ fn bind_choices(alloc: Global, scope: &Scope<'_>, arms: &[Arm]) -> Result<Group<
     let mut found = Group::new(alloc);
     for arm in arms {
         let part = bind_arm(alloc, scope, arm)?;
-        let collation = part.collation();
-        found.push(part.chosen(), collation)?;
+        let explicit = part.explicit();
+        found.push(part.chosen(), explicit, None)?;
     }
     Ok(found)
 }
@@ -170,8 +171,8 @@ fn bind_matches(
     let mut found = Group::new(alloc);
     for arm in arms {
         let part = bind_arm(alloc, scope, arm)?;
-        let collation = part.collation();
-        found.push(part.matched(operand), collation)?;
+        let explicit = part.explicit();
+        found.push(part.matched(operand), explicit, None)?;
     }
     Ok(found)
 }

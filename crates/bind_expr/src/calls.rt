@@ -16,7 +16,7 @@ ghost use Rattle.bind_expr.specs.Parts.{itself, whole, Gives};
 use crate::groups::Group;
 use crate::part::{BoundPart, or_binary};
 use bind_name::{is_same, name};
-use eng_value::{Built, Builtin, Cause, NameKind, Text};
+use eng_value::{Builtin, Cause, Collation, NameKind, Text};
 use sql_meaning::{ArgumentCount, BUILTINS, BoundArm, BoundExpr};
 use sql_tree::{Arguments, Token};
 use sqlite_items::{Boxed, Items};
@@ -89,7 +89,11 @@ pub(crate) fn function_called(
 }
 
 /// `iif(a, b, c)`, which is a CASE.
-fn iif(alloc: Global, collation: Built, mut args: Items<BoundExpr>) -> Result<BoundExpr, AllocError>
+fn iif(
+    alloc: Global,
+    collation: Collation,
+    mut args: Items<BoundExpr>,
+) -> Result<BoundExpr, AllocError>
     ensures { IfOk result (λ tree. tree ≡ tree_by Choice builtin.Iif collation args) }
 {
     if args.len() != 3 {
@@ -135,7 +139,7 @@ fn one_arm(
 fn call_tree(
     alloc: Global,
     f: Builtin,
-    collation: Built,
+    collation: Collation,
     args: Items<BoundExpr>,
 ) -> Result<BoundExpr, AllocError>
     ensures { IfOk result (λ tree. tree ≡ call_tree f collation args) }
@@ -156,7 +160,7 @@ pub(crate) fn call(
 ) -> Result<BoundPart, AllocError>
     ensures { IfOk result (λ p. whole p ≡ call_group f args) }
 {
-    let collation = args.collation;
-    let tree = call_tree(alloc, f, or_binary(collation), args.items)?;
-    Ok(BoundPart::bare(collation, tree))
+    let explicit = args.explicit;
+    let tree = call_tree(alloc, f, or_binary(args.first), args.items)?;
+    Ok(BoundPart::bare(explicit, tree))
 }

@@ -2,12 +2,12 @@
 ghost use Rattle.std.specs.Prelude.{◌≡◌, IfOk};
 ghost use Rattle.std.specs.Option.{option_map};
 ghost use Rattle.sql_meaning.specs.Binding.{chosen_arm, matched_arm, or_else, or_null};
-ghost use Rattle.bind_expr.specs.Groups.{arm_collation, arm_whole, choose_group, collation_of, match_group};
+ghost use Rattle.bind_expr.specs.Groups.{arm_explicit, arm_whole, choose_group, explicit_of, match_group};
 ghost use Rattle.bind_expr.specs.Parts.{whole};
 
 use crate::groups::Group;
 use crate::part::{BoundPart, boxed_pair, or_else, sides_of};
-use eng_value::{Built, Value};
+use eng_value::{Collation, Value};
 use sql_meaning::{BoundArm, BoundExpr, BoundMatch, Literal};
 use sqlite_items::Boxed;
 use std::alloc::{AllocError, Global};
@@ -20,11 +20,11 @@ pub(crate) struct ArmPart {
 }
 
 impl ArmPart {
-    /// The first collation in it.
-    pub(crate) fn collation(&self) -> Option<Built>
-        ensures { result ≡ arm_collation (arm_whole self.now) }
+    /// The collation of the first COLLATE in it.
+    pub(crate) fn explicit(&self) -> Option<Collation>
+        ensures { result ≡ arm_explicit (arm_whole self.now) }
     {
-        or_else(self.condition.collation, self.value.collation)
+        or_else(self.condition.explicit, self.value.explicit)
     }
 
     /// The arm of a CASE without an operand.
@@ -49,12 +49,12 @@ impl ArmPart {
     }
 }
 
-/// The collation of what ELSE gives.
-fn collation_of(otherwise: &Option<BoundPart>) -> Option<Built>
-    ensures { result ≡ collation_of (option_map whole otherwise.now) }
+/// The collation of the first COLLATE in what ELSE gives.
+fn explicit_of(otherwise: &Option<BoundPart>) -> Option<Collation>
+    ensures { result ≡ explicit_of (option_map whole otherwise.now) }
 {
     match otherwise {
-        Some(b) => b.collation,
+        Some(b) => b.explicit,
         None => None,
     }
 }
@@ -77,9 +77,9 @@ pub(crate) fn choose(
 ) -> Result<BoundPart, AllocError>
     ensures { IfOk result (λ p. whole p ≡ choose_group arms (option_map whole otherwise)) }
 {
-    let collation = or_else(arms.collation, collation_of(&otherwise));
+    let explicit = or_else(arms.explicit, explicit_of(&otherwise));
     let otherwise = Boxed::new(alloc, or_null(otherwise))?;
-    Ok(BoundPart::bare(collation, BoundExpr::Choose(arms.items, otherwise)))
+    Ok(BoundPart::bare(explicit, BoundExpr::Choose(arms.items, otherwise)))
 }
 
 /// A CASE with an operand.
@@ -91,8 +91,8 @@ pub(crate) fn choose_match(
 ) -> Result<BoundPart, AllocError>
     ensures { IfOk result (λ p. whole p ≡ match_group (whole operand) arms (option_map whole otherwise)) }
 {
-    let last = or_else(arms.collation, collation_of(&otherwise));
-    let collation = or_else(operand.collation, last);
+    let last = or_else(arms.explicit, explicit_of(&otherwise));
+    let explicit = or_else(operand.explicit, last);
     let (operand, otherwise) = boxed_pair(alloc, operand.tree, or_null(otherwise))?;
-    Ok(BoundPart::bare(collation, BoundExpr::Match(operand, arms.items, otherwise)))
+    Ok(BoundPart::bare(explicit, BoundExpr::Match(operand, arms.items, otherwise)))
 }

@@ -11,7 +11,7 @@ ghost use Rattle.bind_expr.specs.Parts.{whole, Gives};
 use crate::part::{BoundPart, Form};
 use crate::scope::Scope;
 use bind_name::{is_same, name};
-use eng_value::{Affinity, Cause, NameKind, Text};
+use eng_value::{Affinity, Built, Cause, Collation, NameKind, Text};
 use sql_meaning::{BoundExpr, Column, TableEntry};
 use sql_tree::Token;
 use std::alloc::{AllocError, Global};
@@ -56,7 +56,8 @@ fn column_at(columns: &[Column], place: usize) -> Result<BoundPart, AllocError>
     Ok(BoundPart {
         tree,
         affinity: affinity_at(columns, place),
-        collation: None,
+        explicit: None,
+        column: Some(Collation::Built(Built::Binary)),
         form: Form::Plain,
     })
 }

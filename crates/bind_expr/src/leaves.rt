@@ -7,7 +7,7 @@ ghost use Rattle.bind_expr.specs.Parts.{collated, collation_in, itself, whole, G
 
 use crate::part::{BoundPart, Form};
 use bind_name::{is_least_magnitude, is_same, literal, name, slice_of};
-use eng_value::{Affinity, Built, Cause, NameKind};
+use eng_value::{Affinity, Built, Cause, Collation, NameKind};
 use sql_meaning::BoundExpr;
 use sql_tree::{Token, TokenKind};
 use std::alloc::{AllocError, Global};
@@ -35,7 +35,8 @@ pub(crate) fn literal_part(
     Ok(BoundPart {
         tree: BoundExpr::Literal(literal(alloc, text, token)?),
         affinity: Affinity::None,
-        collation: None,
+        explicit: None,
+        column: None,
         form: form_of(text, token),
     })
 }
@@ -49,39 +50,40 @@ pub(crate) fn parameter_part(token: &Token) -> BoundPart
 }
 
 /// The built-in collation of this name (Datatypes In SQLite, section 7).
-fn collation_named(name: &[u8]) -> Option<Built>
+fn collation_named(name: &[u8]) -> Option<Collation>
     ensures { result ≡ collation_named name.now }
 {
     if is_same(name, b"BINARY") {
-        Some(Built::Binary)
+        Some(Collation::Built(Built::Binary))
     } else if is_same(name, b"NOCASE") {
-        Some(Built::NoCase)
+        Some(Collation::Built(Built::NoCase))
     } else if is_same(name, b"RTRIM") {
-        Some(Built::Rtrim)
+        Some(Collation::Built(Built::Rtrim))
     } else {
         None
     }
 }
 
 /// The built-in collation that a token names.
-fn collation(alloc: Global, text: &str, token: &Token) -> Result<Built, Cause>
+fn collation(alloc: Global, text: &str, token: &Token) -> Result<Collation, Cause>
     ensures { Gives itself (collation_in (name_at text.now token.now) (collation_named (name_at text.now token.now))) result }
 {
     let name = name(alloc, text, token)?;
     match collation_named(name.as_bytes()) {
-        Some(built) => Ok(built),
+        Some(collation) => Ok(collation),
         None => Err(Cause::Unknown(NameKind::Collation, name)),
     }
 }
 
 /// An operand with this collation.
-fn collated(a: BoundPart, built: Built) -> BoundPart
-    ensures { whole result ≡ collated (whole a) built }
+fn collated(a: BoundPart, collation: Collation) -> BoundPart
+    ensures { whole result ≡ collated (whole a) collation }
 {
     BoundPart {
         tree: a.tree,
         affinity: a.affinity,
-        collation: Some(built),
+        explicit: Some(collation),
+        column: a.column,
         form: Form::Plain,
     }
 }
@@ -95,6 +97,6 @@ pub(crate) fn collate(
 ) -> Result<BoundPart, Cause>
     ensures { Gives whole (collate_bound (name_at text.now token.now) (collation_named (name_at text.now token.now)) (whole a)) result }
 {
-    let built = collation(alloc, text, token)?;
-    Ok(collated(a, built))
+    let found = collation(alloc, text, token)?;
+    Ok(collated(a, found))
 }

@@ -12,7 +12,7 @@ ghost use Rattle.bind_expr.specs.Parts.{bare, form_of, whole, unsplit};
 use crate::groups::Group;
 use crate::part::{BoundPart, Form, boxed_pair, or_binary, or_else, sides_of};
 use eng_value::{
-    Affinity, ArithmeticOp, BinaryOperator, Built, CompareOp, IntegerOp, Sides, UnaryOperator,
+    Affinity, ArithmeticOp, BinaryOperator, Collation, CompareOp, IntegerOp, Sides, UnaryOperator,
     Value,
 };
 use sql_meaning::{BoundExpr, Literal};
@@ -25,7 +25,7 @@ use std::alloc::{AllocError, Global};
 fn applied(alloc: Global, op: UnaryOperator, a: BoundPart) -> Result<BoundPart, AllocError>
     ensures { IfOk result (λ p. whole p ≡ over (whole a ∷ []) (e.Unary op a.tree)) }
 {
-    unary_over(alloc, op, a.tree, a.collation)
+    unary_over(alloc, op, a.tree, a.explicit)
 }
 
 /// An operator of the bound tree over a tree.
@@ -33,12 +33,12 @@ fn unary_over(
     alloc: Global,
     op: UnaryOperator,
     a: BoundExpr,
-    collation: Option<Built>,
+    explicit: Option<Collation>,
 ) -> Result<BoundPart, AllocError>
-    ensures { IfOk result (λ p. whole p ≡ bare collation (e.Unary op a)) }
+    ensures { IfOk result (λ p. whole p ≡ bare explicit (e.Unary op a)) }
 {
     let tree = BoundExpr::Unary(op, Boxed::new(alloc, a)?);
-    Ok(BoundPart::bare(collation, tree))
+    Ok(BoundPart::bare(explicit, tree))
 }
 
 /// A minus in front of its operand.
@@ -52,6 +52,20 @@ fn negative(alloc: Global, a: BoundPart) -> Result<BoundPart, AllocError>
     applied(alloc, UnaryOperator::Negative, a)
 }
 
+/// A plus in front of its operand, which takes the affinity off.
+#[tactic(auto, using(crate::proofs::Collations::overs))]
+fn positive(a: BoundPart) -> BoundPart
+    ensures { whole result ≡ unary_bound UnaryOp.Positive (whole a) }
+{
+    BoundPart {
+        tree: a.tree,
+        affinity: Affinity::None,
+        explicit: a.explicit,
+        column: a.column,
+        form: Form::Plain,
+    }
+}
+
 /// An operator in front of its operand, or a test behind it.
 #[tactic(auto, using(crate::proofs::Collations::overs))]
 pub(crate) fn unary(alloc: Global, op: UnaryOp, a: BoundPart) -> Result<BoundPart, AllocError>
@@ -59,7 +73,7 @@ pub(crate) fn unary(alloc: Global, op: UnaryOp, a: BoundPart) -> Result<BoundPar
 {
     match op {
         UnaryOp::Negative => negative(alloc, a),
-        UnaryOp::Positive => Ok(BoundPart::bare(a.collation, a.tree)),
+        UnaryOp::Positive => Ok(positive(a)),
         UnaryOp::BitNot => applied(alloc, UnaryOperator::BitNot, a),
         UnaryOp::Not => applied(alloc, UnaryOperator::Not, a),
         UnaryOp::IsNull => applied(alloc, UnaryOperator::IsNull, a),
@@ -77,9 +91,9 @@ fn joined(
 ) -> Result<BoundPart, AllocError>
     ensures { IfOk result (λ p. whole p ≡ joined op (whole a) (whole b)) }
 {
-    let collation = or_else(a.collation, b.collation);
+    let explicit = or_else(a.explicit, b.explicit);
     let (left, right) = boxed_pair(alloc, a.tree, b.tree)?;
-    Ok(BoundPart::bare(collation, BoundExpr::Binary(op, left, right)))
+    Ok(BoundPart::bare(explicit, BoundExpr::Binary(op, left, right)))
 }
 
 /// A comparison.
@@ -112,8 +126,8 @@ fn is_truth(
 ) -> Result<BoundPart, AllocError>
     ensures { IfOk result (λ p. whole p ≡ over (whole a ∷ whole b ∷ []) (e.Unary (unary.IsTruth wanted) a.tree)) }
 {
-    let collation = or_else(a.collation, b.collation);
-    unary_over(alloc, UnaryOperator::IsTruth(wanted), a.tree, collation)
+    let explicit = or_else(a.explicit, b.explicit);
+    unary_over(alloc, UnaryOperator::IsTruth(wanted), a.tree, explicit)
 }
 
 /// IS, which asks TRUE and FALSE for the truth.
@@ -199,9 +213,9 @@ pub(crate) fn between(
 {
     let above = sides_of(&a, &low);
     let below = sides_of(&a, &high);
-    let collation = or_else(a.collation, or_else(low.collation, high.collation));
+    let explicit = or_else(a.explicit, or_else(low.explicit, high.explicit));
     let tree = between_tree(alloc, above, below, a.tree, low.tree, high.tree)?;
-    Ok(BoundPart::bare(collation, tree))
+    Ok(BoundPart::bare(explicit, tree))
 }
 
 /// The tree of a BETWEEN.
@@ -245,9 +259,9 @@ fn like_escaped(
 ) -> Result<BoundPart, AllocError>
     ensures { IfOk result (λ p. whole p ≡ over (whole a ∷ whole b ∷ whole c ∷ []) (e.LikeEscaped a.tree b.tree c.tree)) }
 {
-    let collation = or_else(a.collation, or_else(b.collation, c.collation));
+    let explicit = or_else(a.explicit, or_else(b.explicit, c.explicit));
     let tree = escaped_tree(alloc, a.tree, b.tree, c.tree)?;
-    Ok(BoundPart::bare(collation, tree))
+    Ok(BoundPart::bare(explicit, tree))
 }
 
 /// The tree of a LIKE with an ESCAPE.
@@ -275,10 +289,10 @@ pub(crate) fn member(
     let sides = Sides {
         left: a.affinity,
         right: Affinity::None,
-        collation: or_binary(a.collation),
+        collation: or_binary(a.collation()),
     };
     let tree = BoundExpr::In(sides, Boxed::new(alloc, a.tree)?, others.items);
-    Ok(BoundPart::bare(or_else(a.collation, others.collation), tree))
+    Ok(BoundPart::bare(or_else(a.explicit, others.explicit), tree))
 }
 
 /// A cast to a type of this affinity.
@@ -290,7 +304,8 @@ pub(crate) fn cast(alloc: Global, to: Affinity, a: BoundPart) -> Result<BoundPar
     Ok(BoundPart {
         tree,
         affinity: to,
-        collation: a.collation,
+        explicit: a.explicit,
+        column: a.column,
         form: Form::Plain,
     })
 }

@@ -1,10 +1,9 @@
 // What is found of an expression whose names are bound.
 ghost use Rattle.std.specs.Prelude.{◌≡◌, unwrap_or, IfOk};
-ghost use Rattle.eng_value.specs.declared.built.Built.TheVariants as built;
-ghost use Rattle.sql_meaning.specs.Binding.{or_else, sides_of};
+ghost use Rattle.sql_meaning.specs.Binding.{by_bytes, collation_of, or_else, sides_of};
 ghost use Rattle.bind_expr.specs.Parts.{bare, caused, whole};
 
-use eng_value::{Affinity, Built, Cause, Sides};
+use eng_value::{Affinity, Built, Cause, Collation, Sides};
 use sql_meaning::BoundExpr;
 use sqlite_items::Boxed;
 use std::alloc::{AllocError, Global};
@@ -19,27 +18,36 @@ pub enum Form {
     Truth(bool),
 }
 
-/// An expression whose names are bound: its tree, its affinity, the collation of the leftmost COLLATE in it, and its form
-/// (Datatypes In SQLite, sections 3.2 and 7.1).
+/// An expression whose names are bound: its tree, its affinity, the collation of the leftmost COLLATE in it, that of the column that it
+/// is, and its form (Datatypes In SQLite, sections 3.2 and 7.1).
 #[derive(Drop)]
 pub struct BoundPart {
     pub tree: BoundExpr,
     pub affinity: Affinity,
-    pub collation: Option<Built>,
+    pub explicit: Option<Collation>,
+    pub column: Option<Collation>,
     pub form: Form,
 }
 
 impl BoundPart {
-    /// One over this tree, without an affinity.
-    pub(crate) fn bare(collation: Option<Built>, tree: BoundExpr) -> BoundPart
-        ensures { whole result ≡ bare collation tree }
+    /// One over this tree, without an affinity and no column.
+    pub(crate) fn bare(explicit: Option<Collation>, tree: BoundExpr) -> BoundPart
+        ensures { whole result ≡ bare explicit tree }
     {
         BoundPart {
             tree,
             affinity: Affinity::None,
-            collation,
+            explicit,
+            column: None,
             form: Form::Plain,
         }
+    }
+
+    /// The collation of its COLLATE, else of the column that it is.
+    pub(crate) fn collation(&self) -> Option<Collation>
+        ensures { result ≡ collation_of (whole self.now) }
+    {
+        or_else(self.explicit, self.column)
     }
 }
 
@@ -54,22 +62,22 @@ pub(crate) fn caused(made: Result<BoundPart, AllocError>) -> Result<BoundPart, C
 }
 
 /// The first collation, or else the second.
-pub(crate) fn or_else(first: Option<Built>, second: Option<Built>) -> Option<Built>
+pub(crate) fn or_else(first: Option<Collation>, second: Option<Collation>) -> Option<Collation>
     ensures { result ≡ or_else first second }
 {
     match first {
-        Some(built) => Some(built),
+        Some(collation) => Some(collation),
         None => second,
     }
 }
 
 /// A collation, or else BINARY.
-pub(crate) fn or_binary(collation: Option<Built>) -> Built
-    ensures { result ≡ unwrap_or collation built.Binary }
+pub(crate) fn or_binary(collation: Option<Collation>) -> Collation
+    ensures { result ≡ unwrap_or collation by_bytes }
 {
     match collation {
-        Some(built) => built,
-        None => Built::Binary,
+        Some(collation) => collation,
+        None => Collation::Built(Built::Binary),
     }
 }
 
@@ -87,13 +95,15 @@ pub(crate) fn boxed_pair(
     Ok((a, b))
 }
 
-/// How two operands are compared.
+/// How two operands are compared: a COLLATE comes before a column's collation, and of each the left side's first.
 pub(crate) fn sides_of(a: &BoundPart, b: &BoundPart) -> Sides
     ensures { result ≡ sides_of (whole a.now) (whole b.now) }
 {
+    let explicit = or_else(a.explicit, b.explicit);
+    let column = or_else(a.column, b.column);
     Sides {
         left: a.affinity,
         right: b.affinity,
-        collation: or_binary(or_else(a.collation, b.collation)),
+        collation: or_binary(or_else(explicit, column)),
     }
 }

@@ -1,5 +1,5 @@
 -- Tables by their names and by their places.
-use Rattle.std.proofs.Common.{◌≡◌, ℕ, Bool, true, false, if◌then◌else◌, List, Option, Some, None, Result, Ok, Err, slice_get, position, inl, inr, refl, sym, ap, ◌∙◌}
+use Rattle.std.proofs.Common.{◌≡◌, ℕ, ◌≤◌, ◌<◌, arith, length, slice_index_or, Bool, true, false, if◌then◌else◌, List, [], ◌∷◌, Option, Some, None, Result, Ok, Err, slice_get, position, inl, inr, refl, sym, ap, ◌∙◌}
 use Rattle.std.proofs.Math.Path.{fun_ext}
 use Rattle.std.proofs.lemmas.Option.{none-some, same_Some, get_or_from_slice_get}
 use Rattle.std.proofs.lemmas.List.Quantifiers.{position-Some}
@@ -9,13 +9,13 @@ use Rattle.eng_value.specs.declared.cause.NameKind.TheVariants as named
 use Rattle.sql_meaning.specs.Binding.{◌>>=◌}
 use Rattle.sql_meaning.specs.Names.{is_reserved_name, is_same_name}
 use Rattle.sql_meaning.specs.declared.column.TableEntry.{TableEntry}
-use Rattle.sql_meaning.specs.Statement.{found_table, from_table, is_free_name, is_new_table, table_named}
-use Rattle.sql_tree.specs.declared.token.Token.{Token}
-use Rattle.sql_meaning.specs.Spelled.{name_at}
+use Rattle.sql_meaning.specs.Statement.{found_table, from_table, is_free_name, is_new_table, items_from, source_table, table_named}
+use Rattle.sql_tree.specs.Layers.{of_item, of_source}
+use Rattle.sql_tree.specs.declared.query.FromItem.{FromItem}
 use Rattle.sql_meaning.specs.World.{entry_named}
 use Rattle.sql_meaning.proofs.LookUps.{position_finds}
 use Rattle.sql_meaning.proofs.NameLaws.{is_same_name-left}
-use Rattle.bind_stmt.specs.Binds.{IsFromAt, IsTableAt, place_named}
+use Rattle.bind_stmt.specs.Binds.{IsFromAt, IsOptionAt, IsTableAt, place_named}
 use Rattle.bind_stmt.specs.Steps.{entry_at}
 
 abbrev has_name : List ℕ → TableEntry → Bool
@@ -90,11 +90,27 @@ is_free_name-Some catalog name place t free is at =
 
 -- ---- the table of a FROM
 
-pub from_table-Some : (catalog : List TableEntry) (text : List ℕ) (token : Token) (t : TableEntry) → table_named catalog (name_at text token) ≡ Ok t → from_table catalog text (Some token) ≡ Ok (Some t)
-from_table-Some catalog text token t is = ap (λ r. r >>= λ entry. Ok (Some entry)) is
+pub from_table-one : (catalog : List TableEntry) (text : List ℕ) (items : List FromItem) (item : FromItem) (t : TableEntry) → 1 ≤ length items → length items < 2 → slice_index_or items 0 item ≡ item → source_table catalog text (of_source (of_item item).source) ≡ Ok t → from_table catalog text items ≡ Ok (Some t)
+from_table-one catalog text [] item t some few first is = absurd (omega arith)
+from_table-one catalog text (i ∷ []) item t some few first is =
+    ap (λ x. source_table catalog text (of_source (of_item x).source) >>= λ entry. Ok (Some entry)) first ∙ ap (λ r. r >>= λ entry. Ok (Some entry)) is
+from_table-one catalog text (i ∷ j ∷ items) item t some few first is = absurd (omega arith)
 
-pub entry_at-from : (catalog : List TableEntry) (table : Option TableEntry) (place : Option ℕ) → IsFromAt catalog table place → entry_at catalog place ≡ table
+pub entry_at-from : (catalog : List TableEntry) (table : Option TableEntry) (place : Option ℕ) → IsOptionAt catalog table place → entry_at catalog place ≡ table
 entry_at-from catalog None None is = refl
 entry_at-from catalog (Some t) (Some place) is = is.entry
 entry_at-from catalog None (Some place) is = absurd is
 entry_at-from catalog (Some t) None is = absurd is
+
+-- the item of a FROM is its table, of which nothing is ignored
+pub items_at-option : (catalog : List TableEntry) (table : Option TableEntry) (place : Option ℕ) → IsOptionAt catalog table place → IsFromAt catalog (items_from table) place
+items_at-option catalog None None is = tt
+items_at-option catalog (Some t) (Some place) is = (is, refl)
+items_at-option catalog None (Some place) is = absurd is
+items_at-option catalog (Some t) None is = absurd is
+
+pub option_at-items : (catalog : List TableEntry) (table : Option TableEntry) (place : Option ℕ) → IsFromAt catalog (items_from table) place → IsOptionAt catalog table place
+option_at-items catalog None None is = tt
+option_at-items catalog (Some t) (Some place) is = is.0
+option_at-items catalog None (Some place) is = absurd is
+option_at-items catalog (Some t) None is = absurd is

@@ -3,4 +3,4 @@ pub mod Entries
 pub mod Listing
 pub mod Putting
 pub mod Sizing
-pub mod Shapes
+pub mod Whole

@@ -1,18 +1,28 @@
 -- How large what is bound is.
-use Rattle.std.proofs.Common.{◌≡◌, ℕ, zero, suc, Bool, true, false, if◌then◌else◌, codes, ◌+◌, ◌*◌, ◌≤◌, List, [], ◌∷◌, ◌++◌, length, map, nat_eq, Option, Some, None, Result, Ok, Err, inl, inr, refl, sym, ap, ◌∙◌, arith, length-append}
+use Rattle.std.proofs.Common.{◌≡◌, ℕ, zero, suc, Bool, true, false, if◌then◌else◌, codes, ◌+◌, ◌*◌, ◌≤◌, List, [], ◌∷◌, ◌++◌, length, map, nat_eq, Option, Some, None, Result, Ok, Err, inl, inr, refl, sym, ap, subst, ◌∙◌, arith, length-append}
 use Rattle.std.proofs.lemmas.List.{length-map}
 use Rattle.std.proofs.lemmas.Bool.Decides.{leb_tells}
 use Rattle.eng_value.specs.declared.cause.Cause.{Cause}
 use Rattle.eng_value.specs.declared.cause.Cause.TheVariants as cause
 use Rattle.eng_value.specs.declared.cause.LimitKind.TheVariants as limit
 use Rattle.eng_value.specs.declared.limits.TheConstants.{MAX_COLUMNS}
-use Rattle.sql_tree.specs.Sizes.{total, result_size, size_of_filter, size_of_result}
+use Rattle.sql_tree.specs.Layers.{PartLayer, ResultLayer, SelectLayer, of_part, of_query, of_result, of_select}
+use Rattle.sql_tree.specs.Sizes.{total, part_size, result_size, select_size, size_of_command, size_of_definition, size_of_filter, size_of_from, size_of_query, size_of_result, size_of_row, size_of_rows, size_of_source}
 use Rattle.sql_tree.specs.declared.expr.Expr.{Expr}
-use Rattle.sql_tree.specs.Layers.{ResultLayer, of_result}
-use Rattle.sql_tree.specs.declared.expr.Expr.TheOpen.{ResultColumn-F}
+use Rattle.sql_tree.specs.declared.expr.Expr.TheOpen.{QueryPart-F, ResultColumn-F}
+use Rattle.sql_tree.specs.declared.query.FromItem.{FromItem}
 use Rattle.sql_tree.specs.declared.query.ResultColumn.{ResultColumn}
+use Rattle.sql_tree.specs.declared.statement.Command.{Command}
+use Rattle.sql_tree.specs.declared.statement.Command.TheVariants as command
+use Rattle.sql_tree.specs.declared.statement.Definition.{Definition}
+use Rattle.sql_tree.specs.declared.statement.Definition.TheVariants as definition
+use Rattle.sql_tree.specs.declared.statement.Insert.{Insert}
+use Rattle.sql_tree.specs.declared.statement.InsertSource.{InsertSource}
+use Rattle.sql_tree.specs.declared.statement.InsertSource.TheVariants as source
+use Rattle.sql_tree.specs.declared.statement.RowCommand.{RowCommand}
+use Rattle.sql_tree.specs.declared.statement.RowCommand.TheVariants as rows_by
 use Rattle.sql_meaning.specs.Built.{signed_of}
-use Rattle.sql_meaning.specs.Shapes.{Insert, Select}
+use Rattle.sql_meaning.specs.BoundStatements.{BoundStatement, Creates, Put, Puts, Queries, Query}
 use Rattle.sql_meaning.specs.declared.bound.BoundExpr.{BoundExpr}
 use Rattle.sql_meaning.specs.declared.bound.BoundInsert.{BoundInsert}
 use Rattle.sql_meaning.specs.declared.bound.BoundSelect.{BoundSelect}
@@ -22,10 +32,13 @@ use Rattle.sql_meaning.specs.declared.column.TableEntry.{TableEntry}
 use Rattle.sql_meaning.specs.Binding.{◌>>=◌, Scope, bound_of, in_turn}
 use Rattle.sql_meaning.specs.Sizes.{all_nodes}
 use Rattle.sql_meaning.specs.Spelled.{name_at}
-use Rattle.sql_meaning.specs.Statement.{Put, Query, all_columns, columns_from, conjuncts_of, fitting, from_table, put_of, query_in, query_of, literal_in, result_of, result_shown, results_behind, row_of, rows_in, table_named, width_of, within_columns}
+use Rattle.sql_meaning.specs.Statement.{all_columns, columns_from, command_bound, conjuncts_of, created_entry, fitting, from_table, items_from, literal_in, part_bound, part_rows, put_bound, query_in, result_of, result_shown, results_behind, row_of, rows_bound, select_bound, source_rows, table_named, width_of, within_columns}
 use Rattle.bind_expr.proofs.SizeLaws.{all_nodes-append, conjunct_nodes, nodes-Column, tree_nodes}
-use Rattle.bind_stmt.specs.Binds.{IsFromAt, IsPutAt, IsQueryAt}
-use Rattle.bind_stmt.specs.Small.{IsSmallQuery, columns_at, columns_of}
+use Rattle.bind_stmt.specs.declared.statement.Bound.{Bound}
+use Rattle.bind_stmt.specs.declared.statement.Bound.TheVariants as bound
+use Rattle.bind_stmt.specs.Binds.{IsBound, IsFromAt, IsOptionAt, IsPutAt, IsQueryAt}
+use Rattle.bind_stmt.specs.Small.{IsSmall, IsSmallQuery, columns_at, columns_of, from_size, row_size}
+use Rattle.bind_stmt.proofs.Entries.{option_at-items}
 use Rattle.bind_stmt.proofs.Results.{found}
 
 same_Ok : {A : Type 0} (x y : A) → let r : Result A Cause = Ok x in r ≡ Ok y → x ≡ y
@@ -129,35 +142,50 @@ filter_nodes s (Some x) conjuncts h =
     let same : w.0.conjuncts ≡ conjuncts = same_Ok _ _ w.2 in
     rw (← same) (conjunct_nodes x s w.0 w.1)
 
-columns_at-from : (catalog : List TableEntry) (table : Option TableEntry) (place : Option ℕ) → IsFromAt catalog table place → columns_at catalog place ≡ columns_of table
+columns_at-from : (catalog : List TableEntry) (table : Option TableEntry) (place : Option ℕ) → IsOptionAt catalog table place → columns_at catalog place ≡ columns_of table
 columns_at-from catalog None None is = refl
 columns_at-from catalog (Some t) (Some place) is = ap columns_of is.entry
 columns_at-from catalog None (Some place) is = absurd is
 columns_at-from catalog (Some t) None is = absurd is
 
+from_sized : (catalog : List TableEntry) (text : List ℕ) (items : List FromItem) (table : Option TableEntry) (place : Option ℕ) → from_table catalog text items ≡ Ok table → IsOptionAt catalog table place → from_size place ≤ size_of_from items
+from_sized catalog text [] None None h is = omega arith
+from_sized catalog text [] None (Some place) h is = absurd is
+from_sized catalog text [] (Some t) place h is = absurd (let none : None ≡ Some t = same_Ok None (Some t) h in cc)
+from_sized catalog text (item ∷ []) table None h is = omega arith
+from_sized catalog text (item ∷ []) table (Some place) h is = omega arith
+from_sized catalog text (item ∷ other ∷ items) table place h is = absurd (let bad : Err cause.NotYet ≡ Ok table = h in cc)
+
 -- a query is small
-pub query_small : (catalog : List TableEntry) (text : List ℕ) (s : Select) (q : Query) (b : BoundSelect) → query_of catalog text s ≡ Ok q → IsQueryAt catalog q b → IsSmallQuery catalog s b
-query_small catalog text s q b h is =
+select_small : (catalog : List TableEntry) (text : List ℕ) (s : SelectLayer) (q : Query) (b : BoundSelect) → select_bound catalog text s ≡ Ok q → IsQueryAt catalog q b → IsSmallQuery catalog (select_size s) b
+select_small catalog text s q b h is =
     let f = found (from_table catalog text s.from) (λ table. query_in (record { text = text; table = table }) s) q h in
     let scope : Scope = record { text = text; table = f.0 } in
-    let c = found (conjuncts_of scope s.filter) (λ conjuncts. results_behind scope [] s.results >>= λ rs. Ok (record { table = scope.table; conjuncts = conjuncts; results = rs })) q f.2 in
-    let r = found (results_behind scope [] s.results) (λ rs. Ok (record { table = scope.table; conjuncts = c.0; results = rs })) q c.2 in
-    let made : Query = record { table = f.0; conjuncts = c.0; results = r.0 } in
+    let c = found (conjuncts_of scope s.filter) (λ conjuncts. results_behind scope [] s.results >>= λ rs. Ok (record { from = items_from scope.table; conjuncts = conjuncts; results = rs })) q f.2 in
+    let r = found (results_behind scope [] s.results) (λ rs. Ok (record { from = items_from scope.table; conjuncts = c.0; results = rs })) q c.2 in
+    let made : Query = record { from = items_from f.0; conjuncts = c.0; results = r.0 } in
     let same : made ≡ q = same_Ok made q r.2 in
-    let table : columns_of f.0 ≡ columns_at catalog b.table =
-    ap (λ (x : Query). columns_of x.table) same ∙ sym (columns_at-from catalog q.table b.table is.table) in
+    let at : IsOptionAt catalog f.0 b.table = option_at-items catalog f.0 b.table (subst (λ (x : Query). IsFromAt catalog x.from b.table) (sym same) is.from) in
+    let table : columns_of f.0 ≡ columns_at catalog b.table = sym (columns_at-from catalog f.0 b.table at) in
     let conjuncts : c.0 ≡ b.conjuncts = ap (λ (x : Query). x.conjuncts) same ∙ sym is.conjuncts in
     let shows : r.0 ≡ b.results = ap (λ (x : Query). x.results) same ∙ sym is.results in
     let all = results scope [] s.results r.0 r.1 in
     let most : length r.0 ≤ 100 = all.most (omega arith) in
     let stars_most : stars (columns_of f.0) s.results ≤ 100 = omega (arith, all.count, most) in
     record {
-      conjuncts = rw (← conjuncts) (filter_nodes scope s.filter c.0 c.1);
+      filter = size_of_filter s.filter;
+      shown = total (map size_of_result s.results);
       stars = stars (columns_of f.0) s.results;
+      within = omega (arith, from_sized catalog text s.from f.0 b.table f.1 at);
+      conjuncts = rw (← conjuncts) (filter_nodes scope s.filter c.0 c.1);
       hundred = stars_most;
       of_table = rw (← table) (stars_of_table (columns_of f.0) s.results stars_most);
       results = rw (← shows) (omega (arith, all.nodes));
     }
+
+part_small : (catalog : List TableEntry) (text : List ℕ) (p : PartLayer) (q : Query) (b : BoundSelect) → part_bound catalog text p ≡ Ok q → IsQueryAt catalog q b → IsSmallQuery catalog (part_size p) b
+part_small catalog text (QueryPart-F.Select s) q b h is = select_small catalog text (of_select s) q b h is
+part_small catalog text (QueryPart-F.Values rows) q b h is = absurd (let bad : Err cause.NotYet ≡ Ok q = h in cc)
 
 -- ---- rows of literals
 
@@ -195,12 +223,72 @@ rows_length text width (row ∷ rows) all h =
 put_rows : (t : TableEntry) (rows : List (List Literal)) (p : Put) → let r : Result Put Cause = Ok (record { table = t; rows = rows }) in r ≡ Ok p → rows ≡ p.rows
 put_rows t rows p h = ap (λ (x : Put). x.rows) (same_Ok (record { table = t; rows = rows }) p h)
 
--- the rows are as long as they are written
-pub put_small : (catalog : List TableEntry) (text : List ℕ) (i : Insert) (p : Put) (b : BoundInsert) → put_of catalog text i ≡ Ok p → IsPutAt catalog p b → map length b.rows ≡ map length i.rows
+-- as large as they are written
+sizes : (all : List (List Literal)) (rows : List (List Expr)) → map length all ≡ map length rows → total (map row_size all) ≡ total (map size_of_row rows)
+sizes [] [] same = refl
+sizes [] (row ∷ rows) same = absurd (cc)
+sizes (r ∷ all) [] same = absurd (cc)
+sizes (r ∷ all) (row ∷ rows) same =
+    let one : length r ≡ length row = cc in
+    let rest : map length all ≡ map length rows = cc in
+    omega (arith, one, sizes all rows rest)
+
+part_sized : (text : List ℕ) (p : PartLayer) (all : List (List Literal)) → part_rows text p ≡ Ok all → total (map row_size all) ≤ part_size p
+part_sized text (QueryPart-F.Values rows) all h = omega (arith, sizes all rows (rows_length text (width_of rows) rows all h))
+part_sized text (QueryPart-F.Select s) all h = absurd (let bad : Err cause.NotYet ≡ Ok all = h in cc)
+
+source_sized : (text : List ℕ) (s : InsertSource) (all : List (List Literal)) → source_rows text s ≡ Ok all → total (map row_size all) ≤ size_of_source s
+source_sized text (source.Query q) all h = part_sized text (of_part (of_query q).first) all h
+source_sized text source.Defaults all h = absurd (let bad : Err cause.NotYet ≡ Ok all = h in cc)
+
+put_small : (catalog : List TableEntry) (text : List ℕ) (i : Insert) (p : Put) (b : BoundInsert) → put_bound catalog text i ≡ Ok p → IsPutAt catalog p b → total (map row_size b.rows) ≤ size_of_source i.source
 put_small catalog text i p b h is =
-    let t = found (table_named catalog (name_at text i.table)) (λ t. rows_in text i.rows >>= λ rows. fitting t rows >>= λ rows. Ok (record { table = t; rows = rows })) p h in
-    let r = found (rows_in text i.rows) (λ rows. fitting t.0 rows >>= λ rows. Ok (record { table = t.0; rows = rows })) p t.2 in
+    let t = found (table_named catalog (name_at text i.table)) (λ t. source_rows text i.source >>= λ rows. fitting t rows >>= λ rows. Ok (record { table = t; rows = rows })) p h in
+    let r = found (source_rows text i.source) (λ rows. fitting t.0 rows >>= λ rows. Ok (record { table = t.0; rows = rows })) p t.2 in
     let f = found (fitting t.0 r.0) (λ rows. Ok (record { table = t.0; rows = rows })) p r.2 in
     let fits : r.0 ≡ f.0 = chosen (nat_eq (width_of r.0) (length t.0.columns)) r.0 f.0 (cause.Arity t.0.name) f.1 in
     let put : r.0 ≡ b.rows = fits ∙ put_rows t.0 f.0 p f.2 ∙ sym is.rows in
-    rw (← put) (rows_length text (width_of i.rows) i.rows r.0 r.1)
+    rw (← put) (source_sized text i.source r.0 r.1)
+
+-- ---- whatever is bound
+
+query_small : (catalog : List TableEntry) (q : Query) (n : ℕ) (b : Bound) → ((s : BoundSelect) → IsQueryAt catalog q s → IsSmallQuery catalog n s) → IsBound catalog (Queries q) b → IsSmall catalog n b
+query_small catalog q n (bound.Select s) small is = small s is
+query_small catalog q n (bound.Insert i) small is = absurd is
+query_small catalog q n (bound.CreateTable t) small is = absurd is
+
+insert_small : (catalog : List TableEntry) (p : Put) (n : ℕ) (b : Bound) → ((i : BoundInsert) → IsPutAt catalog p i → 2 + total (map row_size i.rows) ≤ n) → IsBound catalog (Puts p) b → IsSmall catalog n b
+insert_small catalog p n (bound.Insert i) small is = small i is
+insert_small catalog p n (bound.Select s) small is = absurd is
+insert_small catalog p n (bound.CreateTable t) small is = absurd is
+
+create_small : (catalog : List TableEntry) (t : TableEntry) (d : Definition) (b : Bound) → IsBound catalog (Creates t) b → IsSmall catalog (size_of_definition d) b
+create_small catalog t (definition.Table d) (bound.CreateTable e) is = omega arith
+create_small catalog t (definition.Index d) (bound.CreateTable e) is = omega arith
+create_small catalog t (definition.View d) (bound.CreateTable e) is = omega arith
+create_small catalog t (definition.Trigger d) (bound.CreateTable e) is = omega arith
+create_small catalog t (definition.VirtualTable d) (bound.CreateTable e) is = omega arith
+create_small catalog t d (bound.Insert i) is = absurd is
+create_small catalog t d (bound.Select s) is = absurd is
+
+rows_small : (catalog : List TableEntry) (text : List ℕ) (r : RowCommand) (x : BoundStatement) (b : Bound) → rows_bound catalog text r ≡ Ok x → IsBound catalog x b → IsSmall catalog (size_of_rows r) b
+rows_small catalog text (rows_by.Query q) x b h is =
+    let m = found (part_bound catalog text (of_part (of_query q).first)) (λ query. Ok (Queries query)) x h in
+    let same : Queries m.0 ≡ x = same_Ok (Queries m.0) x m.2 in
+    query_small catalog m.0 (size_of_query q) b (λ s at. part_small catalog text (of_part (of_query q).first) m.0 s m.1 at) (subst (λ y. IsBound catalog y b) (sym same) is)
+rows_small catalog text (rows_by.Insert i) x b h is =
+    let m = found (put_bound catalog text i) (λ put. Ok (Puts put)) x h in
+    let same : Puts m.0 ≡ x = same_Ok (Puts m.0) x m.2 in
+    insert_small catalog m.0 (2 + size_of_source i.source) b (λ s at. omega (arith, put_small catalog text i m.0 s m.1 at)) (subst (λ y. IsBound catalog y b) (sym same) is)
+rows_small catalog text (rows_by.Update u) x b h is = absurd (let bad : Err cause.NotYet ≡ Ok x = h in cc)
+rows_small catalog text (rows_by.Delete d) x b h is = absurd (let bad : Err cause.NotYet ≡ Ok x = h in cc)
+
+pub command_small : (catalog : List TableEntry) (text : List ℕ) (tokens : ℕ) (c : Command) (x : BoundStatement) (b : Bound) → command_bound catalog text tokens c ≡ Ok x → IsBound catalog x b → IsSmall catalog (size_of_command c) b
+command_small catalog text tokens (command.Rows r) x b h is = rows_small catalog text r x b h is
+command_small catalog text tokens (command.Create c) x b h is =
+    let m = found (created_entry catalog text tokens c.name c.definition) (λ entry. Ok (Creates entry)) x h in
+    let same : Creates m.0 ≡ x = same_Ok (Creates m.0) x m.2 in
+    create_small catalog m.0 c.definition b (subst (λ y. IsBound catalog y b) (sym same) is)
+command_small catalog text tokens (command.Remove r) x b h is = absurd (let bad : Err cause.NotYet ≡ Ok x = h in cc)
+command_small catalog text tokens (command.Transaction t) x b h is = absurd (let bad : Err cause.NotYet ≡ Ok x = h in cc)
+command_small catalog text tokens (command.Pragma p) x b h is = absurd (let bad : Err cause.NotYet ≡ Ok x = h in cc)

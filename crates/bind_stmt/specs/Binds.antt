@@ -1,16 +1,16 @@
 -- How what was bound, with tables by their places, stands to what the definitions bind.
-use Rattle.std.specs.Prelude.{◌≡◌, ◌⊎◌, ⊤, true, false, ℕ, List, map, position, slice_get, Option, Some, None, Result, Ok, Err}
+use Rattle.std.specs.Prelude.{◌≡◌, ◌⊎◌, ⊤, ℕ, List, [], ◌∷◌, map, position, slice_get, Option, Some, None, Result, Ok, Err}
 use Rattle.eng_value.specs.declared.cause.Cause.{Cause}
-use Rattle.eng_value.specs.declared.cause.Cause.TheVariants.{Mem, NotYet}
+use Rattle.eng_value.specs.declared.cause.Cause.TheVariants.{Mem}
+use Rattle.sql_tree.specs.Sizes.{size_of_statement}
 use Rattle.sql_tree.specs.declared.statement.Statement.{Statement}
 use Rattle.sql_meaning.specs.declared.bound.BoundInsert.{BoundInsert}
 use Rattle.sql_meaning.specs.declared.bound.BoundSelect.{BoundSelect}
 use Rattle.sql_meaning.specs.declared.column.Column.{Column}
 use Rattle.sql_meaning.specs.declared.column.TableEntry.{TableEntry}
-use Rattle.sql_meaning.specs.Built.{built_of}
-use Rattle.sql_meaning.specs.Shapes.{Built, Creates, Inserts, Selects}
+use Rattle.sql_meaning.specs.BoundStatements.{BoundStatement, Creates, FromItem, Put, Puts, Queries, Query}
 use Rattle.sql_meaning.specs.Names.{is_same_name}
-use Rattle.sql_meaning.specs.Statement.{Query, Put, created_entry, put_of, query_of}
+use Rattle.sql_meaning.specs.Statement.{statement_bound}
 use Rattle.bind_stmt.specs.Small.{IsSmall}
 use Rattle.bind_stmt.specs.declared.statement.Bound.{Bound}
 use Rattle.bind_stmt.specs.declared.statement.Bound.TheVariants as bound
@@ -42,13 +42,20 @@ pub record IsTableAt (catalog : List TableEntry) (place : ℕ) (t : TableEntry) 
   pub entry : slice_get catalog place ≡ Some t
   pub first : place_named catalog t.name ≡ Some place
 
-abbrev pub IsFromAt : List TableEntry → Option TableEntry → Option ℕ → Type 0
-IsFromAt catalog None None = ⊤
-IsFromAt catalog (Some t) (Some place) = IsTableAt catalog place t
+-- a table and a place, or neither
+abbrev pub IsOptionAt : List TableEntry → Option TableEntry → Option ℕ → Type 0
+IsOptionAt catalog None None = ⊤
+IsOptionAt catalog (Some t) (Some place) = IsTableAt catalog place t
+IsOptionAt catalog _ _ = ⊥
+
+-- no item, or one of which nothing is ignored
+abbrev pub IsFromAt : List TableEntry → List FromItem → Option ℕ → Type 0
+IsFromAt catalog [] None = ⊤
+IsFromAt catalog (i ∷ []) (Some place) = IsTableAt catalog place i.table × (i.ignored ≡ [])
 IsFromAt catalog _ _ = ⊥
 
 pub record IsQueryAt (catalog : List TableEntry) (q : Query) (b : BoundSelect) : Type 0 where
-  pub table : IsFromAt catalog q.table b.table
+  pub from : IsFromAt catalog q.from b.table
   pub conjuncts : b.conjuncts ≡ q.conjuncts
   pub results : b.results ≡ q.results
 
@@ -60,24 +67,17 @@ pub record IsPutAt (catalog : List TableEntry) (p : Put) (b : BoundInsert) : Typ
 
 -- ---- statements
 
--- what is built is bound so
-abbrev pub IsBound : List TableEntry → List ℕ → ℕ → Built → Bound → Type 0
-IsBound catalog text tokens (Creates c) (bound.CreateTable t) = created_entry catalog text tokens c ≡ Ok t
-IsBound catalog text tokens (Inserts i) (bound.Insert b) = (p : Put) × (put_of catalog text i ≡ Ok p) × IsPutAt catalog p b
-IsBound catalog text tokens (Selects s) (bound.Select b) = (q : Query) × (query_of catalog text s ≡ Ok q) × IsQueryAt catalog q b
-IsBound catalog text tokens _ _ = ⊥
+-- what is bound is told so
+abbrev pub IsBound : List TableEntry → BoundStatement → Bound → Type 0
+IsBound catalog (Creates t) (bound.CreateTable e) = e ≡ t
+IsBound catalog (Puts p) (bound.Insert b) = IsPutAt catalog p b
+IsBound catalog (Queries q) (bound.Select b) = IsQueryAt catalog q b
+IsBound catalog _ _ = ⊥
 
--- it is refused for this cause, or memory is wanting
-abbrev pub IsRefused : List TableEntry → List ℕ → ℕ → Built → Cause → Type 0
-IsRefused catalog text tokens (Creates c) why = IsRefusal (created_entry catalog text tokens c) why
-IsRefused catalog text tokens (Inserts i) why = IsRefusal (put_of catalog text i) why
-IsRefused catalog text tokens (Selects s) why = IsRefusal (query_of catalog text s) why
+-- the statement is bound, and what it is bound to is small beside its tree; or it is refused; and memory may be wanting
+abbrev pub BindsTo : List TableEntry → ℕ → Result BoundStatement Cause → Result Bound Cause → Type 0
+BindsTo catalog size meant (Ok b) = (x : BoundStatement) × (meant ≡ Ok x) × IsBound catalog x b × IsSmall catalog size b
+BindsTo catalog size meant (Err why) = IsRefusal meant why
 
--- what is built is bound, and then is small, or refused; what is not is refused as not built; and memory may be wanting
-unfoldable pub BindsTo : List TableEntry → List ℕ → ℕ → Option Built → Result Bound Cause → Type 0
-BindsTo catalog text tokens o (Ok b) = (x : Built) × (o ≡ Some x) × IsBound catalog text tokens x b × IsSmall catalog x b
-BindsTo catalog text tokens o (Err why) =
-    (why ≡ Mem) ⊎ (((why ≡ NotYet) × (o ≡ None)) ⊎ ((x : Built) × (o ≡ Some x) × IsRefused catalog text tokens x why))
-
-abbrev pub Binds : List TableEntry → List ℕ → ℕ → Statement → Result Bound Cause → Type 0
-Binds catalog text tokens s r = BindsTo catalog text tokens (built_of text s) r
+unfoldable pub Binds : List TableEntry → List ℕ → ℕ → Statement → Result Bound Cause → Type 0
+Binds catalog text tokens s r = BindsTo catalog (size_of_statement s) (statement_bound catalog text tokens s) r

@@ -1,15 +1,83 @@
-// Which queries are built.
+// Which statements are built.
 ghost use Rattle.std.specs.Prelude.{◌≡◌};
 ghost use Rattle.std.specs.List.{list_all};
-ghost use Rattle.sql_meaning.specs.Built.{is_built_filter, is_built_result};
-ghost use Rattle.sql_meaning.specs.Shapes.{stands_alone, table_of_item};
-ghost use Rattle.sql_tree.specs.Layers.{of_item, of_query};
+ghost use Rattle.sql_meaning.specs.Built.{are_built_rows, is_built, is_built_column, is_built_command, is_built_create, is_built_definition, is_built_filter, is_built_from, is_built_insert, is_built_item, is_built_part, is_built_query, is_built_result, is_built_rows, is_built_rows_source, is_built_select, is_built_source, is_built_table, is_built_values, is_plain_select, is_signed, stands_alone};
+ghost use Rattle.sql_tree.specs.Layers.{of_item, of_part, of_query, of_select, of_source};
 
-use bind_expr::is_built as is_built_expr;
-use sql_tree::{Expr, FromItem, Query, ResultColumn, Source, Token};
+use bind_expr::{is_built as is_built_expr, signed_of};
+use sql_tree::{
+    ColumnDefinition, Command, ConflictChoice, Create, Definition, Expr, FromItem, Insert,
+    InsertSource, Query, QueryPart, ResultColumn, RowCommand, SelectCore, Source, Statement,
+    TableDefinition,
+};
+use sqlite_items::Items;
+
+/// Whether all of a statement is built.
+pub(crate) fn is_built(text: &str, statement: &Statement) -> bool
+    ensures { result ≡ is_built text.now statement.now }
+{
+    statement.explain.is_none() && is_built_command(text, &statement.command)
+}
+
+fn is_built_command(text: &str, command: &Command) -> bool
+    ensures { result ≡ is_built_command text.now command.now }
+{
+    match command {
+        Command::Rows(rows) => is_built_rows(text, rows),
+        Command::Create(create) => is_built_create(create),
+        Command::Remove(_) | Command::Transaction(_) | Command::Pragma(_) => false,
+    }
+}
+
+fn is_built_rows(text: &str, command: &RowCommand) -> bool
+    ensures { result ≡ is_built_rows text.now command.now }
+{
+    match command {
+        RowCommand::Query(query) => is_built_query(text, query),
+        RowCommand::Insert(insert) => is_built_insert(insert),
+        RowCommand::Update(_) | RowCommand::Delete(_) => false,
+    }
+}
+
+// ---- CREATE
+
+fn is_built_create(create: &Create) -> bool
+    ensures { result ≡ is_built_create create.now }
+{
+    !create.if_not_exists && is_built_definition(&create.definition)
+}
+
+fn is_built_definition(definition: &Definition) -> bool
+    ensures { result ≡ is_built_definition definition.now }
+{
+    match definition {
+        Definition::Table(table) => is_built_table(table),
+        _ => false,
+    }
+}
+
+fn is_built_table(table: &TableDefinition) -> bool
+    ensures { result ≡ is_built_table table.now }
+{
+    table.constraints.is_empty() && are_built_columns(table.columns.as_slice())
+}
+
+fn are_built_columns(columns: &[ColumnDefinition]) -> bool
+    ensures { result ≡ list_all is_built_column columns.now }
+{
+    columns.iter().all(|column| is_built_column(column))
+}
+
+fn is_built_column(column: &ColumnDefinition) -> bool
+    ensures { result ≡ is_built_column column.now }
+{
+    column.constraints.is_empty()
+}
+
+// ---- queries
 
 /// Whether a query has no WITH, one part, no ORDER BY and no LIMIT.
-pub(crate) fn stands_alone(query: &Query) -> bool
+fn stands_alone(query: &Query) -> bool
     ensures { result ≡ stands_alone (of_query query.now) }
 {
     query.with.is_empty()
@@ -18,28 +86,69 @@ pub(crate) fn stands_alone(query: &Query) -> bool
         && query.limit.is_none()
 }
 
-/// The table that an item of FROM is, where it is one by its name alone.
-pub(crate) fn table_of_item(item: &FromItem) -> Option<Token>
-    ensures { result ≡ table_of_item (of_item item.now) }
+fn is_built_query(text: &str, query: &Query) -> bool
+    ensures { result ≡ is_built_query text.now (of_query query.now) }
 {
-    if item.alias.is_some() {
-        return None;
-    }
-    match &item.source {
-        Source::Table(table, None) => Some(*table),
-        Source::Table(_, Some(_)) => None,
-        Source::Derived(_) => None,
+    stands_alone(query) && is_built_part(text, &query.first)
+}
+
+fn is_built_part(text: &str, part: &QueryPart) -> bool
+    ensures { result ≡ is_built_part text.now (of_part part.now) }
+{
+    match part {
+        QueryPart::Select(core) => is_built_select(text, core),
+        QueryPart::Values(_) => false,
     }
 }
 
-/// Whether all of each result column is built.
-pub(crate) fn are_built_results(text: &str, columns: &[ResultColumn]) -> bool
+fn is_built_select(text: &str, core: &SelectCore) -> bool
+    ensures { result ≡ is_built_select text.now (of_select core.now) }
+{
+    is_plain_select(core)
+        && is_built_from(core.from.as_slice())
+        && are_built_results(text, core.results.as_slice())
+        && is_built_filter(text, &core.filter)
+}
+
+/// Whether there is no DISTINCT, no GROUP BY and no HAVING.
+fn is_plain_select(core: &SelectCore) -> bool
+    ensures { result ≡ is_plain_select (of_select core.now) }
+{
+    !core.distinct && core.group_by.is_empty() && core.having.is_none()
+}
+
+fn is_built_from(items: &[FromItem]) -> bool
+    ensures { result ≡ is_built_from items.now }
+{
+    match items {
+        [] => true,
+        [item] => is_built_item(item),
+        _ => false,
+    }
+}
+
+fn is_built_item(item: &FromItem) -> bool
+    ensures { result ≡ is_built_item (of_item item.now) }
+{
+    item.alias.is_none() && is_built_source(&item.source)
+}
+
+fn is_built_source(source: &Source) -> bool
+    ensures { result ≡ is_built_source (of_source source.now) }
+{
+    match source {
+        Source::Table(_, None) => true,
+        Source::Table(_, Some(_)) => false,
+        Source::Derived(_) => false,
+    }
+}
+
+fn are_built_results(text: &str, columns: &[ResultColumn]) -> bool
     ensures { result ≡ list_all (is_built_result text.now) columns.now }
 {
     columns.iter().all(|column| is_built_result(text, column))
 }
 
-/// Whether all of a result column is.
 fn is_built_result(text: &str, column: &ResultColumn) -> bool
     ensures { result ≡ is_built_result text.now column.now }
 {
@@ -51,12 +160,58 @@ fn is_built_result(text: &str, column: &ResultColumn) -> bool
     }
 }
 
-/// Whether all of a WHERE is.
-pub(crate) fn is_built_filter(text: &str, filter: &Option<Expr>) -> bool
+fn is_built_filter(text: &str, filter: &Option<Expr>) -> bool
     ensures { result ≡ is_built_filter text.now filter.now }
 {
     match filter {
         Some(e) => is_built_expr(text, e),
         None => true,
     }
+}
+
+// ---- INSERT
+
+fn is_built_insert(insert: &Insert) -> bool
+    ensures { result ≡ is_built_insert insert.now }
+{
+    insert.columns.is_empty()
+        && insert.choice == ConflictChoice::Abort
+        && is_built_rows_source(&insert.source)
+}
+
+fn is_built_rows_source(source: &InsertSource) -> bool
+    ensures { result ≡ is_built_rows_source source.now }
+{
+    match source {
+        InsertSource::Query(query) => is_built_values(query),
+        InsertSource::Defaults => false,
+    }
+}
+
+fn is_built_values(query: &Query) -> bool
+    ensures { result ≡ is_built_values (of_query query.now) }
+{
+    stands_alone(query) && are_built_rows(&query.first)
+}
+
+fn are_built_rows(part: &QueryPart) -> bool
+    ensures { result ≡ are_built_rows (of_part part.now) }
+{
+    match part {
+        QueryPart::Select(_) => false,
+        QueryPart::Values(rows) => are_signed(rows.as_slice()),
+    }
+}
+
+/// Whether all values of all rows are literals, with a sign or without.
+fn are_signed(rows: &[Items<Expr>]) -> bool
+    ensures { result ≡ list_all (list_all is_signed) rows.now }
+{
+    rows.iter().all(|row| is_signed_row(row.as_slice()))
+}
+
+fn is_signed_row(row: &[Expr]) -> bool
+    ensures { result ≡ list_all is_signed row.now }
+{
+    row.iter().all(|value| signed_of(value).is_some())
 }

@@ -1,90 +1,43 @@
 // CREATE TABLE.
-ghost use Rattle.std.specs.Prelude.{◌≡◌, ◌&&◌, [], IfOk};
-ghost use Rattle.std.specs.List.{list_all};
-ghost use Rattle.bind_stmt.specs.Binds.{Answers, BindsTo};
+ghost use Rattle.std.specs.Prelude.{◌≡◌, [], IfOk};
+ghost use Rattle.bind_stmt.specs.Binds.{Answers};
 ghost use Rattle.bind_stmt.specs.Steps.{Becomes};
-ghost use Rattle.sql_meaning.specs.Built.{where_built};
 ghost use Rattle.sql_meaning.specs.Names.{is_reserved_name};
-ghost use Rattle.sql_meaning.specs.Shapes.{is_empty, is_plain_column, shape_of_create, shape_of_table};
-ghost use Rattle.sql_meaning.specs.Statement.{column_named, columns_behind, created_entry, declared_affinity, is_free_name, is_new_column, type_affinity, with_column};
+ghost use Rattle.sql_meaning.specs.Statement.{column_named, columns_behind, created_entry, declared_affinity, entry_with, is_free_name, is_new_column, type_affinity, with_column};
 
-use crate::statement::Bound;
 use crate::tables::place_of;
 use bind_expr::{affinity_of_type, is_same, name};
 use eng_value::{Affinity, Cause, LimitKind, MAX_COLUMNS, NameKind, Text};
 use sql_meaning::{Column, TableEntry};
-use sql_tree::{ColumnDefinition, Create, Definition, TableDefinition, Token, TypeName};
+use sql_tree::{ColumnDefinition, Create, Definition, Token, TypeName};
 use sqlite_items::Items;
 use std::alloc::{AllocError, Global};
 
-/// CREATE TABLE; what else CREATE makes is not built.
-#[tactic(auto, using(crate::proofs::Shapes::not_yet))]
+/// The entry of the table that is created; what else CREATE makes is not built.
 pub(crate) fn bind_created(
     alloc: Global,
     catalog: &[TableEntry],
     text: &str,
     tokens: usize,
     create: &Create,
-) -> Result<Bound, Cause>
-    ensures { BindsTo catalog.now text.now tokens (where_built text.now (shape_of_create create.now)) result }
+) -> Result<TableEntry, Cause>
+    ensures { Answers (created_entry catalog.now text.now tokens create.now.name create.now.definition) result }
 {
-    if create.if_not_exists {
-        return Err(Cause::NotYet);
-    }
     match &create.definition {
-        Definition::Table(table) => bind_table(alloc, catalog, text, tokens, &create.name, table),
+        Definition::Table(table) => bind_table(
+            alloc,
+            catalog,
+            text,
+            tokens,
+            &create.name,
+            table.columns.as_slice(),
+        ),
         _ => Err(Cause::NotYet),
     }
 }
 
-/// CREATE TABLE without constraints.
-#[tactic(auto, using(crate::proofs::Shapes::not_yet))]
+/// The name comes first, and then each column in turn.
 fn bind_table(
-    alloc: Global,
-    catalog: &[TableEntry],
-    text: &str,
-    tokens: usize,
-    name: &Token,
-    table: &TableDefinition,
-) -> Result<Bound, Cause>
-    ensures { BindsTo catalog.now text.now tokens (where_built text.now (shape_of_table name.now table.now)) result }
-{
-    if !is_plain(table) {
-        return Err(Cause::NotYet);
-    }
-    Ok(Bound::CreateTable(bind_create(
-        alloc,
-        catalog,
-        text,
-        tokens,
-        name,
-        table.columns.as_slice(),
-    )?))
-}
-
-/// Whether there is no constraint.
-fn is_plain(table: &TableDefinition) -> bool
-    ensures { result ≡ (is_empty table.now.constraints && list_all is_plain_column table.now.columns) }
-{
-    table.constraints.is_empty() && are_plain(table.columns.as_slice())
-}
-
-/// Whether no column has a constraint.
-fn are_plain(columns: &[ColumnDefinition]) -> bool
-    ensures { result ≡ list_all is_plain_column columns.now }
-{
-    columns.iter().all(|column| is_plain_column(column))
-}
-
-/// Whether a column has none.
-fn is_plain_column(column: &ColumnDefinition) -> bool
-    ensures { result ≡ is_plain_column column.now }
-{
-    column.constraints.is_empty()
-}
-
-/// The entry of the table that is created: the name comes first, and then each column in turn.
-fn bind_create(
     alloc: Global,
     catalog: &[TableEntry],
     text: &str,
@@ -92,7 +45,7 @@ fn bind_create(
     token: &Token,
     columns: &[ColumnDefinition],
 ) -> Result<TableEntry, Cause>
-    ensures { Answers (created_entry catalog.now text.now tokens (record { name = token.now; columns = columns.now })) result }
+    ensures { Answers (entry_with catalog.now text.now tokens token.now columns.now) result }
 {
     let name = name(alloc, text, token)?;
     check_free(catalog, &name)?;

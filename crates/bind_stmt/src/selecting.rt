@@ -1,122 +1,58 @@
 // SELECT.
-ghost use Rattle.std.specs.Prelude.{◌≡◌, ◌++◌, [], OnOk, Some};
+ghost use Rattle.std.specs.Prelude.{◌≡◌, ◌++◌, [], OnOk};
 ghost use Rattle.std.specs.Option.{option_copied};
-ghost use Rattle.bind_stmt.specs.Binds.{Answers, AnswersBy, BindsTo, IsFromAt, IsQueryAt};
-ghost use Rattle.sql_meaning.specs.Built.{where_built};
-ghost use Rattle.sql_meaning.specs.Shapes.{Selects, selected_from, shape_of_query, shape_of_select, table_of_item};
-ghost use Rattle.sql_tree.specs.Layers.{of_item, of_query, of_select};
+ghost use Rattle.bind_stmt.specs.Binds.{Answers, AnswersBy, IsOptionAt, IsQueryAt, IsTableAt};
+ghost use Rattle.sql_tree.specs.Layers.{of_part, of_query, of_select, of_source};
 ghost use Rattle.bind_stmt.specs.Steps.{Becomes, behind, entry_at, expression_shown, shown_behind};
-ghost use Rattle.sql_meaning.specs.Statement.{all_columns, columns_from, conjuncts_of, from_table, query_of, result_of, results_behind};
+ghost use Rattle.sql_meaning.specs.Statement.{all_columns, columns_from, conjuncts_of, from_table, part_bound, query_bound, result_of, results_behind, select_bound, source_table};
 
-use crate::built::{are_built_results, is_built_filter, stands_alone, table_of_item};
-use crate::statement::Bound;
 use crate::tables::{place_number, table_named};
 use bind_expr::{Scope, bind, bind_conjuncts};
 use eng_value::{Cause, LimitKind, MAX_COLUMNS, Text};
 use sql_meaning::{BoundExpr, BoundSelect, Column, TableEntry};
-use sql_tree::{Expr, FromItem, Query, QueryPart, ResultColumn, SelectCore, Token};
+use sql_tree::{Expr, FromItem, Query, QueryPart, ResultColumn, SelectCore, Source, Token};
 use sqlite_items::Items;
 use std::alloc::{AllocError, Global};
 
-/// A SELECT alone, from one table or none; any other query is not built.
-#[tactic(auto, using(crate::proofs::Shapes::not_yet))]
+/// A SELECT; any other query is not built.
 pub(crate) fn bind_query(
     alloc: Global,
     catalog: &[TableEntry],
     text: &str,
-    tokens: usize,
     query: &Query,
-) -> Result<Bound, Cause>
-    ensures { BindsTo catalog.now text.now tokens (where_built text.now (shape_of_query (of_query query.now))) result }
+) -> Result<BoundSelect, Cause>
+    ensures { AnswersBy (IsQueryAt catalog.now) (query_bound catalog.now text.now (of_query query.now)) result }
 {
-    if !stands_alone(query) {
-        return Err(Cause::NotYet);
-    }
-    match &query.first {
-        QueryPart::Select(core) => bind_core(alloc, catalog, text, tokens, core),
+    bind_part(alloc, catalog, text, &query.first)
+}
+
+fn bind_part(
+    alloc: Global,
+    catalog: &[TableEntry],
+    text: &str,
+    part: &QueryPart,
+) -> Result<BoundSelect, Cause>
+    ensures { AnswersBy (IsQueryAt catalog.now) (part_bound catalog.now text.now (of_part part.now)) result }
+{
+    match part {
+        QueryPart::Select(core) => bind_select(alloc, catalog, text, core),
         QueryPart::Values(_) => Err(Cause::NotYet),
     }
 }
 
-/// A SELECT without DISTINCT, GROUP BY and HAVING.
-#[tactic(auto, using(crate::proofs::Shapes::not_yet))]
-fn bind_core(
-    alloc: Global,
-    catalog: &[TableEntry],
-    text: &str,
-    tokens: usize,
-    core: &SelectCore,
-) -> Result<Bound, Cause>
-    ensures { BindsTo catalog.now text.now tokens (where_built text.now (shape_of_select (of_select core.now))) result }
-{
-    if core.distinct || !core.group_by.is_empty() || core.having.is_some() {
-        return Err(Cause::NotYet);
-    }
-    match core.from.as_slice() {
-        [] => bind_plain(alloc, catalog, text, tokens, core, None),
-        [item] => bind_item(alloc, catalog, text, tokens, core, item),
-        _ => Err(Cause::NotYet),
-    }
-}
-
-/// A SELECT from one item.
-#[tactic(auto, using(crate::proofs::Shapes::not_yet))]
-fn bind_item(
-    alloc: Global,
-    catalog: &[TableEntry],
-    text: &str,
-    tokens: usize,
-    core: &SelectCore,
-    item: &FromItem,
-) -> Result<Bound, Cause>
-    ensures { BindsTo catalog.now text.now tokens (where_built text.now (selected_from (table_of_item (of_item item.now)) (of_select core.now).results (of_select core.now).filter)) result }
-{
-    match table_of_item(item) {
-        Some(table) => bind_plain(alloc, catalog, text, tokens, core, Some(table)),
-        None => Err(Cause::NotYet),
-    }
-}
-
-/// A SELECT from this table, or from none.
-#[tactic(auto, using(crate::proofs::Shapes::not_yet))]
-fn bind_plain(
-    alloc: Global,
-    catalog: &[TableEntry],
-    text: &str,
-    tokens: usize,
-    core: &SelectCore,
-    from: Option<Token>,
-) -> Result<Bound, Cause>
-    ensures { BindsTo catalog.now text.now tokens (where_built text.now (Some (Selects (record { results = (of_select core.now).results; from = from; filter = (of_select core.now).filter })))) result }
-{
-    if !are_built_results(text, core.results.as_slice()) || !is_built_filter(text, &core.filter) {
-        return Err(Cause::NotYet);
-    }
-    Ok(Bound::Select(bind_select(
-        alloc,
-        catalog,
-        text,
-        core.results.as_slice(),
-        &from,
-        &core.filter,
-    )?))
-}
-
-/// A query: FROM comes first, then WHERE, then the result columns in turn.
+/// FROM comes first, then WHERE, then the result columns in turn.
 fn bind_select(
     alloc: Global,
     catalog: &[TableEntry],
     text: &str,
-    results: &[ResultColumn],
-    from: &Option<Token>,
-    filter: &Option<Expr>,
+    core: &SelectCore,
 ) -> Result<BoundSelect, Cause>
-    ensures { AnswersBy (IsQueryAt catalog.now) (query_of catalog.now text.now (record { results = results.now; from = from.now; filter = filter.now })) result }
+    ensures { AnswersBy (IsQueryAt catalog.now) (select_bound catalog.now text.now (of_select core.now)) result }
 {
-    let table = bind_from(alloc, catalog, text, from)?;
+    let table = bind_from(alloc, catalog, text, core.from.as_slice())?;
     let scope = Scope::new(text, entry_at(catalog, table));
-    let conjuncts = bind_filter(alloc, &scope, filter)?;
-    let results = bind_results(alloc, &scope, results)?;
+    let conjuncts = bind_filter(alloc, &scope, &core.filter)?;
+    let results = bind_results(alloc, &scope, core.results.as_slice())?;
     Ok(BoundSelect {
         table,
         conjuncts,
@@ -129,13 +65,45 @@ fn bind_from(
     alloc: Global,
     catalog: &[TableEntry],
     text: &str,
-    from: &Option<Token>,
+    items: &[FromItem],
 ) -> Result<Option<u32>, Cause>
-    ensures { AnswersBy (IsFromAt catalog.now) (from_table catalog.now text.now from.now) result }
+    ensures { AnswersBy (IsOptionAt catalog.now) (from_table catalog.now text.now items.now) result }
 {
-    match from {
-        Some(token) => Ok(Some(table_named(alloc, catalog, text, token)?)),
-        None => Ok(None),
+    match items {
+        [] => Ok(None),
+        [item] => Ok(Some(bind_source(alloc, catalog, text, &item.source)?)),
+        _ => Err(Cause::NotYet),
+    }
+}
+
+/// A table by its name alone, by its place.
+fn bind_source(
+    alloc: Global,
+    catalog: &[TableEntry],
+    text: &str,
+    source: &Source,
+) -> Result<u32, Cause>
+    ensures { AnswersBy (λ t place. IsTableAt catalog.now place t) (source_table catalog.now text.now (of_source source.now)) result }
+{
+    match source {
+        Source::Table(token, arguments) => bind_table(alloc, catalog, text, token, arguments),
+        Source::Derived(_) => Err(Cause::NotYet),
+    }
+}
+
+/// A table without arguments; one with them is not built.
+fn bind_table(
+    alloc: Global,
+    catalog: &[TableEntry],
+    text: &str,
+    token: &Token,
+    arguments: &Option<Items<Expr>>,
+) -> Result<u32, Cause>
+    ensures { AnswersBy (λ t place. IsTableAt catalog.now place t) (source_table catalog.now text.now (of_source (Source.Table token.now arguments.now))) result }
+{
+    match arguments {
+        None => table_named(alloc, catalog, text, token),
+        Some(_) => Err(Cause::NotYet),
     }
 }
 

@@ -1,10 +1,10 @@
 // Any statement.
-ghost use Rattle.bind_stmt.specs.Binds.{Binds, BindsTo};
-ghost use Rattle.sql_meaning.specs.Built.{where_built};
-ghost use Rattle.sql_meaning.specs.Shapes.{shape_of_command, shape_of_rows};
+ghost use Rattle.bind_stmt.specs.Binds.{AnswersBy, Binds, IsBound};
+ghost use Rattle.sql_meaning.specs.Statement.{command_bound, rows_bound};
 
+use crate::built::is_built;
 use crate::creating::bind_created;
-use crate::inserting::bind_inserted;
+use crate::inserting::bind_insert;
 use crate::selecting::bind_query;
 use eng_value::Cause;
 use sql_meaning::{BoundInsert, BoundSelect, TableEntry};
@@ -29,7 +29,6 @@ pub enum Bound {
 ///
 /// Errors: `NotYet` where a part of the statement is not built; `Unknown`, `Exists` and `Reserved` for names, `Real` for the type of
 /// a column, `Arity`, `Misuse` and `Limit` of columns; and `Mem` where memory is wanting, whatever else there is.
-#[tactic(auto, using(crate::proofs::Shapes::not_yet))]
 pub fn bind(
     alloc: Global,
     catalog: &[TableEntry],
@@ -39,14 +38,12 @@ pub fn bind(
 ) -> Result<Bound, Cause>
     ensures { Binds catalog.now text.now tokens statement.now result }
 {
-    if statement.explain.is_some() {
+    if !is_built(text, statement) {
         return Err(Cause::NotYet);
     }
     bind_command(alloc, catalog, text, tokens, &statement.command)
 }
 
-/// What a statement does, without EXPLAIN.
-#[tactic(auto, using(crate::proofs::Shapes::not_yet))]
 fn bind_command(
     alloc: Global,
     catalog: &[TableEntry],
@@ -54,29 +51,32 @@ fn bind_command(
     tokens: usize,
     command: &Command,
 ) -> Result<Bound, Cause>
-    ensures { BindsTo catalog.now text.now tokens (where_built text.now (shape_of_command command.now)) result }
+    ensures { AnswersBy (IsBound catalog.now) (command_bound catalog.now text.now tokens command.now) result }
 {
     match command {
-        Command::Rows(rows) => bind_rows(alloc, catalog, text, tokens, rows),
-        Command::Create(create) => bind_created(alloc, catalog, text, tokens, create),
-        _ => Err(Cause::NotYet),
+        Command::Rows(rows) => bind_rows(alloc, catalog, text, rows),
+        Command::Create(create) => {
+            let entry = bind_created(alloc, catalog, text, tokens, create)?;
+            Ok(Bound::CreateTable(entry))
+        }
+        Command::Remove(_) | Command::Transaction(_) | Command::Pragma(_) => Err(Cause::NotYet),
     }
 }
 
 /// A query or an INSERT.
-#[tactic(auto, using(crate::proofs::Shapes::not_yet))]
 fn bind_rows(
     alloc: Global,
     catalog: &[TableEntry],
     text: &str,
-    tokens: usize,
     command: &RowCommand,
 ) -> Result<Bound, Cause>
-    ensures { BindsTo catalog.now text.now tokens (where_built text.now (shape_of_rows command.now)) result }
+    ensures { AnswersBy (IsBound catalog.now) (rows_bound catalog.now text.now command.now) result }
 {
     match command {
-        RowCommand::Query(query) => bind_query(alloc, catalog, text, tokens, query),
-        RowCommand::Insert(insert) => bind_inserted(alloc, catalog, text, tokens, insert),
-        _ => Err(Cause::NotYet),
+        RowCommand::Query(query) => { Ok(Bound::Select(bind_query(alloc, catalog, text, query)?)) }
+        RowCommand::Insert(insert) => {
+            Ok(Bound::Insert(bind_insert(alloc, catalog, text, insert)?))
+        }
+        RowCommand::Update(_) | RowCommand::Delete(_) => Err(Cause::NotYet),
     }
 }

@@ -14,4 +14,4 @@ pub use laws::{
     rowid_comes_back,
 };
 pub use rowid::{rowid_key, rowid_of_key};
-pub use values::value_key;
+pub use values::{value_key, value_key_under};

@@ -1,6 +1,7 @@
 // The operators by what they are told apart by.
 ghost use Rattle.std.specs.Prelude.{◌≡◌, Bool, not, IfOk};
 ghost use Rattle.eng_value.specs.Applied.{binary_of, is_null_of, not_null_of, unary_of};
+ghost use Rattle.eng_value.specs.Collations.{own_keys};
 ghost use Rattle.eng_value.specs.Casts.{cast};
 ghost use Rattle.eng_value.specs.Functions.{is_null};
 ghost use Rattle.eng_value.specs.Outs.{turned};
@@ -36,7 +37,7 @@ pub fn unary(alloc: Global, op: UnaryOperator, a: &Out) -> Result<Out, AllocErro
 
 /// What an operator with two operands gives (SQL Language Expressions, "Operators"). Only memory can fail.
 pub fn binary(alloc: Global, op: BinaryOperator, a: &Out, b: &Out) -> Result<Out, AllocError>
-    ensures { IfOk result (λ out. out ≡ binary_of op a.now b.now) }
+    ensures { IfOk result (λ out. out ≡ binary_of own_keys op a.now b.now) }
 {
     match op {
         BinaryOperator::Arithmetic(op) => arithmetic(alloc, op, a, b),

@@ -1,10 +1,11 @@
 // Comparisons and IS.
 ghost use Rattle.std.specs.Prelude.{◌≡◌, IfOk, MatchOption};
 ghost use Rattle.std.specs.Ordering.{is_eq};
+ghost use Rattle.eng_value.specs.Collations.{own_keys};
 ghost use Rattle.eng_value.specs.Comparisons.{compare_sides, comparison, comparison_of, is_of};
 ghost use Rattle.eng_value.specs.Outs.{truth_value};
 
-use eng_value::{CompareOp, Out, Sides, Value, changed_beside, compare};
+use eng_value::{CompareOp, Out, Sides, Value, changed_beside, compare_under};
 use std::alloc::{AllocError, Global};
 use std::cmp::Ordering;
 
@@ -19,7 +20,7 @@ pub fn comparison(
     a: &Out,
     b: &Out,
 ) -> Result<Out, AllocError>
-    ensures { IfOk result (λ out. out ≡ comparison_of op sides a.now b.now) }
+    ensures { IfOk result (λ out. out ≡ comparison_of own_keys op sides a.now b.now) }
 {
     match (a, b) {
         (Out::Good(a), Out::Good(b)) => Ok(Out::Good(compared(alloc, op, sides, a, b)?)),
@@ -33,7 +34,7 @@ pub fn comparison(
 /// `=`, but NULL is NULL, and no other value is.
 #[tactic(auto, unfolding(eng_value::specs::Comparisons::is_of))]
 pub fn is(alloc: Global, sides: Sides, a: &Out, b: &Out) -> Result<Out, AllocError>
-    ensures { IfOk result (λ out. out ≡ is_of sides a.now b.now) }
+    ensures { IfOk result (λ out. out ≡ is_of own_keys sides a.now b.now) }
 {
     match (a, b) {
         (Out::Good(a), Out::Good(b)) => Ok(Out::Good(sameness(alloc, sides, a, b)?)),
@@ -50,7 +51,7 @@ fn compared(
     a: &Value,
     b: &Value,
 ) -> Result<Value, AllocError>
-    ensures { IfOk result (λ value. value ≡ comparison op sides a.now b.now) }
+    ensures { IfOk result (λ value. value ≡ comparison own_keys op sides a.now b.now) }
 {
     match (a, b) {
         (Value::Null, _) | (_, Value::Null) => Ok(Value::Null),
@@ -59,17 +60,17 @@ fn compared(
 }
 
 fn sameness(alloc: Global, sides: Sides, a: &Value, b: &Value) -> Result<Value, AllocError>
-    ensures { IfOk result (λ value. value ≡ truth_value (is_eq (compare_sides sides a.now b.now))) }
+    ensures { IfOk result (λ value. value ≡ truth_value (is_eq (compare_sides own_keys sides a.now b.now))) }
 {
     Ok(Value::of_truth(compare_sides(alloc, sides, a, b)?.is_eq()))
 }
 
 fn compare_sides(alloc: Global, sides: Sides, a: &Value, b: &Value) -> Result<Ordering, AllocError>
-    ensures { IfOk result (λ ordering. ordering ≡ compare_sides sides a.now b.now) }
+    ensures { IfOk result (λ ordering. ordering ≡ compare_sides own_keys sides a.now b.now) }
 {
     let left = changed_beside(alloc, sides.right, sides.left, a)?;
     let right = changed_beside(alloc, sides.left, sides.right, b)?;
-    Ok(compare(
+    Ok(compare_under(
         changed_or_same(&left, a),
         changed_or_same(&right, b),
         sides.collation,

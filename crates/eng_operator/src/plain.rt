@@ -3,6 +3,7 @@ ghost use Rattle.std.specs.Prelude.{◌≡◌, ◌&&◌, ℤ, true, not, is_some
 ghost use Rattle.eng_operator.specs.Plain.{is_integer, is_integer_value, is_of_integers, is_of_texts, is_text, keep_integers};
 ghost use Rattle.eng_value.specs.Applied.{binary_of};
 ghost use Rattle.eng_value.specs.Casts.{beside};
+ghost use Rattle.eng_value.specs.Collations.{own_keys};
 ghost use Rattle.eng_value.specs.Comparisons.{comparison, globbed, liked};
 ghost use Rattle.eng_value.specs.Operators.{of_bits, of_integers};
 ghost use Rattle.eng_value.specs.Outs.{truth_value};
@@ -18,8 +19,8 @@ use eng_value::{Affinity, ArithmeticOp, BinaryOperator, CompareOp, IntegerOp, Si
 /// of it. Else `binary` answers.
 #[tactic(auto, unfolding(eng_value::specs::Operators::arithmetic_of, eng_value::specs::Operators::integers_of, eng_value::specs::Comparisons::comparison_of))]
 pub fn binary_of_integers(op: &BinaryOperator, a: i64, b: i64) -> Option<i64>
-    ensures some { IfSome result (λ n. binary_of op.now (Good (Integer a)) (Good (Integer b)) ≡ Good (Integer n)) }
-    ensures exactly { is_some result ≡ is_of_integers op.now && is_integer (binary_of op.now (Good (Integer a)) (Good (Integer b))) }
+    ensures some { IfSome result (λ n. binary_of own_keys op.now (Good (Integer a)) (Good (Integer b)) ≡ Good (Integer n)) }
+    ensures exactly { is_some result ≡ is_of_integers op.now && is_integer (binary_of own_keys op.now (Good (Integer a)) (Good (Integer b))) }
 {
     match op {
         BinaryOperator::Arithmetic(op) => arithmetic(*op, a, b),
@@ -34,7 +35,7 @@ pub fn binary_of_integers(op: &BinaryOperator, a: i64, b: i64) -> Option<i64>
 /// The same of two texts: 1 or 0 for LIKE and GLOB, and None exactly for the others.
 #[tactic(auto, unfolding(eng_value::specs::Comparisons::like_of, eng_value::specs::Comparisons::glob_of))]
 pub fn binary_of_texts(op: &BinaryOperator, a: &Text, b: &Text) -> Option<i64>
-    ensures some { IfSome result (λ n. binary_of op.now (Good (sql.Text a.now)) (Good (sql.Text b.now)) ≡ Good (Integer n)) }
+    ensures some { IfSome result (λ n. binary_of own_keys op.now (Good (sql.Text a.now)) (Good (sql.Text b.now)) ≡ Good (Integer n)) }
     ensures exactly { is_some result ≡ is_of_texts op.now }
 {
     match op {
@@ -68,7 +69,7 @@ fn integers(op: IntegerOp, a: i64, b: i64) -> Option<i64>
 }
 
 fn comparison(op: CompareOp, sides: Sides, a: i64, b: i64) -> Option<i64>
-    ensures some { IfSome result (λ n. comparison op sides (Integer a) (Integer b) ≡ Integer n) }
+    ensures some { IfSome result (λ n. comparison own_keys op sides (Integer a) (Integer b) ≡ Integer n) }
     ensures exactly { is_some result ≡ keep_integers sides }
 {
     if keeps_integers(sides.right, sides.left) && keeps_integers(sides.left, sides.right) {

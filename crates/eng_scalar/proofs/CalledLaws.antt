@@ -6,12 +6,13 @@ use Rattle.std.specs.Cmp.Lexicographic.{slice_cmp, nat_list_cmp_total}
 use Rattle.std.specs.FinSet as set
 use Rattle.std.specs.Ordering.{nat_cmp}
 use Rattle.eng_value.proofs.CauseLaws.{same_causes}
-use Rattle.eng_key.specs.Values.{value_key}
+use Rattle.eng_key.specs.Values.{value_keys}
 use Rattle.eng_scalar.specs.Called.{bad_in, beside_causes, function_of, looks_at_keys, value_in}
 use Rattle.eng_value.specs.Applied.{causes_of_all, on_all}
 use Rattle.eng_value.specs.Causes.{CauseSet}
+use Rattle.eng_value.specs.Collations.{own_keys}
 use Rattle.eng_value.specs.Functions.{FunctionKind, FirstKnown, Choice, ByKeys, OfText, OfValues, call_by, call_of, kind_of}
-use Rattle.eng_value.specs.declared.built.Built.{Built}
+use Rattle.eng_value.specs.declared.collation.Collation.{Collation}
 use Rattle.eng_value.specs.declared.builtin.Builtin.{Builtin}
 use Rattle.eng_value.specs.declared.out.Out.{Out}
 use Rattle.eng_value.specs.declared.out.Out.TheVariants.{Good, Bad}
@@ -66,11 +67,11 @@ on_all-bad_in f (Good v ∷ rest) = on_all-bad_in (λ vs. f (v ∷ vs)) rest
 on_all-bad_in f (Bad causes ∷ rest) = ap Bad (causes_of_all-bad_in (Bad causes ∷ rest)) ∙ bad_whatever causes (bad_in rest) (f (Null ∷ map value_in rest))
 
 -- bad for the causes of all, and else what the values give
-pub function_of-bad : (f : Builtin) (collation : Built) (args : List Out) (causes : CauseSet) → bad_in args ≡ Some causes → Bad causes ≡ function_of f collation args
-function_of-bad f collation args causes is = sym (on_all-bad_in (λ vs. call_of f vs (map (value_key collation) vs)) args ∙ rw is refl)
+pub function_of-bad : (f : Builtin) (collation : Collation) (args : List Out) (causes : CauseSet) → bad_in args ≡ Some causes → Bad causes ≡ function_of f collation args
+function_of-bad f collation args causes is = sym (on_all-bad_in (λ vs. call_of f vs (map (value_keys own_keys collation) vs)) args ∙ rw is refl)
 
-pub function_of-good : (f : Builtin) (collation : Built) (args : List Out) → bad_in args ≡ None → call_of f (map value_in args) (map (value_key collation) (map value_in args)) ≡ function_of f collation args
-function_of-good f collation args is = sym (on_all-bad_in (λ vs. call_of f vs (map (value_key collation) vs)) args ∙ rw is refl)
+pub function_of-good : (f : Builtin) (collation : Collation) (args : List Out) → bad_in args ≡ None → call_of f (map value_in args) (map (value_keys own_keys collation) (map value_in args)) ≡ function_of f collation args
+function_of-good f collation args is = sym (on_all-bad_in (λ vs. call_of f vs (map (value_keys own_keys collation) vs)) args ∙ rw is refl)
 
 never_none : (causes : CauseSet) (found : Option CauseSet) → beside_causes (Bad causes) found ≡ None → ⊥
 never_none causes None is = cc

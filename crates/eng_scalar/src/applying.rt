@@ -1,23 +1,24 @@
 // A call of a built-in function on what its arguments came to.
 ghost use Rattle.std.specs.Prelude.{◌≡◌, ◌≤◌, [], IfOk, None, length, map, vec_capacity, vec_len};
-ghost use Rattle.eng_key.specs.Values.{value_key};
+ghost use Rattle.eng_key.specs.Values.{value_keys};
 ghost use Rattle.eng_scalar.specs.Called.{bad_in, beside_causes, function_of, looks_at_keys, value_in};
+ghost use Rattle.eng_value.specs.Collations.{own_keys};
 ghost use Rattle.eng_value.specs.Functions.{call_of, kind_of};
 ghost use Rattle.eng_value.specs.declared.out.Out.TheVariants.{Good};
 
 use crate::calling::call;
-use eng_key::value_key;
-use eng_value::{Blob, Built, Builtin, Causes, Out, Value};
+use eng_key::value_key_under;
+use eng_value::{Blob, Builtin, Causes, Collation, Out, Value};
 use std::alloc::{AllocError, Global};
 use std::mem;
 
-/// What a built-in function gives for some arguments under a collation, by which max, min and nullif compare (Built-in Scalar SQL
-/// Functions). Where an argument is bad it is not called, and the result is bad with the causes of all. The arguments stay as they
+/// What a built-in function gives for some arguments under a collation, by which max, min and nullif compare, where no host has one
+/// (Built-in Scalar SQL Functions). Where an argument is bad it is not called, and the result is bad with the causes of all. The arguments stay as they
 /// were, also where memory fails, and none of them is copied. Only memory can fail.
 pub fn function(
     alloc: Global,
     f: Builtin,
-    collation: Built,
+    collation: Collation,
     args: &mut [Out],
 ) -> Result<Out, AllocError>
     ensures out { IfOk result (λ out. out ≡ function_of f collation args.old) }
@@ -57,7 +58,7 @@ fn beside_causes(arg: &Out, found: Option<Causes>) -> Result<Option<Causes>, All
 fn on_values(
     alloc: Global,
     f: Builtin,
-    collation: Built,
+    collation: Collation,
     args: &mut [Out],
 ) -> Result<Out, AllocError>
     requires { bad_in args.old ≡ None }
@@ -106,10 +107,10 @@ fn move_back(args: &mut [Out], mut values: Vec<Value>)
 fn call_by_keys(
     alloc: Global,
     f: Builtin,
-    collation: Built,
+    collation: Collation,
     values: &[Value],
 ) -> Result<Out, AllocError>
-    ensures { IfOk result (λ out. out ≡ call_of f values.now (map (value_key collation) values.now)) }
+    ensures { IfOk result (λ out. out ≡ call_of f values.now (map (value_keys own_keys collation) values.now)) }
 {
     if looks_at_keys(f) {
         call(alloc, f, values, &keys_of(alloc, collation, values)?)
@@ -125,12 +126,12 @@ fn looks_at_keys(f: Builtin) -> bool
     matches!(f, Builtin::Max | Builtin::Min | Builtin::NullIf)
 }
 
-fn keys_of(alloc: Global, collation: Built, values: &[Value]) -> Result<Vec<Blob>, AllocError>
-    ensures { IfOk result (λ keys. keys.items ≡ map (value_key collation) values.now) }
+fn keys_of(alloc: Global, collation: Collation, values: &[Value]) -> Result<Vec<Blob>, AllocError>
+    ensures { IfOk result (λ keys. keys.items ≡ map (value_keys own_keys collation) values.now) }
 {
     let mut keys = Vec::with_capacity(alloc, values.len())?;
     for value in values {
-        keys.push(value_key(alloc, value, collation)?)?;
+        keys.push(value_key_under(alloc, value, collation)?)?;
     }
     Ok(keys)
 }

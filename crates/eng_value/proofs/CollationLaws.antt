@@ -7,11 +7,12 @@ use Rattle.std.specs.declared.cmp.Ordering.{Ordering}
 use Rattle.std.specs.declared.cmp.Ordering.TheVariants.{Less, Equal, Greater}
 use Rattle.std.proofs.lemmas.Cmp.{int_cmp_total, nat_cmp_total, nat_list_cmp_total, on_total, then_total, tied_itself}
 use Rattle.std.proofs.lemmas.Map.Lookups.{exact_bytes, exact_signed}
-use Rattle.eng_value.specs.declared.built.Built.{Built}
 use Rattle.eng_value.specs.declared.built.Built.TheVariants as built
 use Rattle.eng_value.specs.declared.value.Value.{Value}
 use Rattle.eng_value.specs.declared.value.Value.TheVariants.{Null, Integer, Text, Blob}
-use Rattle.eng_value.specs.Collations.{compare, keyed}
+use Rattle.eng_value.specs.Collations.{compare, compare_by, keyed, keys_of, text_key}
+use Rattle.eng_value.specs.HostMeanings.{HostMeanings}
+use Rattle.eng_value.specs.declared.collation.Collation.{Collation}
 use Rattle.eng_value.specs.Compare.{value_cmp}
 
 -- ---- the order of values, as that of their classes, then of their integers, then of their bytes
@@ -90,23 +91,26 @@ same_value (Blob s) (Blob t) is = ap Blob (exact_bytes s t is)
 
 -- ---- collations
 
-pub compare_total : (collation : Built) → IsTotalOrder (compare collation)
-compare_total collation = on_total (keyed collation) value_cmp_total
+pub compare_total : (hosts : HostMeanings) (collation : Collation) → IsTotalOrder (compare_by (keys_of hosts collation))
+compare_total hosts collation = on_total (keyed (keys_of hosts collation)) value_cmp_total
 
-pub same_keyed : (collation : Built) (a b : Value) → compare collation a b ≡ Equal → keyed collation a ≡ keyed collation b
-same_keyed collation a b is = same_value (keyed collation a) (keyed collation b) is
+pub same_keyed : (hosts : HostMeanings) (collation : Collation) (a b : Value) → compare_by (keys_of hosts collation) a b ≡ Equal → keyed (keys_of hosts collation) a ≡ keyed (keys_of hosts collation) b
+same_keyed hosts collation a b is = same_value (keyed (keys_of hosts collation) a) (keyed (keys_of hosts collation) b) is
 
-pub equal_keyed : (collation : Built) (a b : Value) → keyed collation a ≡ keyed collation b → compare collation a b ≡ Equal
-equal_keyed collation a b is = ap (λ k. value_cmp k (keyed collation b)) is ∙ tied_itself value_cmp_total (keyed collation b)
+equal_by : (key : List ℕ → List ℕ) (a b : Value) → keyed key a ≡ keyed key b → compare_by key a b ≡ Equal
+equal_by key a b is = ap (λ k. value_cmp k (keyed key b)) is ∙ tied_itself value_cmp_total (keyed key b)
 
-keyed-binary : (v : Value) → keyed built.Binary v ≡ v
+pub equal_keyed : (hosts : HostMeanings) (collation : Collation) (a b : Value) → keyed (keys_of hosts collation) a ≡ keyed (keys_of hosts collation) b → compare_by (keys_of hosts collation) a b ≡ Equal
+equal_keyed hosts collation a b is = equal_by (keys_of hosts collation) a b is
+
+keyed-binary : (v : Value) → keyed (text_key built.Binary) v ≡ v
 keyed-binary Null = refl
 keyed-binary (Integer n) = refl
 keyed-binary (Text text) = refl
 keyed-binary (Blob bytes) = refl
 
 pub same_binary : (a b : Value) → compare built.Binary a b ≡ Equal → a ≡ b
-same_binary a b is = sym (keyed-binary a) ∙ same_keyed built.Binary a b is ∙ keyed-binary b
+same_binary a b is = sym (keyed-binary a) ∙ same_value (keyed (text_key built.Binary) a) (keyed (text_key built.Binary) b) is ∙ keyed-binary b
 
-pub equal_binary : (collation : Built) (a b : Value) → compare built.Binary a b ≡ Equal → compare collation a b ≡ Equal
-equal_binary collation a b is = equal_keyed collation a b (ap (keyed collation) (same_binary a b is))
+pub equal_binary : (hosts : HostMeanings) (collation : Collation) (a b : Value) → compare built.Binary a b ≡ Equal → compare_by (keys_of hosts collation) a b ≡ Equal
+equal_binary hosts collation a b is = equal_by (keys_of hosts collation) a b (ap (keyed (keys_of hosts collation)) (same_binary a b is))

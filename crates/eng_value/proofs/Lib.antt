@@ -1,6 +1,7 @@
 pub mod CaseLaws
 pub mod CauseLaws
 pub mod CollationLaws
+pub mod RowLaws
 mod Beside
 pub mod LiteralLaws
 pub mod SubstrLaws

@@ -9,6 +9,7 @@ use Rattle.eng_text.specs.Patterns.{is_like, is_glob}
 use Rattle.eng_value.specs.declared.affinity.Affinity.TheVariants as affinity
 use Rattle.eng_value.specs.declared.built.Built.TheVariants as built
 use Rattle.eng_value.specs.declared.cause.Cause.TheVariants as cause
+use Rattle.eng_value.specs.declared.collation.Collation.TheVariants as collation
 use Rattle.eng_value.specs.declared.compare_op.CompareOp.{CompareOp}
 use Rattle.eng_value.specs.declared.compare_op.CompareOp.TheVariants as compares
 use Rattle.eng_value.specs.declared.operators.Sides.{Sides}
@@ -17,27 +18,28 @@ use Rattle.eng_value.specs.declared.out.Out.TheVariants.{Good}
 use Rattle.eng_value.specs.declared.value.Value.{Value}
 use Rattle.eng_value.specs.declared.value.Value.TheVariants.{Null, Integer, Text}
 use Rattle.eng_value.specs.Casts.{beside, to_text}
-use Rattle.eng_value.specs.Collations.{compare}
+use Rattle.eng_value.specs.Collations.{Keys, compare_by, own_keys}
 use Rattle.eng_value.specs.Outs.{bad, turned, on_both, on_three, passes, truth_value}
 
 -- ---- comparisons
 
--- how two values stand to one another, each as the affinities of both sides want it, under the collation
-abbrev pub compare_sides : Sides → Value → Value → Ordering
-compare_sides sides a b = compare sides.collation (beside sides.right sides.left a) (beside sides.left sides.right b)
+module _ (keys : Keys) where
+  -- how two values stand to one another, each as the affinities of both sides want it, by the keys of the collation
+  abbrev pub compare_sides : Sides → Value → Value → Ordering
+  compare_sides sides a b = compare_by (keys sides.collation) (beside sides.right sides.left a) (beside sides.left sides.right b)
 
--- NULL beside NULL
-abbrev pub comparison : CompareOp → Sides → Value → Value → Value
-comparison op sides Null b = Null
-comparison op sides a Null = Null
-comparison op sides a b = truth_value (passes op (compare_sides sides a b))
+  -- NULL beside NULL
+  abbrev pub comparison : CompareOp → Sides → Value → Value → Value
+  comparison op sides Null b = Null
+  comparison op sides a Null = Null
+  comparison op sides a b = truth_value (passes op (compare_sides sides a b))
 
-unfoldable pub comparison_of : CompareOp → Sides → Out → Out → Out
-comparison_of op sides a b = on_both (λ v w. Good (comparison op sides v w)) a b
+  unfoldable pub comparison_of : CompareOp → Sides → Out → Out → Out
+  comparison_of op sides a b = on_both (λ v w. Good (comparison op sides v w)) a b
 
--- IS takes NULL for a value
-unfoldable pub is_of : Sides → Out → Out → Out
-is_of sides a b = on_both (λ v w. Good (truth_value (is_eq (compare_sides sides v w)))) a b
+  -- IS takes NULL for a value
+  unfoldable pub is_of : Sides → Out → Out → Out
+  is_of sides a b = on_both (λ v w. Good (truth_value (is_eq (compare_sides sides v w)))) a b
 
 -- ---- LIKE and GLOB: of a text and a pattern, both cast to TEXT; NULL beside NULL
 
@@ -86,9 +88,9 @@ abbrev text : List ℕ → Out
 text t = Good (Text t)
 
 abbrev column_and_literal : Sides
-column_and_literal = record { left = affinity.Integer; right = affinity.None; collation = built.Binary }
+column_and_literal = record { left = affinity.Integer; right = affinity.None; collation = collation.Built built.Binary }
 
-compared : (comparison_of compares.Eq column_and_literal (number (pos 1)) (text (codes "1")) ≡ number (pos 1)) × (comparison_of compares.Eq column_and_literal (number (pos 1)) (text (codes "1.0")) ≡ number (pos 0)) × (comparison_of compares.Lt column_and_literal (number (pos 9)) (text (codes " 10 ")) ≡ number (pos 1)) × (comparison_of compares.Eq column_and_literal (Good Null) (Good Null) ≡ Good Null) × (is_of column_and_literal (Good Null) (Good Null) ≡ number (pos 1))
+compared : (comparison_of own_keys compares.Eq column_and_literal (number (pos 1)) (text (codes "1")) ≡ number (pos 1)) × (comparison_of own_keys compares.Eq column_and_literal (number (pos 1)) (text (codes "1.0")) ≡ number (pos 0)) × (comparison_of own_keys compares.Lt column_and_literal (number (pos 9)) (text (codes " 10 ")) ≡ number (pos 1)) × (comparison_of own_keys compares.Eq column_and_literal (Good Null) (Good Null) ≡ Good Null) × (is_of own_keys column_and_literal (Good Null) (Good Null) ≡ number (pos 1))
 unfolding comparison_of is_of beside text_kind
 compared = (refl, refl, refl, refl, refl)
 

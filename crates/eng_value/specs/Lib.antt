@@ -3,7 +3,6 @@ pub mod CauseText
 pub mod Causes
 pub mod Outs
 pub mod StoredRows
-pub mod Environments
 pub mod HostMeanings
 pub mod Casts
 pub mod Collations
@@ -12,5 +11,6 @@ pub mod Truths
 pub mod Comparisons
 pub mod Functions
 pub mod Applied
+pub mod Environments
 pub mod Literals
 pub mod OperandTexts

@@ -2,9 +2,9 @@
 ghost use Rattle.std.specs.Prelude.{◌≡◌, map, reverse};
 ghost use Rattle.std.specs.Char.{to_ascii_lowercase};
 ghost use Rattle.eng_value.specs.Compare.{bytes_cmp};
-ghost use Rattle.eng_value.specs.Collations.{compare, text_key, without_spaces};
+ghost use Rattle.eng_value.specs.Collations.{compare, compare_by, own_keys, text_key, without_spaces};
 
-use crate::{Built, Value};
+use crate::{Built, Collation, Value};
 use std::cmp::Ordering;
 
 /// How one value stands to another under a collation, which orders texts alone (Datatypes In SQLite, sections 4.1 and 7).
@@ -16,6 +16,13 @@ pub fn compare(a: &Value, b: &Value, collation: Built) -> Ordering
         (Value::Text(a), Value::Text(b)) => compare_texts(collation, a.as_bytes(), b.as_bytes()),
         _ => a.compare(b),
     }
+}
+
+/// The same under any collation, where no host has one. Takes no memory.
+pub fn compare_under(a: &Value, b: &Value, collation: Collation) -> Ordering
+    ensures { result ≡ compare_by (own_keys collation) a.now b.now }
+{
+    compare(a, b, collation.built_in())
 }
 
 fn compare_texts(collation: Built, a: &[u8], b: &[u8]) -> Ordering

@@ -1,15 +1,20 @@
 // What the functions of values and the collations promise whoever uses them. Nothing here runs: each contract is a law.
-ghost use Rattle.std.specs.Prelude.{◌≡◌, ◌==◌, ◌+◌, ◌-◌, ℕ, suc, List, ◌∷◌, [], ◌++◌, length, map, take, drop, pos, negsuc, None, Some, true, false};
+ghost use Rattle.std.specs.Prelude.{◌≡◌, ◌≢◌, ◌<◌, ◌==◌, ◌+◌, ◌-◌, ℕ, suc, List, ◌∷◌, [], ◌++◌, length, map, take, drop, pos, negsuc, None, Some, true, false};
 ghost use Rattle.std.specs.Char.{to_ascii_uppercase};
 ghost use Rattle.std.specs.Cmp.{IsTotalOrder};
 ghost use Rattle.std.specs.List.{AllByRecursion, list_any};
 ghost use Rattle.std.specs.declared.cmp.Ordering.TheVariants.{Equal};
 ghost use Rattle.eng_text.specs.Texts.{folded};
-ghost use Rattle.eng_value.specs.declared.built.Built.{Built};
 ghost use Rattle.eng_value.specs.declared.built.Built.TheVariants.{Binary};
+ghost use Rattle.eng_value.specs.declared.collation.Collation.{Collation};
+ghost use Rattle.eng_value.specs.declared.out.Out.TheVariants.{Good, Bad};
 ghost use Rattle.eng_value.specs.declared.value.Value.{Value};
-ghost use Rattle.eng_value.specs.Collations.{compare, keyed};
+ghost use Rattle.eng_value.specs.declared.value.Value.TheVariants.{Null};
+ghost use Rattle.eng_value.specs.Causes.{CauseSet};
+ghost use Rattle.eng_value.specs.Collations.{compare, compare_by, keyed, keys_of};
+ghost use Rattle.eng_value.specs.Environments.{ItemRow, bad_row, column_of, ignoring};
 ghost use Rattle.eng_value.specs.Functions.{quoted, substr_in, without_back, without_front};
+ghost use Rattle.eng_value.specs.HostMeanings.{HostMeanings};
 ghost use Rattle.eng_value.specs.Literals.{HasLiteral, literal};
 
 /// The literal that quote() writes of a value means this value, so no two values have one (Built-in Scalar SQL Functions, "quote").
@@ -56,14 +61,25 @@ pub fn back_is_trimmed()
     ensures left { (these cs rest : List ℕ) (c : ℕ) → without_back these cs ≡ rest ++ c ∷ [] → list_any (λ t. t == c) these ≡ false }
 {}
 
-/// Each collation is a total order: whichever way two values are compared the answer is one, and it holds along chains. Equal are just
-/// the values whose keys are one; under BINARY these are one value, which is equal to itself under each collation (Datatypes In SQLite,
-/// section 7).
-#[tactic(auto, using(crate::proofs::CollationLaws::compare_total, crate::proofs::CollationLaws::same_keyed, crate::proofs::CollationLaws::equal_keyed, crate::proofs::CollationLaws::same_binary, crate::proofs::CollationLaws::equal_binary))]
+/// Each collation, of a host too, is a total order: whichever way two values are compared the answer is one, and it holds along chains.
+/// Equal are just the values whose keys are one; under BINARY these are one value, which is equal to itself under each collation
+/// (Datatypes In SQLite, section 7).
 pub fn collations_are_orders()
-    ensures order { (collation : Built) → IsTotalOrder (compare collation) }
-    ensures keys { (collation : Built) (a b : Value) → compare collation a b ≡ Equal → keyed collation a ≡ keyed collation b }
-    ensures equal { (collation : Built) (a b : Value) → keyed collation a ≡ keyed collation b → compare collation a b ≡ Equal }
+    ensures order { (hosts : HostMeanings) (collation : Collation) → IsTotalOrder (compare_by (keys_of hosts collation)) }
+    ensures keys { (hosts : HostMeanings) (collation : Collation) (a b : Value)
+        → compare_by (keys_of hosts collation) a b ≡ Equal → keyed (keys_of hosts collation) a ≡ keyed (keys_of hosts collation) b }
+    ensures equal { (hosts : HostMeanings) (collation : Collation) (a b : Value)
+        → keyed (keys_of hosts collation) a ≡ keyed (keys_of hosts collation) b → compare_by (keys_of hosts collation) a b ≡ Equal }
     ensures binary { (a b : Value) → compare Binary a b ≡ Equal → a ≡ b }
-    ensures others { (collation : Built) (a b : Value) → compare Binary a b ≡ Equal → compare collation a b ≡ Equal }
+    ensures others { (hosts : HostMeanings) (collation : Collation) (a b : Value)
+        → compare Binary a b ≡ Equal → compare_by (keys_of hosts collation) a b ≡ Equal }
+{}
+
+/// A row that could not be made reads bad in each of its columns, for the causes that it carries; a column that is ignored reads NULL,
+/// and the others read what they hold.
+pub fn rows_read_as_they_are()
+    ensures bad { (width place : ℕ) (causes : CauseSet) → place < width → column_of (bad_row width causes) place ≡ Bad causes }
+    ensures carried { (width : ℕ) (causes : CauseSet) → (bad_row width causes).causes ≡ Bad causes }
+    ensures ignored { (row : ItemRow) (place : ℕ) → column_of (ignoring (Some place ∷ []) row) place ≡ Good Null }
+    ensures others { (row : ItemRow) (place other : ℕ) → other ≢ place → column_of (ignoring (Some place ∷ []) row) other ≡ column_of row other }
 {}

@@ -7,6 +7,8 @@
 #![tactic(auto)]
 
 mod affinity;
+mod asking;
+mod authorizing;
 mod blob;
 mod built;
 mod builtin;
@@ -14,11 +16,13 @@ mod casts;
 mod cause;
 mod cause_key;
 mod causes;
+mod collation;
 mod collations;
 mod compare_op;
 mod laws;
 mod limits;
 mod meanings;
+mod modules;
 mod operand_text;
 mod operators;
 mod out;
@@ -30,20 +34,24 @@ mod truth;
 mod value;
 
 pub use affinity::Affinity;
+pub use asking::{Answer, Query, Reply};
+pub use authorizing::{Action, ActionKind, Verdict};
 pub use blob::Blob;
 pub use built::Built;
 pub use builtin::Builtin;
 pub use casts::{apply, cast, changed_beside, store_as, to_blob, to_integer, to_number, to_text};
 pub use cause::{Cause, LimitKind, NameKind};
 pub use causes::Causes;
-pub use collations::compare;
+pub use collation::Collation;
+pub use collations::{compare, compare_under};
 pub use compare_op::CompareOp;
 pub use laws::{
     back_is_trimmed, collations_are_orders, front_is_trimmed, last_case_counts, quote_reads_back,
-    substr_is_a_part,
+    rows_read_as_they_are, substr_is_a_part,
 };
 pub use limits::{DEFAULT_BUDGET, MAX_COLUMNS, MAX_ROWID, MAX_SCRIPT_BYTES, MAX_VALUE_BYTES};
 pub use meanings::Meanings;
+pub use modules::{Change, ColumnKind, ModColumn, RowOp};
 pub use operand_text::{BothTexts, OperandText, Spelling};
 pub use operators::{ArithmeticOp, BinaryOperator, IntegerOp, Sides, UnaryOperator};
 pub use out::Out;

@@ -1,5 +1,5 @@
 // What the operators are told apart by.
-use crate::{Affinity, Built, CompareOp};
+use crate::{Affinity, Collation, CompareOp};
 
 /// The operators on two numbers that may leave the 64 bits (SQL Language Expressions, section 2).
 #[derive(Clone, Copy, PartialEq, Eq)]
@@ -25,7 +25,7 @@ pub enum IntegerOp {
 pub struct Sides {
     pub left: Affinity,
     pub right: Affinity,
-    pub collation: Built,
+    pub collation: Collation,
 }
 
 /// The operators with one operand, casts among them.

@@ -1,30 +1,31 @@
 -- What statements come to whose tables go by their places is what the definitions say of tables by names.
-use Rattle.std.proofs.Common.{◌≡◌, ◌⊎◌, inl, inr, ◌||◌, ℕ, ◌<◌, Bool, true, false, List, [], ◌∷◌, ◌++◌, ℤ, length, map, drop, Option, Some, None, Result, Ok, Err, refl, sym, ap, ◌∙◌, arith, if◌then◌else◌}
+use Rattle.std.proofs.Common.{◌≡◌, ◌⊎◌, inl, inr, ◌||◌, ℕ, ◌<◌, true, List, [], ◌∷◌, ◌++◌, ℤ, length, map, drop, Option, Some, None, Result, Ok, Err, refl, sym, ap, ◌∙◌, arith}
 use Rattle.std.specs.List.{flat_map}
 use Rattle.std.proofs.Math.Seq.{drop-append_seam}
 use Rattle.std.specs.FinSet as set
 use Rattle.std.specs.Cmp.Lexicographic.{nat_list_cmp_total}
 use Rattle.eng_value.specs.Causes.{CauseSet, cause_key, has_cause}
+use Rattle.eng_value.specs.Environments.{ItemRow, environment, ignoring, no_causes, table_row}
+use Rattle.eng_value.specs.HostMeanings.{HostMeanings, nobody}
 use Rattle.eng_value.specs.StoredRows.{StoredRow}
 use Rattle.eng_value.specs.declared.cause.Cause.{Cause}
-use Rattle.eng_value.specs.declared.cause.Cause.TheVariants.{Reserved}
 use Rattle.eng_value.specs.declared.value.Value.{Value}
-use Rattle.gen_query.specs.Queries.{environments_in}
+use Rattle.gen_query.specs.Queries.{rows_in}
 use Rattle.gen_write.specs.Writes.{source_run, source_of, untouched}
+use Rattle.sql_meaning.specs.declared.bound.BoundExpr.{BoundExpr}
 use Rattle.sql_meaning.specs.declared.bound.BoundInsert.{BoundInsert}
 use Rattle.sql_meaning.specs.declared.bound.BoundSelect.{BoundSelect}
 use Rattle.sql_meaning.specs.declared.bound.Literal.{Literal}
-use Rattle.sql_meaning.specs.declared.column.Column.{Column}
 use Rattle.sql_meaning.specs.declared.column.TableEntry.{TableEntry}
-use Rattle.sql_meaning.specs.Binding.{◌>>=◌}
+use Rattle.sql_meaning.specs.BoundStatements.{FromItem, Put, Query}
 use Rattle.sql_meaning.specs.Expression.{literal_out}
-use Rattle.sql_meaning.specs.Statement.{Item, Row, Failed as Bad, IsNamed, causes_of, with_others, Query, Put, done, query_outcome, items_of, items_at, at_row, environments, put_outcome, put_source, all_put, source_of as source_meant, item_of, no_causes, refusal_of, given_of, create_outcome, is_new_table, rows_put}
-use Rattle.sql_meaning.specs.World.{State, entry_named}
-use Rattle.vm_code.specs.Machine.{World as Lists, IsOrdered, Run, rows_of}
+use Rattle.sql_meaning.specs.Statement.{Item, Row, Failed as Bad, IsNamed, causes_of, with_others, done, query_outcome, items_of, items_at, product, put_outcome, put_source, all_put, source_of as source_meant, item_of, refusal_of, given_of, create_outcome, rows_put}
+use Rattle.sql_meaning.specs.World.{Context, State, context, entry_named, environment_at, lists_of, new_state, surroundings_of}
+use Rattle.vm_code.specs.Machine.{World as Lists, IsOrdered, Run, Shared, rows_of}
 use Rattle.bind_stmt.specs.Binds.{IsFromAt, IsQueryAt, IsPutAt}
-use Rattle.engine.specs.Held.{state_of}
+use Rattle.engine.specs.Held.{named_rows, state_of}
 use Rattle.engine.specs.Running.{put_count}
-use Rattle.engine.specs.Outcomes.{create_outcome_in, query_outcome_in, put_outcome_in, left_by}
+use Rattle.engine.specs.Outcomes.{create_outcome_in, query_outcome_in, put_outcome_in, left_by, surroundings_in}
 use Rattle.engine.proofs.CarryingOut.{StandsFor, stands_same}
 use Rattle.engine.proofs.Places.{place_named-rows, place_named-with_rows, place_named-within, with_rows-free}
 use Rattle.engine.proofs.Puts.{Puts, puts_rows}
@@ -46,26 +47,55 @@ bad_sides [] = inl (refl, refl)
 bad_sides (Row row ∷ items) = bad_sides items
 bad_sides (Bad causes ∷ items) = inr (causes, with_others causes (causes_of items), refl, refl, among_others causes (causes_of items))
 
-module _ (catalog : List TableEntry) (lists : Lists) (changes : ℕ) (last : ℤ) (long : length lists ≡ length catalog) where
+-- ---- the product of one item, and the lists of tables
+
+-- a row of a single item is an environment's only row
+one_item : (f : List ItemRow → List Item) (rows : List StoredRow) → flat_map f (flat_map (λ r. (r ∷ []) ∷ []) (map (λ r. ignoring [] (table_row r)) rows)) ≡ flat_map f (map (λ r. table_row r ∷ []) rows)
+one_item f [] = refl
+one_item f (r ∷ rows) = ap (λ items. f (table_row r ∷ []) ++ items) (one_item f rows)
+
+-- the lists of a catalog's tables are those under their names
+lists_named : (catalog : List TableEntry) (lists : Lists) → length lists ≡ length catalog → map (λ (t : List ℕ × List StoredRow). t.1) (named_rows catalog lists) ≡ lists
+lists_named [] [] long = refl
+lists_named [] (l ∷ ls) long = absurd (omega arith)
+lists_named (e ∷ es) [] long = absurd (omega arith)
+lists_named (e ∷ es) (l ∷ ls) long = ap (λ rest. l ∷ rest) (lists_named es ls (omega arith))
+
+module _ (hosts : HostMeanings) (catalog : List TableEntry) (lists : Lists) (changes : ℕ) (last : ℤ) (long : length lists ≡ length catalog) where
   abbrev state : State
   state = state_of catalog lists changes last
 
   -- ---- SELECT
 
-  environments_same : (params : List Value) (t : Option TableEntry) (place : Option ℕ) → IsFromAt catalog t place → environments state params t ≡ environments_in place params lists
-  environments_same params None None at = refl
-  environments_same params (Some t) (Some place) at = ap (map (at_row params)) (place_named-rows catalog t.name place t at.first at.entry lists long)
-  environments_same params None (Some place) at = absurd at
-  environments_same params (Some t) None at = absurd at
+  module _ (params : List Value) where
+    abbrev ctx : Context
+    ctx = context hosts state params
 
-  pub query_same : (params : List Value) (q : Query) (b : BoundSelect) → IsQueryAt catalog q b → query_outcome state (items_of state params q) ≡ query_outcome_in catalog lists changes last params b
-  query_same params q b at =
-      rw (at.conjuncts, at.results)
-      (ap (λ envs. query_outcome state (flat_map (items_at q.conjuncts q.results) envs)) (environments_same params q.table b.table at.table))
+    around : surroundings_of ctx ≡ surroundings_in hosts params lists
+    around = ap (surroundings_in hosts params) (lists_named catalog lists long)
+
+    -- the items of a FROM are those of the rows of its table
+    from_same : (conjuncts results : List BoundExpr) (from : List FromItem) (place : Option ℕ) → IsFromAt catalog from place
+        → flat_map (λ rows. items_at conjuncts results (environment_at ctx rows)) (product ctx from []) ≡ flat_map (λ rows. items_at conjuncts results (environment (surroundings_in hosts params lists) [] [] rows)) (rows_in place lists)
+    from_same conjuncts results [] None at = ap (λ s. items_at conjuncts results (environment s [] [] []) ++ []) around
+    from_same conjuncts results (i ∷ []) (Some place) at =
+        rw (at.1, place_named-rows catalog i.table.name place i.table at.0.first at.0.entry lists long)
+        (one_item (λ rows. items_at conjuncts results (environment_at ctx rows)) (rows_of lists place)
+        ∙ ap (λ s. flat_map (λ rows. items_at conjuncts results (environment s [] [] rows)) (rows_in (Some place) lists)) around)
+    from_same conjuncts results [] (Some place) at = absurd at
+    from_same conjuncts results (i ∷ []) None at = absurd at
+    from_same conjuncts results (i ∷ j ∷ from) None at = absurd at
+    from_same conjuncts results (i ∷ j ∷ from) (Some place) at = absurd at
+
+    pub query_same : (q : Query) (b : BoundSelect) → IsQueryAt catalog q b → query_outcome state (items_of ctx q) ≡ query_outcome_in hosts catalog lists changes last params b
+    query_same q b at = rw (at.conjuncts, at.results) (ap (query_outcome state) (from_same q.conjuncts q.results q.from b.table at.from))
 
   -- ---- INSERT
 
-  by_result : (b : BoundInsert) (p : Put) → IsPutAt catalog p b → (n : ℕ) (result : Result (List StoredRow) CauseSet) (run : Run) → Puts b.table (untouched [] lists) (rows_of lists b.table) n result run → all_put state p.table n result ≡ left_by catalog lists changes last run.ending run.shared
+  abbrev start : Shared
+  start = untouched [] lists
+
+  by_result : (b : BoundInsert) (p : Put) → IsPutAt catalog p b → (n : ℕ) (result : Result (List StoredRow) CauseSet) (run : Run) → Puts b.table start (rows_of lists b.table) n result run → all_put state p.table n result ≡ left_by catalog lists changes last run.ending run.shared
   by_result b p at n (Err causes) run (ended, given) = rw (ended, given) refl
   by_result b p at n (Ok all) run puts =
       let counted : put_count run.shared.changes ≡ n = omega (arith, puts.counted) in
@@ -75,24 +105,24 @@ module _ (catalog : List TableEntry) (lists : Lists) (changes : ℕ) (last : ℤ
       rw (puts.ended, puts.given, counted, puts.last last, puts.world, tables, rows, new) refl
 
   -- a source without a bad row
-  put_good : (b : BoundInsert) (p : Put) → IsPutAt catalog p b → IsOrdered lists → (source : List (List Value)) → put_source state p None source ≡ left_by catalog lists changes last (source_run b (untouched [] lists) None source).ending (source_run b (untouched [] lists) None source).shared
+  put_good : (b : BoundInsert) (p : Put) → IsPutAt catalog p b → IsOrdered lists → (source : List (List Value)) → put_source state p None source ≡ left_by catalog lists changes last (source_run b start None source).ending (source_run b start None source).shared
   put_good b p at up source =
       let within = place_named-within catalog p.table.name b.table at.table.first in
       let lt : b.table < length lists = omega (arith, within, long) in
       let rows = place_named-rows catalog p.table.name b.table p.table at.table.first at.table.entry lists long in
-      rw rows (by_result b p at (length source) (rows_put p.table (rows_of lists b.table) source) _ (puts_rows b p.table at.name at.affinities source (untouched [] lists) up lt))
+      rw rows (by_result b p at (length source) (rows_put p.table (rows_of lists b.table) source) _ (puts_rows b p.table at.name at.affinities source start up lt))
 
   -- where there is one, the causes of the first are among those of all
   put_bad : (b : BoundInsert) (p : Put) (first all : CauseSet) (source : List (List Value)) → ((k : Cause) → has_cause first k ≡ true → has_cause all k ≡ true)
-      → StandsFor (put_source state p (Some all) source) (left_by catalog lists changes last (source_run b (untouched [] lists) (Some first) source).ending (source_run b (untouched [] lists) (Some first) source).shared)
-  put_bad b p first all source among = record { refusal = named; given = refl; changed = refl; next = refl }
+      → StandsFor (put_source state p (Some all) source) (left_by catalog lists changes last (source_run b start (Some first) source).ending (source_run b start (Some first) source).shared)
+  put_bad b p first all source among = record { refusal = named; given = refl; shows_plan = refl; changed = refl; next = refl }
     where
       named : (why : Option Cause) → IsNamed (Some first) why → IsNamed (Some all) why
       named None n = absurd n
       named (Some k) n = among k n
 
   put_by : (b : BoundInsert) (p : Put) → IsPutAt catalog p b → IsOrdered lists → (items : List Item) (source : List (List Value)) → BadSides items
-      → StandsFor (put_source state p (causes_of items) source) (left_by catalog lists changes last (source_run b (untouched [] lists) (refusal_of items) source).ending (source_run b (untouched [] lists) (refusal_of items) source).shared)
+      → StandsFor (put_source state p (causes_of items) source) (left_by catalog lists changes last (source_run b start (refusal_of items) source).ending (source_run b start (refusal_of items) source).shared)
   put_by b p at up items source (inl none) = rw (none.0, none.1) (stands_same _ _ (put_good b p at up source))
   put_by b p at up items source (inr bad) = rw (bad.2, bad.3) (put_bad b p bad.0 bad.1 source bad.4)
 
@@ -105,14 +135,5 @@ module _ (catalog : List TableEntry) (lists : Lists) (changes : ℕ) (last : ℤ
 
   pub create_same : (t : TableEntry) → entry_named catalog t.name ≡ None → create_outcome state t ≡ create_outcome_in catalog lists changes last t
   create_same t free =
-      ap (λ ts. done [] (record { world = record { catalog = catalog ++ t ∷ []; tables = ts }; stack = []; changes = changes; last_rowid = last }))
+      ap (λ ts. done [] (record new_state { world = record { catalog = catalog ++ t ∷ []; tables = ts }; changes = changes; last_rowid = last }))
       (with_rows-free catalog lists t [] long free)
-
--- the name of a table that is created is free
-pub created_free : (found : Option TableEntry) (reserved : Bool) (name : List ℕ) (columns : Result (List Column) Cause) (tokens : ℕ) (t : TableEntry) → (if reserved then Err (Reserved name) else is_new_table found) >>= (λ u. columns >>= λ cs. Ok (record { name = name; columns = cs; tokens = tokens })) ≡ Ok t → (found ≡ None) × (t.name ≡ name)
-created_free found true name columns tokens t is = absurd (cc)
-created_free (Some e) false name columns tokens t is = absurd (cc)
-created_free None false name (Err why) tokens t is = absurd (cc)
-created_free None false name (Ok cs) tokens t is =
-    let e : TableEntry = record { name = name; columns = cs; tokens = tokens } in
-    let same : e ≡ t = cc in (refl, ap (λ (x : TableEntry). x.name) (sym same))

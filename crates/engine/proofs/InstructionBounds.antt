@@ -1,34 +1,32 @@
 -- The programs of statements run within the bound that size and work give.
-use Rattle.std.proofs.Common.{◌≡◌, true, ℕ, ◌+◌, ◌*◌, ◌≤◌, List, [], ◌∷◌, ℤ, length, map, sum_by, Option, Some, None, Result, Ok, Err, refl, sym, ap, subst, arith}
-use Rattle.std.specs.Result.{is_ok}
+use Rattle.std.proofs.Common.{◌≡◌, ℕ, ◌+◌, ◌*◌, ◌≤◌, List, [], ◌∷◌, ℤ, length, map, sum_by, Option, Some, None, Ok, refl, ap, subst, arith}
 use Rattle.std.proofs.Math.Nat.{mul-le-mul_left}
+use Rattle.std.proofs.lemmas.List.{length-map}
 use Rattle.std.proofs.lemmas.List.Sums.{sum_by-cons}
+use Rattle.bind_stmt.specs.declared.statement.Bound.{Bound}
 use Rattle.bind_stmt.specs.declared.statement.Bound.TheVariants as bound
 use Rattle.bind_stmt.specs.Binds.{IsBound, IsFromAt}
-use Rattle.bind_stmt.specs.Small.{IsSmall, IsSmallQuery, columns_at}
-use Rattle.eng_value.specs.declared.cause.Cause.{Cause}
+use Rattle.bind_stmt.specs.Small.{IsSmall, IsSmallQuery, columns_at, from_size as table_size, row_size}
+use Rattle.eng_value.specs.Environments.{ignoring, table_row}
+use Rattle.eng_value.specs.HostMeanings.{HostMeanings}
+use Rattle.eng_value.specs.StoredRows.{StoredRow}
+use Rattle.eng_value.specs.declared.value.Value.{Value}
 use Rattle.gen_query.proofs.Sizing.{steps-few}
 use Rattle.gen_query.specs.Queries.{query_steps, rows_seen}
-use Rattle.gen_write.specs.Writes.{create_steps, put_steps, row_steps}
+use Rattle.gen_write.specs.Writes.{put_steps, row_steps}
 use Rattle.sql_lex.specs.Tokens.{tokens_of}
-use Rattle.sql_meaning.specs.Binding.{◌>>=◌, Scope}
-use Rattle.sql_meaning.specs.declared.bound.BoundExpr.{BoundExpr}
-use Rattle.sql_meaning.specs.declared.bound.BoundInsert.{BoundInsert}
 use Rattle.sql_meaning.specs.declared.bound.BoundSelect.{BoundSelect}
 use Rattle.sql_meaning.specs.declared.bound.Literal.{Literal}
 use Rattle.sql_meaning.specs.declared.column.TableEntry.{TableEntry}
+use Rattle.sql_meaning.specs.BoundStatements.{BoundStatement, Creates, FromItem, Puts, Queries, Query}
 use Rattle.sql_meaning.specs.Sizes.{all_nodes}
-use Rattle.sql_meaning.specs.Spelled.{name_at}
-use Rattle.sql_meaning.specs.Statement.{Query, conjuncts_of, count_of, created_entry, found_table, put_of, from_table, query_in, query_of, results_behind}
-use Rattle.sql_meaning.specs.Work.{instruction_bound, is_bound, opened, scan_work, table_size, work_of}
-use Rattle.sql_meaning.specs.World.{State, entry_named, rows_of as rows_under}
-use Rattle.sql_meaning.specs.Shapes.{Built, Creates, Inserts, Selects, Select, size_of_from}
-use Rattle.sql_tree.specs.Sizes.{total, size_of_row}
-use Rattle.sql_tree.specs.declared.expr.Expr.{Expr}
-use Rattle.sql_tree.specs.declared.token.Token.{Token}
+use Rattle.sql_meaning.specs.Statement.{item_rows, text_bound}
+use Rattle.sql_meaning.specs.Work.{bound_within, from_size, from_work, instruction_bound, opened_size, work_of}
+use Rattle.sql_meaning.specs.World.{Context, State, context, rows_of as rows_under}
+use Rattle.sql_tree.specs.Sizes.{total}
 use Rattle.vm_code.specs.Machine.{World as Lists}
 use Rattle.engine.specs.Held.{state_of}
-use Rattle.engine.specs.Prepared.{IsStatement}
+use Rattle.engine.specs.Outcomes.{steps_in}
 use Rattle.engine.proofs.Places.{place_named-rows}
 
 -- ---- numbers
@@ -41,111 +39,66 @@ within_size a n opens work le =
     omega (arith, le, all)
 
 -- so much for each row of a table
-within_rows : (each n opens rows : ℕ) → each + 16 ≤ 256 * n → 16 + (1 + rows) * each ≤ 256 * (n + opens) * (1 + rows + 1)
-within_rows each n opens rows le =
+within_rows : (each n opens rows work : ℕ) → work ≡ 1 + rows → each + 16 ≤ 256 * n → 16 + (1 + rows) * each ≤ 256 * (n + opens) * (work + 1)
+within_rows each n opens rows work is le =
     let m = 256 * (n + opens) in
     let few : each ≤ m = omega (arith, le) in
     let times : (1 + rows) * each ≤ (1 + rows) * m = mul-le-mul_left (1 + rows) few in
     let all : m * (1 + rows + 1) ≡ (1 + rows) * m + m = omega arith in
-    omega (arith, le, times, all)
+    rw is (omega (arith, le, times, all))
 
--- ---- what a query reads
+rows_few : (rows : List (List Literal)) → sum_by row_steps rows ≤ 6 * total (map row_size rows)
+rows_few [] = omega arith
+rows_few (row ∷ rows) = omega (arith, rows_few rows, sum_by-cons row_steps row rows)
 
-then_table : (conjuncts : Result (List BoundExpr) Cause) (results : Result (List BoundExpr) Cause) (table : Option TableEntry) (q : Query) → conjuncts >>= (λ cs. results >>= λ rs. Ok (record { table = table; conjuncts = cs; results = rs })) ≡ Ok q → q.table ≡ table
-then_table (Err why) results table q is = absurd (cc)
-then_table (Ok cs) (Err why) table q is = absurd (cc)
-then_table (Ok cs) (Ok rs) table q is =
-    let made : Query = record { table = table; conjuncts = cs; results = rs } in
-    let same : made ≡ q = cc in ap (λ (x : Query). x.table) (sym same)
-
-query_in_table : (s : Scope) (x : Select) (q : Query) → query_in s x ≡ Ok q → q.table ≡ s.table
-query_in_table s x q is = then_table (conjuncts_of s x.filter) (results_behind s [] x.results) s.table q is
-
--- the table of its FROM, or none
-pub record ReadsFrom (catalog : List TableEntry) (text : List ℕ) (from : Token) (q : Query) : Type 0 where
-  pub entry : TableEntry
-  pub named : entry_named catalog (name_at text from) ≡ Some entry
-  pub table : q.table ≡ Some entry
-
-reads_found : (catalog : List TableEntry) (text : List ℕ) (from : Token) (x : Select) (q : Query) (found : Option TableEntry) → entry_named catalog (name_at text from) ≡ found → (found_table (name_at text from) found >>= λ entry. Ok (Some entry)) >>= (λ table. query_in (record { text = text; table = table }) x) ≡ Ok q → ReadsFrom catalog text from q
-reads_found catalog text from x q None named is = absurd (cc)
-reads_found catalog text from x q (Some e) named is = record { entry = e; named = named; table = query_in_table (record { text = text; table = Some e }) x q is }
-
-module _ (catalog : List TableEntry) (lists : Lists) (changes : ℕ) (last : ℤ) (text : List ℕ) (long : length lists ≡ length catalog) where
-  abbrev state : State
-  state = state_of catalog lists changes last
+module _ (hosts : HostMeanings) (catalog : List TableEntry) (lists : Lists) (changes : ℕ) (last : ℤ) (params : List Value) (text : List ℕ) (long : length lists ≡ length catalog) where
+  abbrev ctx : Context
+  ctx = context hosts (state_of catalog lists changes last) params
 
   abbrev tokens : ℕ
   tokens = length (tokens_of text)
 
-  abbrev count : ℕ
-  count = count_of (tokens_of text)
+  -- ---- a query
 
-  -- what is bound runs
-  bound_is : (s : Built) → IsStatement text s → is_bound state text s ≡ true → instruction_bound state text ≡ 256 * (tokens + table_size (opened state text s)) * (work_of state text s + 1)
-  bound_is s is binds = rw (is.derived, binds) refl
+  -- so many rows are read as the item has
+  rows_same : (i : FromItem) (place : ℕ) → IsFromAt catalog (i ∷ []) (Some place) → from_work ctx (i ∷ []) ≡ 1 + rows_seen (Some place) lists
+  rows_same i place at =
+      let many = length-map (rows_under ctx.state.world.tables i.table.name) (λ (r : StoredRow). ignoring i.ignored (table_row r)) in
+      let rows = ap length (place_named-rows catalog i.table.name place i.table at.0.first at.0.entry lists long) in
+      omega (arith, many, rows)
 
-  is_ok-Ok : {B : Type 0} (r : Result B Cause) (b : B) → r ≡ Ok b → is_ok r ≡ true
-  is_ok-Ok r b is = rw is refl
-
-  -- ---- CREATE TABLE
-
-  pub create_within : (s : Built) (t : TableEntry) → IsStatement text s → IsBound catalog text count s (bound.CreateTable t) → create_steps lists ≤ instruction_bound state text
-  create_within (Creates c) t is b =
-      rw (bound_is (Creates c) is (is_ok-Ok (created_entry catalog text count c) t b)) (within_size 2 tokens 0 0 (omega (arith, is.small)))
-  create_within (Inserts i) t is b = absurd b
-  create_within (Selects x) t is b = absurd b
-
-  -- ---- INSERT
-
-  rows_few : (rows : List (List Literal)) (written : List (List Expr)) → map length rows ≡ map length written → sum_by row_steps rows ≤ 6 * total (map size_of_row written)
-  rows_few [] written same = omega arith
-  rows_few (row ∷ rows) [] same = absurd (cc)
-  rows_few (row ∷ rows) (w ∷ written) same =
-      let one : length row ≡ length w = cc in
-      let rest : map length rows ≡ map length written = cc in
-      omega (arith, one, rows_few rows written rest, sum_by-cons row_steps row rows)
-
-  pub insert_within : (s : Built) (b : BoundInsert) → IsStatement text s → IsBound catalog text count s (bound.Insert b) → IsSmall catalog s (bound.Insert b) → put_steps b lists ≤ instruction_bound state text
-  insert_within (Inserts i) b is bound small =
-      rw (bound_is (Inserts i) is (is_ok-Ok (put_of catalog text i) bound.0 bound.1))
-      (within_size (put_steps b lists) tokens (table_size (opened state text (Inserts i))) (work_of state text (Inserts i)) (omega (arith, is.small, rows_few b.rows i.rows small)))
-  insert_within (Creates c) b is bound small = absurd bound
-  insert_within (Selects x) b is bound small = absurd bound
-
-  -- ---- SELECT
-
-  no_table : (q : Query) (b : BoundSelect) → q.table ≡ None → IsFromAt catalog q.table b.table → b.table ≡ None
-  no_table q b none at = by b.table (subst (λ t. IsFromAt catalog t b.table) none at)
-    where
-      by : (place : Option ℕ) → IsFromAt catalog None place → place ≡ None
-      by None at = refl
-      by (Some place) at = absurd at
-
-  -- so many rows are read as the table has
-  rows_same : (e : TableEntry) (place : Option ℕ) → IsFromAt catalog (Some e) place → rows_seen place lists ≡ length (rows_under state.world.tables e.name)
-  rows_same e None at = absurd at
-  rows_same e (Some place) at = ap length (sym (place_named-rows catalog e.name place e at.first at.entry lists long))
-
-  select_from : (x : Select) (q : Query) (b : BoundSelect) (from : Option Token) → x.from ≡ from → IsStatement text (Selects x) → query_of catalog text x ≡ Ok q → IsFromAt catalog q.table b.table → IsSmallQuery catalog x b → query_steps b lists ≤ 256 * (tokens + table_size (opened state text (Selects x))) * (scan_work state text from + 1)
-  select_from x q b None none is meant at small =
-      let table = query_in_table (record { text = text; table = None }) x q (subst (λ f. from_table catalog text f >>= (λ t. query_in (record { text = text; table = t }) x) ≡ Ok q) none meant) in
-      let unread = no_table q b table at in
-      let stars : small.stars ≤ 0 = subst (λ t. small.stars ≤ 100 * columns_at catalog t) unread small.of_table in
-      let rows : rows_seen b.table lists ≡ 0 = ap (λ t. rows_seen t lists) unread in
+  query_few : (from : List FromItem) (b : BoundSelect) (place : Option ℕ) → b.table ≡ place → IsFromAt catalog from place → IsSmallQuery catalog tokens b → query_steps b lists ≤ 256 * (tokens + from_size from) * (from_work ctx from + 1)
+  query_few [] b None none at small =
+      let stars : small.stars ≤ 0 = subst (λ t. small.stars ≤ 100 * columns_at catalog t) none small.of_table in
+      let within : 1 + small.shown + 0 + small.filter ≤ tokens = subst (λ t. 1 + small.shown + table_size t + small.filter ≤ tokens) none small.within in
+      let rows : rows_seen b.table lists ≡ 0 = ap (λ t. rows_seen t lists) none in
       let few : query_steps b lists ≤ 16 + (1 + 0) * (4 * (all_nodes b.conjuncts + all_nodes b.results) + 6) = subst (λ r. query_steps b lists ≤ 16 + (1 + r) * (4 * (all_nodes b.conjuncts + all_nodes b.results) + 6)) rows (steps-few b lists) in
-      within_size (query_steps b lists) tokens (table_size (opened state text (Selects x))) 1
-      (omega (arith, few, stars, small.conjuncts, small.results, is.small))
-  select_from x q b (Some t) some is meant at small =
-      let reads = reads_found catalog text t x q (entry_named catalog (name_at text t)) refl (subst (λ f. from_table catalog text f >>= (λ t. query_in (record { text = text; table = t }) x) ≡ Ok q) some meant) in
-      let rows = rows_same reads.entry b.table (subst (λ e. IsFromAt catalog e b.table) reads.table at) in
+      within_size (query_steps b lists) tokens (from_size []) (from_work ctx []) (omega (arith, few, stars, within, small.conjuncts, small.results))
+  query_few (i ∷ []) b (Some place) some at small =
       let each = 4 * (all_nodes b.conjuncts + all_nodes b.results) + 6 in
-      let from : size_of_from x.from ≡ 2 = ap size_of_from some in
-      let few = within_rows each tokens (table_size (opened state text (Selects x))) (rows_seen b.table lists) (omega (arith, from, small.hundred, small.conjuncts, small.results, is.small)) in
-      rw (reads.named, ← rows) (omega (arith, few, steps-few b lists))
+      let within : 1 + small.shown + 2 + small.filter ≤ tokens = subst (λ t. 1 + small.shown + table_size t + small.filter ≤ tokens) some small.within in
+      let few : query_steps b lists ≤ 16 + (1 + rows_seen (Some place) lists) * each = subst (λ t. query_steps b lists ≤ 16 + (1 + rows_seen t lists) * each) some (steps-few b lists) in
+      let enough = within_rows each tokens (from_size (i ∷ [])) (rows_seen (Some place) lists) (from_work ctx (i ∷ [])) (rows_same i place at) (omega (arith, within, small.hundred, small.conjuncts, small.results)) in
+      omega (arith, few, enough)
+  query_few [] b (Some place) some at small = absurd at
+  query_few (i ∷ []) b None none at small = absurd at
+  query_few (i ∷ j ∷ from) b None none at small = absurd at
+  query_few (i ∷ j ∷ from) b (Some place) some at small = absurd at
 
-  pub select_within : (s : Built) (b : BoundSelect) → IsStatement text s → IsBound catalog text count s (bound.Select b) → IsSmall catalog s (bound.Select b) → query_steps b lists ≤ instruction_bound state text
-  select_within (Selects x) b is (q, meant, at) small =
-      rw (bound_is (Selects x) is (is_ok-Ok (query_of catalog text x) q meant)) (select_from x q b x.from refl is meant at.table small)
-  select_within (Creates c) b is bound small = absurd bound
-  select_within (Inserts i) b is bound small = absurd bound
+  -- ---- any statement
+
+  few_for : (x : BoundStatement) (b : Bound) → IsBound catalog x b → IsSmall catalog tokens b → steps_in lists b ≤ 256 * (tokens + opened_size x) * (work_of ctx x + 1)
+  few_for (Creates t) (bound.CreateTable e) at small = within_size 2 tokens 0 0 (omega (arith, small))
+  few_for (Puts p) (bound.Insert b) at small =
+      within_size (put_steps b lists) tokens (opened_size (Puts p)) (work_of ctx (Puts p)) (omega (arith, small, rows_few b.rows))
+  few_for (Queries q) (bound.Select b) at small = query_few q.from b b.table refl at.from small
+  few_for (Creates t) (bound.Insert b) at small = absurd at
+  few_for (Creates t) (bound.Select b) at small = absurd at
+  few_for (Puts p) (bound.CreateTable e) at small = absurd at
+  few_for (Puts p) (bound.Select b) at small = absurd at
+  few_for (Queries q) (bound.CreateTable e) at small = absurd at
+  few_for (Queries q) (bound.Insert b) at small = absurd at
+
+  -- a bound statement runs within what its text may run
+  pub runs_within : (x : BoundStatement) (b : Bound) → text_bound catalog text ≡ Ok x → IsBound catalog x b → IsSmall catalog tokens b → steps_in lists b ≤ instruction_bound ctx text
+  runs_within x b is at small = rw (ap (bound_within ctx tokens) is) (few_for x b at small)

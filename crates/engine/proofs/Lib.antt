@@ -1,4 +1,5 @@
 pub mod Takings
+pub mod Telling
 pub mod Stretches
 pub mod Answering
 pub mod Places

@@ -4,6 +4,7 @@ use Rattle.std.proofs.lemmas.Int.{ints}
 use Rattle.std.proofs.lemmas.List.{length-set, set-get_or, get_or-set_same}
 use Rattle.eng_value.specs.Casts.{store_as}
 use Rattle.eng_value.specs.Causes.{CauseSet, only}
+use Rattle.eng_value.specs.Environments.{no_causes}
 use Rattle.eng_value.specs.StoredRows.{StoredRow, IsAscending, rowid_behind, next_rowid}
 use Rattle.eng_value.specs.declared.cause.Cause.TheVariants.{Full}
 use Rattle.eng_value.specs.declared.limits.TheConstants.{MAX_ROWID}
@@ -12,7 +13,7 @@ use Rattle.gen_write.specs.Writes.{stored_as, row_under, row_put, rows_run}
 use Rattle.sql_meaning.specs.declared.bound.BoundInsert.{BoundInsert}
 use Rattle.sql_meaning.specs.declared.column.Column.{Column}
 use Rattle.sql_meaning.specs.declared.column.TableEntry.{TableEntry}
-use Rattle.sql_meaning.specs.Statement.{Item, Row, Failed as Bad, item_of, no_causes, stored, item_put, rows_put, row_under as row_meant, last_rowid_of}
+use Rattle.sql_meaning.specs.Statement.{Item, Row, Failed as Bad, item_of, stored, item_put, rows_put, row_under as row_meant, last_rowid_of}
 use Rattle.sql_meaning.specs.Binding.{◌>>=◌}
 use Rattle.vm_code.specs.declared.change.Change.{Change}
 use Rattle.vm_code.specs.declared.change.Change.TheVariants.{RowPut, TableAdded}

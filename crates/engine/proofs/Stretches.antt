@@ -1,9 +1,10 @@
 -- One stretch of a run and the next, and what a run comes to whose stretches are known.
 use Rattle.std.proofs.Common.{◌≡◌, ℕ, zero, suc, ◌+◌, ◌-◌, ◌<◌, ◌≤◌, Bool, true, false, List, [], ◌∷◌, ◌++◌, length, None, Ok, Err, Option, Result, refl, sym, ap, ◌∙◌, subst, arith, append_assoc, append-nil, length-append, ⊎_elim}
 use Rattle.std.proofs.lemmas.Bool.{cases_lt}
+use Rattle.eng_value.specs.HostMeanings.{HostMeanings, Oracle}
 use Rattle.eng_value.specs.declared.value.Value.{Value}
 use Rattle.vm_code.specs.declared.program.Program.{Program}
-use Rattle.vm_code.specs.Machine.{Row, World, Setting, Shared, State, Ending, Finished, Failed, Next, On, End, Ends, after, start}
+use Rattle.vm_code.specs.Machine.{Row, World, Setting, Shared, State, Ending, Finished, Failed, Next, On, End, Ends, after, setting, start}
 use Rattle.vm_code.proofs.Given.{over, one_end, still_on, next_stretch, under}
 use Rattle.vm_code.proofs.Kept.{shared_of, after_keeps, with_row_by}
 use Rattle.vm_code.proofs.Runs.{after_add}
@@ -71,27 +72,27 @@ module _ (m : Setting) where
       let begins = given_grows k ends.steps s t e x is ends.is in
       (rows, begins.0, ap (λ l. l ++ begins.0) (sym given) ∙ begins.1, adds)
 
-  module _ (most n whole : ℕ) (s : State) (e : Ending) (x : Shared) (ends : Ends m most s e x) (needed : NoneInVain m n s) (q : Paused) (w0 v w : World) (old new : Option Rows) (rose : Type 0) where
-    pub stopped : (why : Stop) → w ≡ w0 → DriveIs m n s (state_of q v) whole rose old new (Err why) → RunsAs e x most whole n w0 w old new rose (Err why)
-    stopped (stop.Bad causes) back run =
+  module _ (most n whole : ℕ) (s : State) (e : Ending) (x : Shared) (ends : Ends m most s e x) (needed : NoneInVain m n s) (q : Paused) (v w : World) (old new : Option Rows) (rose : Type 0) where
+    pub stopped : (why : Stop) → DriveIs m n s (state_of q v) whole rose old new (Err why) → RunsAs e x most whole n w old new rose (Err why)
+    stopped (stop.Bad causes) run =
         let rows = run.0 in
         let same = end_is most n s e (Failed causes) x (state_of q v rows).shared ends run.1 in
         let given : rows ≡ x.given = ap (λ (y : Shared). y.given) (sym same.1) in
         let adds : Adds old new x.given = subst (Adds old new) given run.2 in
-        record { answer = (same.0, back, adds); front = (x.given, [], append-nil x.given, adds); within = enough most n s e x ends needed }
-    stopped (stop.Interrupted k) back run =
+        record { answer = (same.0, adds); front = (x.given, [], append-nil x.given, adds); within = enough most n s e x ends needed }
+    stopped (stop.Interrupted k) run =
         let fewer = still_on m ends.steps n s (state_of q v run.0) e x ends.is run.1.0 in
         let less : k < most = omega (arith, fewer, ends.within, run.1.1, run.1.2) in
         let same : n ≡ k = omega (arith, run.1.1, run.1.2) in
-        record { answer = (run.1.1, same, less, back); front = front_on most n s (state_of q v run.0) e x run.0 old new ends run.1.0 refl run.2; within = enough most n s e x ends needed }
-    stopped stop.SinkFault back run =
+        record { answer = (run.1.1, same, less); front = front_on most n s (state_of q v run.0) e x run.0 old new ends run.1.0 refl run.2; within = enough most n s e x ends needed }
+    stopped stop.SinkFault run =
         let at = run.1.0 in
-        record { answer = (run.1.1, back); front = front_on most at.steps s at.state e x run.0 old new ends at.is at.given run.2; within = enough most n s e x ends needed }
-    stopped stop.Mem back run =
+        record { answer = run.1.1; front = front_on most at.steps s at.state e x run.0 old new ends at.is at.given run.2; within = enough most n s e x ends needed }
+    stopped stop.Mem run =
         let at = run.1 in
-        record { answer = back; front = front_on most at.steps s at.state e x run.0 old new ends at.is at.given run.2; within = enough most n s e x ends needed }
+        record { answer = tt; front = front_on most at.steps s at.state e x run.0 old new ends at.is at.given run.2; within = enough most n s e x ends needed }
 
-    pub finished : (c : Completed) (given : ℕ) → w ≡ v → DriveIs m n s (state_of q v) whole rose old new (Ok given) → c.given ≡ given → c.changed ≡ put_count q.changes → c.last_rowid ≡ last_put None q.changes → RunsAs e x most whole n w0 w old new rose (Ok c)
+    pub finished : (c : Completed) (given : ℕ) → w ≡ v → DriveIs m n s (state_of q v) whole rose old new (Ok given) → c.given ≡ given → c.changed ≡ put_count q.changes → c.last_rowid ≡ last_put None q.changes → RunsAs e x most whole n w old new rose (Ok c)
     finished c given world run given_is changed last =
         let rows = run.0 in
         let same = end_is most n s e Finished x (state_of q v rows).shared ends run.1 in
@@ -107,16 +108,16 @@ module _ (m : Setting) where
 -- ---- one stretch after another
 
 -- a run stands here after so many instructions, and so many rows were given and taken
-pub record Along (first p : Paused) (w0 w : World) (old new : Option Rows) (ran given : ℕ) : Type 0 where
+pub record Along (hosts : HostMeanings) (ask : Oracle) (first p : Paused) (w0 w : World) (old new : Option Rows) (ran given : ℕ) : Type 0 where
   pub rows : Rows
-  pub is : after (record { prog = first.prog }) ran (state_of first w0 []) ≡ On (state_of p w rows)
+  pub is : after (setting hosts ask first.prog) ran (state_of first w0 []) ≡ On (state_of p w rows)
   pub taken : Adds old new rows
   pub count : given ≡ length rows
 
-pub along_first : (p : Paused) (w : World) (t : Option Rows) (ran : ℕ) → ran ≡ 0 → Along p p w w t t ran 0
-along_first p w t ran none = record {
+pub along_first : (hosts : HostMeanings) (ask : Oracle) (p : Paused) (w : World) (t : Option Rows) (ran : ℕ) → ran ≡ 0 → Along hosts ask p p w w t t ran 0
+along_first hosts ask p w t ran none = record {
   rows = [];
-  is = ap (λ k. after (record { prog = p.prog }) k (state_of p w [])) none;
+  is = ap (λ k. after (setting hosts ask p.prog) k (state_of p w [])) none;
   taken = adds_none t;
   count = refl;
 }
@@ -144,15 +145,15 @@ handed m n ran whole p w t row old new rose (Err (stop.Interrupted k)) is took =
 handed m n ran whole p w t row old new rose (Err stop.SinkFault) is took = ((gives_none m p w, took.0), took.1)
 handed m n ran whole p w t row old new rose (Err stop.Mem) is took = (gives_none m p w, took)
 
-module _ {first p : Paused} {w0 w : World} {old mid : Option Rows} {i given : ℕ} (along : Along first p w0 w old mid i given) (prog : p.prog ≡ first.prog) (n ran : ℕ) (ran_is : ran ≡ i + n) where
+module _ {hosts : HostMeanings} {ask : Oracle} {first p : Paused} {w0 w : World} {old mid : Option Rows} {i given : ℕ} (along : Along hosts ask first p w0 w old mid i given) (prog : p.prog ≡ first.prog) (n ran : ℕ) (ran_is : ran ≡ i + n) where
   abbrev m : Setting
-  m = record { prog = first.prog }
+  m = setting hosts ask first.prog
 
   abbrev s : State
   s = state_of first w0 []
 
-  from_here : (x : Next) → after (record { prog = p.prog }) n (state_of p w []) ≡ x → after m n (state_of p w []) ≡ x
-  from_here x next = ap (λ (y : Program). after (record { prog = y }) n (state_of p w [])) (sym prog) ∙ next
+  from_here : (x : Next) → after (setting hosts ask p.prog) n (state_of p w []) ≡ x → after m n (state_of p w []) ≡ x
+  from_here x next = ap (λ (y : Program). after (setting hosts ask y) n (state_of p w [])) (sym prog) ∙ next
 
   needed_here : NoneInVain m n (state_of p w []) → NoneInVain m ran s
   needed_here needed k last =
@@ -162,8 +163,8 @@ module _ {first p : Paused} {w0 w : World} {old mid : Option Rows} {i given : �
       let z : k ≡ i + (k - i) = omega arith in
       (under along.rows u.0, ap (λ j. after m j s) z ∙ next_stretch m i (k - i) s (state_of p w []) along.rows (On u.0) along.is u.1)) (cases_lt k i)
 
-  pub needed_then : NoneInVain (record { prog = p.prog }) n (state_of p w []) → NoneInVain m ran s
-  needed_then needed = needed_here (subst (λ (y : Program). NoneInVain (record { prog = y }) n (state_of p w [])) prog needed)
+  pub needed_then : NoneInVain (setting hosts ask p.prog) n (state_of p w []) → NoneInVain m ran s
+  needed_then needed = needed_here (subst (λ (y : Program). NoneInVain (setting hosts ask y) n (state_of p w [])) prog needed)
 
   gives_then : Gives m s along.rows
   gives_then = record { steps = i; state = state_of p w along.rows; is = along.is; given = refl }
@@ -187,19 +188,19 @@ module _ {first p : Paused} {w0 w : World} {old mid : Option Rows} {i given : �
     stop_then whole rose since later stop.Mem at = gives_then
 
     -- a run that stops in its next stretch stops
-    pub drive_stops : (part whole to : ℕ) (rose since : Type 0) (why : Stop) → part ≡ whole → to ≡ ran → (rose → since) → NextIs (record { prog = p.prog }) n (state_of p w []) (state_of q v) part to rose mid new (Err why) → DriveIs m ran s (state_of q v) whole since old new (Err why)
+    pub drive_stops : (part whole to : ℕ) (rose since : Type 0) (why : Stop) → part ≡ whole → to ≡ ran → (rose → since) → NextIs (setting hosts ask p.prog) n (state_of p w []) (state_of q v) part to rose mid new (Err why) → DriveIs m ran s (state_of q v) whole since old new (Err why)
     drive_stops part whole to rose since why same counted later next =
-        let here = subst (λ (y : Program). StopsAt (record { prog = y }) n (state_of p w []) (state_of q v) part to rose [] why) prog next.0 in
+        let here = subst (λ (y : Program). StopsAt (setting hosts ask y) n (state_of p w []) (state_of q v) part to rose [] why) prog next.0 in
         let there = subst (λ (k : ℕ). StopsAt m n (state_of p w []) (state_of q v) k to rose [] why) same here in
         let at = subst (λ (k : ℕ). StopsAt m n (state_of p w []) (state_of q v) whole k rose [] why) counted there in
         (along.rows, stop_then whole rose since later why at, taken_still next.1)
 
     -- a run is at its end that has none but its last stretch before it
-    pub drive_ends : after (record { prog = p.prog }) n (state_of p w []) ≡ End Finished (state_of q v []).shared → Adds mid new [] → (rows : Rows) × (after m ran s ≡ End Finished (state_of q v rows).shared) × Adds old new rows × (given ≡ length rows)
+    pub drive_ends : after (setting hosts ask p.prog) n (state_of p w []) ≡ End Finished (state_of q v []).shared → Adds mid new [] → (rows : Rows) × (after m ran s ≡ End Finished (state_of q v rows).shared) × Adds old new rows × (given ≡ length rows)
     drive_ends next adds = (along.rows, end_then Finished (from_here (End Finished (state_of q v []).shared) next), taken_still adds, along.count)
 
     -- one row more was given and taken
-    pub along_next : (row : Row) → after (record { prog = p.prog }) n (state_of p w []) ≡ On (state_of q v (row ∷ [])) → Adds mid new (row ∷ []) → Along first q w0 v old new ran (given + 1)
+    pub along_next : (row : Row) → after (setting hosts ask p.prog) n (state_of p w []) ≡ On (state_of q v (row ∷ [])) → Adds mid new (row ∷ []) → Along hosts ask first q w0 v old new ran (given + 1)
     along_next row next adds = record {
       rows = along.rows ++ row ∷ [];
       is = on_then (row ∷ []) (from_here (On (state_of q v (row ∷ []))) next);
@@ -208,5 +209,5 @@ module _ {first p : Paused} {w0 w : World} {old mid : Option Rows} {i given : �
     }
 
 -- a machine that was made of a program runs as the program does
-pub of_program : (p : Paused) (prog : Program) (params : List Value) (w : World) (P : Setting → State → Type 0) → p ≡ at_start prog params → P (record { prog = p.prog }) (state_of p w []) → P (record { prog = prog }) (start prog params w)
-of_program p prog params w P made h = subst (λ (y : Paused). P (record { prog = y.prog }) (state_of y w [])) made h
+pub of_program : (hosts : HostMeanings) (ask : Oracle) (p : Paused) (prog : Program) (params : List Value) (w : World) (P : Setting → State → Type 0) → p ≡ at_start prog params → P (setting hosts ask p.prog) (state_of p w []) → P (setting hosts ask prog) (start prog params w)
+of_program hosts ask p prog params w P made h = subst (λ (y : Paused). P (setting hosts ask y.prog) (state_of y w [])) made h

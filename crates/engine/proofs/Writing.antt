@@ -3,12 +3,13 @@ use Rattle.std.proofs.Common.{◌≡◌, ℕ, List, [], ◌∷◌, ◌++◌, ℤ
 use Rattle.std.proofs.lemmas.List.{length-append, length-set}
 use Rattle.std.proofs.Math.Seq.{take-append_seam}
 use Rattle.eng_value.specs.Causes.{CauseSet}
+use Rattle.eng_value.specs.Environments.{no_causes}
 use Rattle.eng_value.specs.StoredRows.{StoredRow, next_rowid}
 use Rattle.eng_value.specs.declared.value.Value.{Value}
 use Rattle.gen_write.specs.Writes.{stored_as, row_under, row_put, rows_run, source_run, source_of, put_run, untouched}
 use Rattle.sql_meaning.specs.declared.bound.BoundInsert.{BoundInsert}
 use Rattle.sql_meaning.specs.declared.column.TableEntry.{TableEntry}
-use Rattle.sql_meaning.specs.Statement.{Item, Row, Failed as Bad, item_of, no_causes, refusal_of, given_of}
+use Rattle.sql_meaning.specs.Statement.{Item, Row, Failed as Bad, item_of, refusal_of, given_of}
 use Rattle.vm_code.specs.Machine.{World as Lists, Run, Shared, Ending, Finished, Failed, rows_of, put_row, with_row}
 use Rattle.vm_code.proofs.Kept.{with_row_by}
 use Rattle.engine.specs.Held.{state_of}
@@ -19,9 +20,9 @@ use Rattle.engine.proofs.CarryingOut.{Shows}
 -- ---- an outcome by how a run ends
 
 module _ (catalog : List TableEntry) (lists : Lists) (changes : ℕ) (last : ℤ) where
-  pub left_shows : (e : Ending) (x : Shared) → Shows (left_by catalog lists changes last e x) e x
-  left_shows Finished x = record { ended = refl; given = refl }
-  left_shows (Failed causes) x = record { ended = refl; given = refl }
+  pub left_shows : (e : Ending) (x : Shared) → Shows (state_of catalog lists changes last) (left_by catalog lists changes last e x) e x
+  left_shows Finished x = record { ended = refl; given = refl; kept = λ causes is. absurd (let bad : Finished ≡ Failed causes = is in cc) }
+  left_shows (Failed causes) x = record { ended = refl; given = refl; kept = λ others is. refl }
 
   -- where it ends well the changes stay
   pub left_next : (e : Ending) (x : Shared) → e ≡ Finished → (left_by catalog lists changes last e x).next ≡ state_of catalog x.world (put_count x.changes) (unwrap_or (last_put None x.changes) last)

@@ -25,14 +25,14 @@ NamesStop (stop.Interrupted n) k = k ≡ cause.Interrupted n
 NamesStop stop.SinkFault k = k ≡ cause.SinkFault
 NamesStop stop.Mem k = k ≡ cause.Mem
 
--- what a program's run says, where the machine over lists ends so with this shared, from these tables and this sink to those
-abbrev pub AnswersAs : Ending → Shared → ℕ → ℕ → ℕ → World → World → Option Rows → Option Rows → Type 0 → Result Completed Cause → Type 0
-AnswersAs e x most budget ran w0 w t0 t rose (Ok c) =
+-- what a program's run says, where the machine over lists ends so with this shared, with these tables then and from this sink to that
+abbrev pub AnswersAs : Ending → Shared → ℕ → ℕ → ℕ → World → Option Rows → Option Rows → Type 0 → Result Completed Cause → Type 0
+AnswersAs e x most budget ran w t0 t rose (Ok c) =
     (e ≡ Finished) × (w ≡ x.world) × Adds t0 t x.given × (c.given ≡ length x.given) × (c.changed ≡ put_count x.changes) × (c.last_rowid ≡ last_put None x.changes)
-AnswersAs e x most budget ran w0 w t0 t rose (Err k) = (w ≡ w0) × Refuses e x most budget ran t0 t rose k
+AnswersAs e x most budget ran w t0 t rose (Err k) = Refuses e x most budget ran t0 t rose k
 
 -- the same, with a front of the rows taken and no more instructions run than the machine over lists needs
-pub record ExecutesAs (e : Ending) (x : Shared) (most budget ran : ℕ) (w0 w : World) (t0 t : Option Rows) (rose : Type 0) (result : Result Completed Cause) : Type 0 where
-  pub answer : AnswersAs e x most budget ran w0 w t0 t rose result
+pub record ExecutesAs (e : Ending) (x : Shared) (most budget ran : ℕ) (w : World) (t0 t : Option Rows) (rose : Type 0) (result : Result Completed Cause) : Type 0 where
+  pub answer : AnswersAs e x most budget ran w t0 t rose result
   pub front : AddsFront t0 t x.given
   pub within : ran ≤ most

@@ -1,22 +1,21 @@
 -- What a connection holds, as the state of the definitions.
-use Rattle.std.specs.Prelude.{◌≡◌, ℕ, List, [], ℤ, length, map}
+use Rattle.std.specs.Prelude.{◌≡◌, ℕ, List, ℤ, length, map}
 use Rattle.std.specs.List.{zip}
 use Rattle.eng_value.specs.StoredRows.{StoredRow}
 use Rattle.vm_code.specs.Machine.{World as Lists}
 use Rattle.sql_meaning.specs.declared.column.TableEntry.{TableEntry}
 use Rattle.sql_meaning.specs.Valid.{IsValid}
-use Rattle.sql_meaning.specs.World.{State}
+use Rattle.sql_meaning.specs.World.{State, new_state}
 
 -- the rows of each table under its name: the catalog and the lists of rows have one order
 abbrev pub named_rows : List TableEntry → Lists → List (List ℕ × List StoredRow)
 named_rows catalog lists = zip (map (λ e. e.name) catalog) lists
 
--- the state of a connection; no transaction is open
+-- the state of a connection; all else is as at its opening
 abbrev pub state_of : List TableEntry → Lists → ℕ → ℤ → State
 state_of catalog lists changes last_rowid =
-    record {
+    record new_state {
       world = record { catalog = catalog; tables = named_rows catalog lists };
-      stack = [];
       changes = changes;
       last_rowid = last_rowid;
     }

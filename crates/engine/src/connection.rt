@@ -1,14 +1,10 @@
 // A connection.
-ghost use Rattle.std.specs.Prelude.{◌≡◌, ◌≤◌, ◌+◌, ◌-◌, length, map, None, Some, OnOk, OnErr, IfOk, IfErr};
+ghost use Rattle.std.specs.Prelude.{◌≡◌, ◌≤◌, ◌+◌, ◌-◌, map, true, None, Some, OnOk, IfOk, IfErr};
 ghost use Rattle.eng_value.specs.declared.cause.Cause.TheVariants.{Mem};
-ghost use Rattle.engine.specs.Causes.{IsCause};
-ghost use Rattle.engine.specs.Prepared.{IsUnbuilt};
-ghost use Rattle.engine.specs.Taking.{Adds, AddsFront};
+ghost use Rattle.engine.specs.Causes.{GivesCounted, GivesFront, IsCause, WhereTold, is_accident};
 ghost use Rattle.bind_stmt.specs.Binds.{place_named};
 ghost use Rattle.host_traits.specs.Faults.{Rose};
-ghost use Rattle.sql_meaning.specs.Statement.{text_outcome};
 ghost use Rattle.sql_meaning.specs.Valid.{IsValid};
-ghost use Rattle.sql_meaning.specs.Work.{instruction_bound};
 ghost use Rattle.sql_meaning.specs.World.{is_in_transaction, new_state, table_rows, with_rowid};
 ghost use Rattle.vm_code.specs.Machine.{rows_of};
 ghost use Rattle.vm_core.specs.Meant.{meant};
@@ -37,6 +33,11 @@ impl Model for Connection {
 
     ghost Value = { Held };
 
+    ghost use Rattle.std.specs.Coded.{codes};
+    ghost use Rattle.sql_meaning.specs.contracts.bound.BoundExpr as expression;
+
+    ghost coded = { Prim.hlevel (codes, expression.the_row.coded) };
+
     ghost view = { λ c.
         record {
           state = state_of c.database.catalog c.database.tables c.database.changes c.database.last_rowid;
@@ -57,15 +58,19 @@ impl Connection {
         }
     }
 
-    /// Runs one statement and hands its rows to the sink. A parameter that is missing is NULL. A statement that is refused changes
-    /// nothing; rows that it gave before are a front of what it means.
+    /// Runs one statement and hands its rows to the sink. A parameter that is missing is NULL. Where each host that the statement
+    /// names tells what it means:
     ///
     /// - Ok: the statement did what it means, and all its rows were taken;
     /// - Interrupted: the budget of instructions is used up. It never comes where the budget is at least the bound of size and
     ///   work, which is 0 for a statement that is refused before it is evaluated;
     /// - SinkFault: the sink failed;
     /// - Mem: no memory was found;
-    /// - any other cause: that is one of those that it means, and the rows in front of it were taken.
+    /// - any other cause: that is one of those that it means, the rows in front of it were taken, and the connection holds what the
+    ///   refusal means, which is what it held before.
+    ///
+    /// After one of the three in the middle the connection is as it was, whatever the hosts do; the rows that were taken are a front of
+    /// what the statement means.
     pub fn run<R: RowSink, L: Ledger>(
         &mut self,
         alloc: Global,
@@ -75,25 +80,24 @@ impl Connection {
         rows: &mut R,
         steps: &mut Steps<L>,
     ) -> Result<Done, Refusal>
-        // Ok: what the statement means.
-        ensures done { OnOk result ((text_outcome (meant hosts.old) self.old.state params.now sql.now).refusal ≡ None) }
-        ensures next { OnOk result (self.new.state ≡ (text_outcome (meant hosts.old) self.old.state params.now sql.now).next) }
-        ensures rows { OnOk result (Adds (R.taken rows.old) (R.taken rows.new)
-            (text_outcome (meant hosts.old) self.old.state params.now sql.now).given) }
-        ensures given { IfOk result (λ d. d.given ≡ length (text_outcome (meant hosts.old) self.old.state params.now sql.now).given) }
-        ensures changed { IfOk result (λ d. d.changed ≡ (text_outcome (meant hosts.old) self.old.state params.now sql.now).changed) }
+        // Where each host that the text names tells: Ok is what the statement means,
+        ensures done { OnOk result (WhereTold (meant hosts.old) self.old.state params.now sql.now (λ o bound. o.refusal ≡ None)) }
+        ensures next { OnOk result (WhereTold (meant hosts.old) self.old.state params.now sql.now (λ o bound. self.new.state ≡ o.next)) }
+        ensures rows { IfOk result (λ d. WhereTold (meant hosts.old) self.old.state params.now sql.now
+            (λ o bound. GivesCounted o (R.taken rows.old) (R.taken rows.new) d.given)) }
+        ensures changed { IfOk result (λ d. WhereTold (meant hosts.old) self.old.state params.now sql.now (λ o bound. d.changed ≡ o.changed)) }
 
-        // A refusal changes nothing and has its cause.
-        ensures kept { OnErr result (self.new ≡ self.old) }
-        ensures cause { IfErr result (λ r. IsCause (text_outcome (meant hosts.old) self.old.state params.now sql.now)
-            self.old.budget (instruction_bound self.old.state sql.now) (steps.new - steps.old)
-            (R.taken rows.old) (R.taken rows.new) (Rose (R.fault_count rows.old) (R.fault_count rows.new)) r.cause) }
-        ensures unbuilt { IsUnbuilt sql.now → steps.new ≡ steps.old }
+        // a refusal has its cause, and leaves what it means, or all as it was,
+        ensures cause { IfErr result (λ r. WhereTold (meant hosts.old) self.old.state params.now sql.now
+            (λ o bound. IsCause o self.old.state self.new.state self.old.budget bound (steps.new - steps.old)
+            (R.taken rows.old) (R.taken rows.new) (Rose (R.fault_count rows.old) (R.fault_count rows.new)) r.cause)) }
 
-        // Whatever the answer.
-        ensures front { AddsFront (R.taken rows.old) (R.taken rows.new)
-            (text_outcome (meant hosts.old) self.old.state params.now sql.now).given }
-        ensures bound { steps.new ≤ steps.old + instruction_bound self.old.state sql.now }
+        // and a front of the rows was taken, by no more instructions than it needs.
+        ensures front { WhereTold (meant hosts.old) self.old.state params.now sql.now (λ o bound. GivesFront o (R.taken rows.old) (R.taken rows.new)) }
+        ensures bound { WhereTold (meant hosts.old) self.old.state params.now sql.now (λ o bound. steps.new ≤ steps.old + bound) }
+
+        // Whatever the hosts.
+        ensures kept { IfErr result (λ r. is_accident r.cause ≡ true → self.new ≡ self.old) }
         ensures within { steps.new ≤ steps.old + self.old.budget }
         ensures ticks { steps.old ≤ steps.new }
         ensures faults { R.fault_count rows.old ≤ R.fault_count rows.new }
@@ -104,6 +108,7 @@ impl Connection {
         match run_text(
             alloc,
             &mut self.database,
+            hosts,
             self.budget,
             sql,
             params,

@@ -1,16 +1,14 @@
 // What a connection holds, and how a statement changes it.
-ghost use Rattle.std.specs.Prelude.{◌≡◌, ◌≤◌, ◌+◌, ◌-◌, ◌<◌, ◌∷◌, ◌++◌, [], length, pos, unwrap_or};
-ghost use Rattle.eng_value.specs.HostMeanings.{HostMeanings};
+ghost use Rattle.std.specs.Prelude.{◌≡◌, ◌≤◌, ◌+◌, ◌-◌, [], length, pos, unwrap_or, OnErr};
+ghost use Rattle.engine.specs.Causes.{WhereTold};
 ghost use Rattle.engine.specs.Connected.{CarriesOut};
 ghost use Rattle.engine.specs.Held.{state_of};
-ghost use Rattle.engine.specs.Outcomes.{create_outcome_in, put_outcome_in, query_outcome_in};
-ghost use Rattle.engine.specs.Prepared.{IsUnbuilt};
+ghost use Rattle.engine.specs.Outcomes.{create_outcome_in, outcome_in, put_outcome_in, query_outcome_in, steps_in};
 ghost use Rattle.gen_query.specs.Queries.{query_steps};
 ghost use Rattle.gen_write.specs.Writes.{create_steps, put_steps};
 ghost use Rattle.host_traits.specs.Faults.{Rose};
-ghost use Rattle.sql_meaning.specs.Statement.{text_outcome};
-ghost use Rattle.sql_meaning.specs.Work.{instruction_bound};
 ghost use Rattle.vm_code.specs.Machine.{IsOrdered};
+ghost use Rattle.vm_core.specs.Meant.{meant};
 
 use crate::answers::Done;
 use crate::catalog::Catalog;
@@ -19,12 +17,13 @@ use crate::preparing::prepare;
 use crate::row_sink::RowSink;
 use crate::running::Completed;
 use bind_stmt::Bound;
-use eng_value::{Cause, Steps, Value};
+use eng_value::{Cause, Meanings, Steps, Value};
 use gen_write::{compile_create, compile_insert};
 use sql_meaning::{BoundInsert, BoundSelect, TableEntry};
 use std::alloc::Global;
+use std::marker::Brand;
 use std::sync::ledger::Ledger;
-use vm_core::Tables;
+use vm_core::{Hosts, Tables};
 
 /// The catalog and the rows of its tables, in one order, and what the last writes left behind.
 #[derive(Drop)]
@@ -69,6 +68,7 @@ impl Database {
 pub(crate) fn run_text<R: RowSink, L: Ledger>(
     alloc: Global,
     database: &mut Database,
+    hosts: &mut Hosts,
     budget: u64,
     text: &str,
     params: &[Value],
@@ -77,36 +77,77 @@ pub(crate) fn run_text<R: RowSink, L: Ledger>(
 ) -> Result<Done, Cause>
     requires in_line { length database.old.tables ≡ length database.old.catalog }
     ensures in_line { length database.new.tables ≡ length database.new.catalog }
-    ensures carried { (hosts : HostMeanings) → CarriesOut
-        (text_outcome hosts
-        (state_of database.old.catalog database.old.tables database.old.changes database.old.last_rowid) params.now text.now)
+    ensures carried { WhereTold (meant hosts.old)
+        (state_of database.old.catalog database.old.tables database.old.changes database.old.last_rowid) params.now text.now
+        (λ o bound. CarriesOut o
         (state_of database.old.catalog database.old.tables database.old.changes database.old.last_rowid)
         (state_of database.new.catalog database.new.tables database.new.changes database.new.last_rowid)
-        budget
-        (instruction_bound
-        (state_of database.old.catalog database.old.tables database.old.changes database.old.last_rowid) text.now)
-        (steps.new - steps.old) (R.taken rows.old) (R.taken rows.new)
-        (Rose (R.fault_count rows.old) (R.fault_count rows.new)) result }
-    ensures unbuilt { IsUnbuilt text.now → steps.new ≡ steps.old }
+        budget bound (steps.new - steps.old) (R.taken rows.old) (R.taken rows.new)
+        (Rose (R.fault_count rows.old) (R.fault_count rows.new)) result) }
+    ensures kept { OnErr result
+        (state_of database.new.catalog database.new.tables database.new.changes database.new.last_rowid
+        ≡ state_of database.old.catalog database.old.tables database.old.changes database.old.last_rowid) }
     ensures ticks { steps.old ≤ steps.new }
     ensures within { steps.new ≤ steps.old + budget }
     ensures faults { R.fault_count rows.old ≤ R.fault_count rows.new }
+    ensures hosts { meant hosts.new ≡ meant hosts.old }
 {
     database.tables.order();
     match prepare(alloc, &database.catalog, text) {
-        Ok(Bound::CreateTable(entry)) => run_create(alloc, database, budget, entry, rows, steps),
-        Ok(Bound::Insert(insert)) => run_insert(alloc, database, budget, &insert, rows, steps),
-        Ok(Bound::Select(select)) => {
-            run_select(alloc, database, budget, &select, params, rows, steps)
-        }
+        Ok(bound) => run_bound::<Brand, R, L>(
+            alloc, database, hosts, budget, bound, params, rows, steps,
+        ),
         Err(cause) => Err(cause),
     }
 }
 
-/// Runs a CREATE TABLE: the table's entry comes into the catalog, and its list of rows into the tables.
-fn run_create<R: RowSink, L: Ledger>(
+/// Runs a statement whose names are bound.
+fn run_bound<M: Meanings, R: RowSink, L: Ledger>(
     alloc: Global,
     database: &mut Database,
+    hosts: &mut Hosts,
+    budget: u64,
+    bound: Bound,
+    params: &[Value],
+    rows: &mut R,
+    steps: &mut Steps<L>,
+) -> Result<Done, Cause>
+    requires in_line { length database.old.tables ≡ length database.old.catalog }
+    requires ordered { IsOrdered database.old.tables }
+    requires told { meant hosts.old ≡ M.hosts }
+    ensures in_line { length database.new.tables ≡ length database.new.catalog }
+    ensures carried { CarriesOut
+        (outcome_in M.hosts database.old.catalog database.old.tables database.old.changes database.old.last_rowid params.now bound)
+        (state_of database.old.catalog database.old.tables database.old.changes database.old.last_rowid)
+        (state_of database.new.catalog database.new.tables database.new.changes database.new.last_rowid)
+        budget (steps_in database.old.tables bound) (steps.new - steps.old) (R.taken rows.old) (R.taken rows.new)
+        (Rose (R.fault_count rows.old) (R.fault_count rows.new)) result }
+    ensures kept { OnErr result
+        (state_of database.new.catalog database.new.tables database.new.changes database.new.last_rowid
+        ≡ state_of database.old.catalog database.old.tables database.old.changes database.old.last_rowid) }
+    ensures ticks { steps.old ≤ steps.new }
+    ensures within { steps.new ≤ steps.old + budget }
+    ensures faults { R.fault_count rows.old ≤ R.fault_count rows.new }
+    ensures told { meant hosts.new ≡ M.hosts }
+{
+    match bound {
+        Bound::CreateTable(entry) => {
+            run_create::<M, R, L>(alloc, database, hosts, budget, entry, rows, steps)
+        }
+        Bound::Insert(insert) => {
+            run_insert::<M, R, L>(alloc, database, hosts, budget, &insert, rows, steps)
+        }
+        Bound::Select(select) => {
+            run_select::<M, R, L>(alloc, database, hosts, budget, &select, params, rows, steps)
+        }
+    }
+}
+
+/// Runs a CREATE TABLE: the table's entry comes into the catalog, and its list of rows into the tables.
+fn run_create<M: Meanings, R: RowSink, L: Ledger>(
+    alloc: Global,
+    database: &mut Database,
+    hosts: &mut Hosts,
     budget: u64,
     entry: TableEntry,
     rows: &mut R,
@@ -114,6 +155,7 @@ fn run_create<R: RowSink, L: Ledger>(
 ) -> Result<Done, Cause>
     requires in_line { length database.old.tables ≡ length database.old.catalog }
     requires ordered { IsOrdered database.old.tables }
+    requires told { meant hosts.old ≡ M.hosts }
     ensures in_line { length database.new.tables ≡ length database.new.catalog }
     ensures carried { CarriesOut
         (create_outcome_in database.old.catalog database.old.tables database.old.changes database.old.last_rowid entry)
@@ -121,9 +163,13 @@ fn run_create<R: RowSink, L: Ledger>(
         (state_of database.new.catalog database.new.tables database.new.changes database.new.last_rowid)
         budget (create_steps database.old.tables) (steps.new - steps.old) (R.taken rows.old) (R.taken rows.new)
         (Rose (R.fault_count rows.old) (R.fault_count rows.new)) result }
+    ensures kept { OnErr result
+        (state_of database.new.catalog database.new.tables database.new.changes database.new.last_rowid
+        ≡ state_of database.old.catalog database.old.tables database.old.changes database.old.last_rowid) }
     ensures ticks { steps.old ≤ steps.new }
     ensures within { steps.new ≤ steps.old + budget }
     ensures faults { R.fault_count rows.old ≤ R.fault_count rows.new }
+    ensures told { meant hosts.new ≡ M.hosts }
 {
     let Ok(program) = compile_create(alloc) else {
         return Err(Cause::Mem);
@@ -131,11 +177,12 @@ fn run_create<R: RowSink, L: Ledger>(
     let Ok(()) = database.catalog.push(entry) else {
         return Err(Cause::Mem);
     };
-    match execute(
+    match execute::<M, R, L>(
         alloc,
         program,
         &[],
         &mut database.tables,
+        hosts,
         budget,
         rows,
         steps,
@@ -149,9 +196,10 @@ fn run_create<R: RowSink, L: Ledger>(
 }
 
 /// Runs an INSERT, and keeps how many rows it put and the last rowid.
-fn run_insert<R: RowSink, L: Ledger>(
+fn run_insert<M: Meanings, R: RowSink, L: Ledger>(
     alloc: Global,
     database: &mut Database,
+    hosts: &mut Hosts,
     budget: u64,
     insert: &BoundInsert,
     rows: &mut R,
@@ -159,25 +207,31 @@ fn run_insert<R: RowSink, L: Ledger>(
 ) -> Result<Done, Cause>
     requires in_line { length database.old.tables ≡ length database.old.catalog }
     requires ordered { IsOrdered database.old.tables }
+    requires told { meant hosts.old ≡ M.hosts }
     ensures in_line { length database.new.tables ≡ length database.new.catalog }
     ensures carried { CarriesOut
         (put_outcome_in database.old.catalog database.old.tables database.old.changes database.old.last_rowid insert.now)
         (state_of database.old.catalog database.old.tables database.old.changes database.old.last_rowid)
         (state_of database.new.catalog database.new.tables database.new.changes database.new.last_rowid)
-        budget (put_steps insert.now database.old.tables) (steps.new - steps.old)
-        (R.taken rows.old) (R.taken rows.new) (Rose (R.fault_count rows.old) (R.fault_count rows.new)) result }
+        budget (put_steps insert.now database.old.tables) (steps.new - steps.old) (R.taken rows.old) (R.taken rows.new)
+        (Rose (R.fault_count rows.old) (R.fault_count rows.new)) result }
+    ensures kept { OnErr result
+        (state_of database.new.catalog database.new.tables database.new.changes database.new.last_rowid
+        ≡ state_of database.old.catalog database.old.tables database.old.changes database.old.last_rowid) }
     ensures ticks { steps.old ≤ steps.new }
     ensures within { steps.new ≤ steps.old + budget }
     ensures faults { R.fault_count rows.old ≤ R.fault_count rows.new }
+    ensures told { meant hosts.new ≡ M.hosts }
 {
     let Ok(program) = compile_insert(alloc, insert) else {
         return Err(Cause::Mem);
     };
-    match execute(
+    match execute::<M, R, L>(
         alloc,
         program,
         &[],
         &mut database.tables,
+        hosts,
         budget,
         rows,
         steps,
@@ -191,9 +245,10 @@ fn run_insert<R: RowSink, L: Ledger>(
 }
 
 /// Runs a SELECT. The tables stay.
-fn run_select<R: RowSink, L: Ledger>(
+fn run_select<M: Meanings, R: RowSink, L: Ledger>(
     alloc: Global,
     database: &mut Database,
+    hosts: &mut Hosts,
     budget: u64,
     select: &BoundSelect,
     params: &[Value],
@@ -202,25 +257,31 @@ fn run_select<R: RowSink, L: Ledger>(
 ) -> Result<Done, Cause>
     requires in_line { length database.old.tables ≡ length database.old.catalog }
     requires ordered { IsOrdered database.old.tables }
+    requires told { meant hosts.old ≡ M.hosts }
     ensures in_line { length database.new.tables ≡ length database.new.catalog }
     ensures carried { CarriesOut
-        (query_outcome_in database.old.catalog database.old.tables database.old.changes database.old.last_rowid params.now select.now)
+        (query_outcome_in M.hosts database.old.catalog database.old.tables database.old.changes database.old.last_rowid params.now select.now)
         (state_of database.old.catalog database.old.tables database.old.changes database.old.last_rowid)
         (state_of database.new.catalog database.new.tables database.new.changes database.new.last_rowid)
-        budget (query_steps select.now database.old.tables) (steps.new - steps.old)
-        (R.taken rows.old) (R.taken rows.new) (Rose (R.fault_count rows.old) (R.fault_count rows.new)) result }
+        budget (query_steps select.now database.old.tables) (steps.new - steps.old) (R.taken rows.old) (R.taken rows.new)
+        (Rose (R.fault_count rows.old) (R.fault_count rows.new)) result }
+    ensures kept { OnErr result
+        (state_of database.new.catalog database.new.tables database.new.changes database.new.last_rowid
+        ≡ state_of database.old.catalog database.old.tables database.old.changes database.old.last_rowid) }
     ensures ticks { steps.old ≤ steps.new }
     ensures within { steps.new ≤ steps.old + budget }
     ensures faults { R.fault_count rows.old ≤ R.fault_count rows.new }
+    ensures told { meant hosts.new ≡ M.hosts }
 {
     let Ok(program) = gen_query::compile(alloc, select) else {
         return Err(Cause::Mem);
     };
-    match execute(
+    match execute::<M, R, L>(
         alloc,
         program,
         params,
         &mut database.tables,
+        hosts,
         budget,
         rows,
         steps,

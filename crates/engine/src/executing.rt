@@ -1,16 +1,19 @@
 // The execution of programs, by causes.
-ghost use Rattle.std.specs.Prelude.{◌≡◌, ◌≤◌, ◌+◌, ◌-◌, ℕ};
+ghost use Rattle.std.specs.Prelude.{◌≡◌, ◌≤◌, ◌+◌, ◌-◌, ℕ, OnErr};
+ghost use Rattle.eng_value.specs.HostMeanings.{Oracle};
 ghost use Rattle.engine.specs.Executing.{ExecutesAs, NamesStop};
 ghost use Rattle.host_traits.specs.Faults.{Rose};
-ghost use Rattle.vm_code.specs.Machine.{Ending, Ends, Shared, start};
+ghost use Rattle.vm_code.specs.Honesty.{ProgramIsTold};
+ghost use Rattle.vm_code.specs.Machine.{Ending, Ends, Shared, setting, start};
+ghost use Rattle.vm_core.specs.Meant.{meant};
 
 use crate::row_sink::RowSink;
 use crate::running::{Completed, Stop, run_program};
-use eng_value::{Cause, Steps, Value};
+use eng_value::{Cause, Meanings, Steps, Value};
 use std::alloc::Global;
 use std::sync::ledger::Ledger;
 use vm_code::Program;
-use vm_core::Tables;
+use vm_core::{Hosts, Tables};
 
 /// The cause of a stop; of several any one.
 fn cause_of(stop: Stop) -> Cause
@@ -25,23 +28,28 @@ fn cause_of(stop: Stop) -> Cause
 }
 
 /// Runs a program, with the cause where it does not come to its end. The tables are then as before.
-pub(crate) fn execute<R: RowSink, L: Ledger>(
+pub(crate) fn execute<M: Meanings, R: RowSink, L: Ledger>(
     alloc: Global,
     program: Program,
     params: &[Value],
     tables: &mut Tables,
+    hosts: &mut Hosts,
     budget: u64,
     rows: &mut R,
     steps: &mut Steps<L>,
 ) -> Result<Completed, Cause>
-    ensures runs { (most : ℕ) (e : Ending) (x : Shared) → Ends (record { prog = program }) most (start program params.now tables.old) e x →
-        ExecutesAs e x most budget (steps.new - steps.old) tables.old tables.new (R.taken rows.old) (R.taken rows.new)
+    requires told { meant hosts.old ≡ M.hosts }
+    ensures runs { ProgramIsTold M.hosts program → (ask : Oracle) (most : ℕ) (e : Ending) (x : Shared) →
+        Ends (setting M.hosts ask program) most (start program params.now tables.old) e x →
+        ExecutesAs e x most budget (steps.new - steps.old) tables.new (R.taken rows.old) (R.taken rows.new)
         (Rose (R.fault_count rows.old) (R.fault_count rows.new)) result }
+    ensures kept { OnErr result (tables.new ≡ tables.old) }
+    ensures told { meant hosts.new ≡ M.hosts }
     ensures ticks { steps.old ≤ steps.new }
     ensures within { steps.new ≤ steps.old + budget }
     ensures faults { R.fault_count rows.old ≤ R.fault_count rows.new }
 {
-    match run_program(alloc, program, params, tables, budget, rows, steps) {
+    match run_program::<M, R, L>(alloc, program, params, tables, hosts, budget, rows, steps) {
         Ok(completed) => Ok(completed),
         Err(stop) => Err(cause_of(stop)),
     }

@@ -1,7 +1,9 @@
 // From the text of a statement to a bound one.
-ghost use Rattle.std.specs.Prelude.{◌≡◌};
-ghost use Rattle.sql_meaning.specs.Statement.{count_of, limit_kind};
-ghost use Rattle.engine.specs.Prepared.{Prepares, cause_of};
+ghost use Rattle.std.specs.Prelude.{◌≡◌, length};
+ghost use Rattle.bind_stmt.specs.Binds.{BindsTo};
+ghost use Rattle.engine.specs.Prepared.{cause_of};
+ghost use Rattle.sql_lex.specs.Tokens.{tokens_of};
+ghost use Rattle.sql_meaning.specs.Statement.{count_of, limit_kind, text_bound};
 
 use crate::catalog::Catalog;
 use bind_stmt::{Bound, bind};
@@ -14,7 +16,7 @@ use std::alloc::Global;
 
 /// The bound statement of a text, or why it is refused: first by the grammar, then since a part of it is not built, then for names.
 pub(crate) fn prepare(alloc: Global, catalog: &Catalog, text: &str) -> Result<Bound, Cause>
-    ensures { Prepares catalog.now text.now result }
+    ensures { BindsTo catalog.now (length (tokens_of text.now)) (text_bound catalog.now text.now) result }
 {
     let tokens = tokens(alloc, text)?;
     let statement = match parse(alloc, &tokens, text.len()) {

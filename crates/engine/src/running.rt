@@ -1,19 +1,22 @@
 // Running a program to its end.
-ghost use Rattle.std.specs.Prelude.{IfOk, ◌≡◌, ◌≤◌, ◌+◌, ◌-◌, ℕ, [], None};
+ghost use Rattle.std.specs.Prelude.{IfOk, OnErr, ◌≡◌, ◌≤◌, ◌+◌, ◌-◌, ℕ, [], None};
+ghost use Rattle.eng_value.specs.HostMeanings.{Oracle};
 ghost use Rattle.engine.specs.Running.{RunsAs, put_count, last_put};
 ghost use Rattle.engine.specs.Stretches.{DriveIs, NextIs, TakesOne};
 ghost use Rattle.host_traits.specs.Faults.{Rose};
 ghost use Rattle.vm_code.specs.Changes.{before};
-ghost use Rattle.vm_code.specs.Machine.{Ending, Ends, Shared, start};
+ghost use Rattle.vm_code.specs.Honesty.{ProgramIsTold};
+ghost use Rattle.vm_code.specs.Machine.{Ending, Ends, Shared, setting, start};
 ghost use Rattle.vm_core.specs.Events.{NoneInVain};
+ghost use Rattle.vm_core.specs.Meant.{meant};
 ghost use Rattle.vm_core.specs.Paused.{at_start, state_of};
 
 use crate::row_sink::{RowSink, Took};
-use eng_value::{Causes, Row, Steps, Value};
+use eng_value::{Causes, Meanings, Row, Steps, Value};
 use std::alloc::{AllocError, Global};
 use std::sync::ledger::Ledger;
 use vm_code::{Change, Program};
-use vm_core::{Budget, Event, Machine, Tables};
+use vm_core::{Budget, Event, Hosts, Machine, Tables};
 
 /// What a program did that ran to its end: how many rows it gave and put, and the rowid of the last one that it put.
 #[derive(Clone, Copy)]
@@ -35,18 +38,23 @@ pub(crate) enum Stop {
 
 /// Runs a program over the tables, hands each row that it gives to the sink, and takes back what it changed where it does not
 /// come to its end.
-pub(crate) fn run_program<R: RowSink, L: Ledger>(
+pub(crate) fn run_program<M: Meanings, R: RowSink, L: Ledger>(
     alloc: Global,
     program: Program,
     params: &[Value],
     tables: &mut Tables,
+    hosts: &mut Hosts,
     budget: u64,
     rows: &mut R,
     steps: &mut Steps<L>,
 ) -> Result<Completed, Stop>
-    ensures runs { (most : ℕ) (e : Ending) (x : Shared) → Ends (record { prog = program }) most (start program params.now tables.old) e x →
-        RunsAs e x most budget (steps.new - steps.old) tables.old tables.new (R.taken rows.old) (R.taken rows.new)
+    requires told { meant hosts.old ≡ M.hosts }
+    ensures runs { ProgramIsTold M.hosts program → (ask : Oracle) (most : ℕ) (e : Ending) (x : Shared) →
+        Ends (setting M.hosts ask program) most (start program params.now tables.old) e x →
+        RunsAs e x most budget (steps.new - steps.old) tables.new (R.taken rows.old) (R.taken rows.new)
         (Rose (R.fault_count rows.old) (R.fault_count rows.new)) result }
+    ensures kept { OnErr result (tables.new ≡ tables.old) }
+    ensures told { meant hosts.new ≡ M.hosts }
     ensures ticks { steps.old ≤ steps.new }
     ensures within { steps.new ≤ steps.old + budget }
     ensures faults { R.fault_count rows.old ≤ R.fault_count rows.new }
@@ -55,7 +63,7 @@ pub(crate) fn run_program<R: RowSink, L: Ledger>(
         Ok(machine) => machine,
         Err(_) => return Err(Stop::Mem),
     };
-    match drive(&mut machine, alloc, tables, budget, rows, steps) {
+    match drive::<M, R, L>(&mut machine, alloc, tables, hosts, budget, rows, steps) {
         Ok(given) => Ok(sum_up(given, machine.changes())),
         Err(stop) => {
             machine.undo(tables);
@@ -72,20 +80,25 @@ fn machine(alloc: Global, program: Program, params: &[Value]) -> Result<Machine,
 }
 
 /// Runs a machine to its end and hands each row over; answers how many rows there were.
-fn drive<R: RowSink, L: Ledger>(
+fn drive<M: Meanings, R: RowSink, L: Ledger>(
     machine: &mut Machine,
     alloc: Global,
     tables: &mut Tables,
+    hosts: &mut Hosts,
     budget: u64,
     rows: &mut R,
     steps: &mut Steps<L>,
 ) -> Result<u64, Stop>
+    requires told { meant hosts.old ≡ M.hosts }
     ensures ticks { steps.old ≤ steps.new }
     ensures within { steps.new ≤ steps.old + budget }
     ensures undo { before machine.new.changes tables.new ≡ before machine.old.changes tables.old }
-    ensures needed { NoneInVain (record { prog = machine.old.prog }) (steps.new - steps.old) (state_of machine.old tables.old []) }
-    ensures run { DriveIs (record { prog = machine.old.prog }) (steps.new - steps.old) (state_of machine.old tables.old []) (state_of machine.new tables.new)
+    ensures needed { ProgramIsTold M.hosts machine.old.prog → (ask : Oracle) →
+        NoneInVain (setting M.hosts ask machine.old.prog) (steps.new - steps.old) (state_of machine.old tables.old []) }
+    ensures run { ProgramIsTold M.hosts machine.old.prog → (ask : Oracle) →
+        DriveIs (setting M.hosts ask machine.old.prog) (steps.new - steps.old) (state_of machine.old tables.old []) (state_of machine.new tables.new)
         budget (Rose (R.fault_count rows.old) (R.fault_count rows.new)) (R.taken rows.old) (R.taken rows.new) result }
+    ensures told { meant hosts.new ≡ M.hosts }
     ensures faults { R.fault_count rows.old ≤ R.fault_count rows.new }
 {
     let mut budget = Budget {
@@ -93,34 +106,39 @@ fn drive<R: RowSink, L: Ledger>(
         ran: 0,
     };
     let mut given = 0;
-    while next(machine, alloc, tables, &mut budget, rows, steps)? {
+    while next::<M, R, L>(machine, alloc, tables, hosts, &mut budget, rows, steps)? {
         given += 1;
     }
     Ok(given)
 }
 
 /// Runs a machine to its next row and hands it over; answers `false` where there is none and the machine is at its end.
-fn next<R: RowSink, L: Ledger>(
+fn next<M: Meanings, R: RowSink, L: Ledger>(
     machine: &mut Machine,
     alloc: Global,
     tables: &mut Tables,
+    hosts: &mut Hosts,
     budget: &mut Budget,
     rows: &mut R,
     steps: &mut Steps<L>,
 ) -> Result<bool, Stop>
-    requires { budget.old.ran ≤ budget.old.whole }
+    requires within { budget.old.ran ≤ budget.old.whole }
+    requires told { meant hosts.old ≡ M.hosts }
     ensures ran { budget.old.ran ≤ budget.new.ran }
     ensures within { budget.new.ran ≤ budget.old.whole }
     ensures whole { budget.new.whole ≡ budget.old.whole }
     ensures counted { steps.new ≡ steps.old + (budget.new.ran - budget.old.ran) }
     ensures program { machine.new.prog ≡ machine.old.prog }
     ensures undo { before machine.new.changes tables.new ≡ before machine.old.changes tables.old }
-    ensures needed { NoneInVain (record { prog = machine.old.prog }) (budget.new.ran - budget.old.ran) (state_of machine.old tables.old []) }
-    ensures next { NextIs (record { prog = machine.old.prog }) (budget.new.ran - budget.old.ran) (state_of machine.old tables.old []) (state_of machine.new tables.new)
+    ensures needed { ProgramIsTold M.hosts machine.old.prog → (ask : Oracle) →
+        NoneInVain (setting M.hosts ask machine.old.prog) (budget.new.ran - budget.old.ran) (state_of machine.old tables.old []) }
+    ensures next { ProgramIsTold M.hosts machine.old.prog → (ask : Oracle) →
+        NextIs (setting M.hosts ask machine.old.prog) (budget.new.ran - budget.old.ran) (state_of machine.old tables.old []) (state_of machine.new tables.new)
         budget.old.whole budget.new.ran (Rose (R.fault_count rows.old) (R.fault_count rows.new)) (R.taken rows.old) (R.taken rows.new) result }
+    ensures told { meant hosts.new ≡ M.hosts }
     ensures faults { R.fault_count rows.old ≤ R.fault_count rows.new }
 {
-    match machine.step(alloc, tables, budget, steps) {
+    match machine.step::<M, L>(alloc, tables, hosts, budget, steps) {
         Event::Row(row) => hand_over(rows, &row),
         Event::Done => Ok(false),
         Event::Bad(causes) => Err(Stop::Bad(causes)),

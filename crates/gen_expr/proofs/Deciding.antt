@@ -4,6 +4,7 @@ use Rattle.std.specs.Ordering.{int_eq}
 use Rattle.eng_value.specs.Applied.{or_else}
 use Rattle.eng_value.specs.Casts.{to_number}
 use Rattle.eng_value.specs.Causes.{CauseSet}
+use Rattle.eng_value.specs.Collations.{keys_of}
 use Rattle.eng_value.specs.Comparisons.{comparison_of}
 use Rattle.eng_value.specs.Environments.{Environment}
 use Rattle.eng_value.specs.Outs.{turned, truth_value}
@@ -126,7 +127,7 @@ chosen_in-first arm_of (arm ∷ arms) env other =
 pub matched_in-first : {A : Type 0} (match_of : A → MatchArm) (arms : List A) (env : Environment) (a other : Out) → matched_in env a (map match_of arms) other ≡ out_or (first_in (λ arm. decided_match env a (match_of arm)) arms) other
 matched_in-first match_of [] env a other = refl
 matched_in-first match_of (arm ∷ arms) env a other =
-    choice_of-decided (comparison_of compare.Eq (match_of arm).sides a ((match_of arm).operand env)) ((match_of arm).value env) (matched_in env a (map match_of arms) other)
+    choice_of-decided (comparison_of (keys_of env.hosts) compare.Eq (match_of arm).sides a ((match_of arm).operand env)) ((match_of arm).value env) (matched_in env a (map match_of arms) other)
     ∙ ap (out_or (decided_match env a (match_of arm))) (matched_in-first match_of arms env a other)
     ∙ sym (out_or-first (decided_match env a (match_of arm)) (first_in (λ x. decided_match env a (match_of x)) arms) other)
 

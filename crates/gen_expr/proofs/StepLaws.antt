@@ -3,7 +3,7 @@ use Rattle.std.proofs.Common.{rules, ◌≡◌, ◌∙◌, ℕ, ◌+◌, List, [
 use Rattle.std.specs.Prelude.{sum, sum_by}
 use Rattle.std.proofs.lemmas.List.Sums.{fold-append, sum-map}
 use Rattle.eng_value.specs.declared.builtin.Builtin.{Builtin}
-use Rattle.eng_value.specs.declared.built.Built.{Built}
+use Rattle.eng_value.specs.declared.collation.Collation.{Collation}
 use Rattle.eng_value.specs.declared.operators.BinaryOperator.{BinaryOperator}
 use Rattle.eng_value.specs.declared.operators.Sides.{Sides}
 use Rattle.eng_value.specs.declared.operators.UnaryOperator.{UnaryOperator}
@@ -71,10 +71,10 @@ steps_of-Match-of a arms otherwise = search (rules, the_lemmas)
 pub steps_of-Match : (a : BoundExpr) (arms : List BoundMatch) (otherwise : BoundExpr) → steps_of (e.Match a arms otherwise) ≡ steps_of a + sum_by match_steps_of arms + steps_of otherwise
 steps_of-Match a arms otherwise = steps_of-Match-of a arms otherwise ∙ ap (λ n. steps_of a + n + steps_of otherwise) (sum-map match_steps_of arms)
 
-steps_of-Call-of : (f : Builtin) (collation : Built) (args : List BoundExpr) → steps_of (e.Call f collation args) ≡ sum (map steps_of args) + 1
+steps_of-Call-of : (f : Builtin) (collation : Collation) (args : List BoundExpr) → steps_of (e.Call f collation args) ≡ sum (map steps_of args) + 1
 steps_of-Call-of f collation args = search (rules, the_lemmas)
 
-pub steps_of-Call : (f : Builtin) (collation : Built) (args : List BoundExpr) → steps_of (e.Call f collation args) ≡ sum_by steps_of args + 1
+pub steps_of-Call : (f : Builtin) (collation : Collation) (args : List BoundExpr) → steps_of (e.Call f collation args) ≡ sum_by steps_of args + 1
 steps_of-Call f collation args = steps_of-Call-of f collation args ∙ ap (λ n. n + 1) (sum-map steps_of args)
 
 pub arm_steps_of-is : (condition shown : BoundExpr) → arm_steps_of (roll-BoundArm (record { condition = condition; value = shown })) ≡ steps_of condition + steps_of shown + 4

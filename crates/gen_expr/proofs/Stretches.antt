@@ -1,13 +1,14 @@
 -- Code that turns and decides values as stretches by claims, and stretches as such code.
-use Rattle.std.proofs.Common.{◌≡◌, ◌≢◌, ℕ, ◌+◌, ◌≤◌, ◌<◌, List, length, Option, Some, None, refl, sym, ap, ◌∙◌, subst, arith, inl, inr, ⊎_elim}
+use Rattle.std.proofs.Common.{◌≡◌, ◌≢◌, ℕ, ◌+◌, ◌≤◌, ◌<◌, List, length, Option, Some, None, refl, sym, ap, ◌∙◌, subst, arith, inl, ⊎_elim}
 use Rattle.std.specs.Prelude.{slice_get}
 use Rattle.eng_value.specs.Environments.{Environment}
+use Rattle.eng_value.specs.HostMeanings.{HostMeanings}
 use Rattle.eng_value.specs.declared.out.Out.{Out}
 use Rattle.gen_expr.specs.Parts.{Turns, Decides, Decided, first_of, out_or}
 use Rattle.vm_code.specs.declared.op.Op.{Op}
 use Rattle.vm_code.specs.Draft.{Draft, with_op, with_label, bound, taken, given_back}
 use Rattle.vm_code.specs.Machine.{Setting, Shared, State, act, put, read, Reaches}
-use Rattle.vm_code.specs.Frames.{placed, Holds, Grows, Here, here, there, with_regs, Left, Leaves, environment_of}
+use Rattle.vm_code.specs.Frames.{placed, Grows, Here, here, with_regs, Left, Leaves, environment_of}
 use Rattle.vm_code.specs.Claims.{Claim, Labels, Last, Falls, Exits, on, off, ends, Triple}
 use Rattle.vm_code.proofs.Drafts.{extends, grows_none, grows_then, g_op, g_taken, g_given_back, g_label, g_bound, open_new}
 use Rattle.vm_code.proofs.Effects.{But, but_none, but_regs, but_env, left_as, t_leaves, t_put}
@@ -16,20 +17,20 @@ use Rattle.vm_code.proofs.Triples.{no_labels, no_last, with_claim, t_seq, t_use,
 
 -- ---- values that turn
 
-pub turns_leaves : {a b : Draft} {to n : ℕ} {f : Environment → Out} (held : ℕ) → Leaves a b to (λ w env. f env) (λ w. n) → Turns a b held to (λ env x y. f env) n
+pub turns_leaves : {a b : Draft} {to n : ℕ} {f : Environment → Out} (held : ℕ) → Leaves a b to (λ env. f env) (λ w. n) → Turns a b held to (λ env x y. f env) n
 turns_leaves held l = record { grows = l.grows; next = l.next; turns = λ m u at h s room start. l.leaves m u at h s room start }
 
-pub leaves_turns : {a b : Draft} {to n : ℕ} {f : Environment → Out} (held : ℕ) → Turns a b held to (λ env x y. f env) n → Leaves a b to (λ w env. f env) (λ w. n)
+pub leaves_turns : {a b : Draft} {to n : ℕ} {f : Environment → Out} (held : ℕ) → Turns a b held to (λ env x y. f env) n → Leaves a b to (λ env. f env) (λ w. n)
 leaves_turns held t = record { grows = t.grows; next = t.next; leaves = λ m u at h s room start. t.turns m u at h s room start }
 
 -- the same of functions that agree, in more instructions
-pub leaves_as : {a b : Draft} {to i : ℕ} {f : Environment → Out} (g : Environment → Out) (n : ℕ) → ((env : Environment) → f env ≡ g env) → i ≤ n → Leaves a b to (λ w env. f env) (λ w. i) → Leaves a b to (λ w env. g env) (λ w. n)
+pub leaves_as : {a b : Draft} {to i : ℕ} {f : Environment → Out} (g : Environment → Out) (n : ℕ) → ((env : Environment) → f env ≡ g env) → i ≤ n → Leaves a b to (λ env. f env) (λ w. i) → Leaves a b to (λ env. g env) (λ w. n)
 leaves_as {a} {b} {to} {i} {f} g n same le l = record {
   grows = l.grows;
   next = l.next;
   leaves = λ m u at h s room start.
       let x = l.leaves m u at h s room start in
-      record { regs = x.regs; way = reaches_more m n le x.way; long = x.long; has = x.has ∙ same (environment_of (here s)); keeps = x.keeps };
+      record { regs = x.regs; way = reaches_more m n le x.way; long = x.long; has = x.has ∙ same (environment_of m (here s)); keeps = x.keeps };
 }
 
 pub turns_as : {a b : Draft} {held to i : ℕ} {f : Environment → Out → Out → Out} (g : Environment → Out → Out → Out) (n : ℕ) → ((env : Environment) (x y : Out) → f env x y ≡ g env x y) → i ≤ n → Turns a b held to f i → Turns a b held to g n
@@ -38,7 +39,7 @@ turns_as {a} {b} {held} {to} {i} {f} g n same le t = record {
   next = t.next;
   turns = λ m u at h s room start.
       let x = t.turns m u at h s room start in
-      record { regs = x.regs; way = reaches_more m n le x.way; long = x.long; has = x.has ∙ same (environment_of (here s)) (read s.regs held) (read s.regs to); keeps = x.keeps };
+      record { regs = x.regs; way = reaches_more m n le x.way; long = x.long; has = x.has ∙ same (environment_of m (here s)) (read s.regs held) (read s.regs to); keeps = x.keeps };
 }
 
 -- the frame is the one of the start
@@ -51,20 +52,20 @@ begun_but mark to h0 h e = subst (λ z. But mark to z h) e (but_none mark to h)
 pub begun_is : {A : Type 0} (f : Here → A) (h0 h : Here) → h ≡ h0 → f h ≡ f h0
 begun_is f h0 h e = ap f e
 
-abbrev turned_at : (Environment → Out → Out → Out) → ℕ → ℕ → Here → Out
-turned_at f held to h = f (environment_of h) (read h.regs held) (read h.regs to)
+abbrev turned_at : Setting → (Environment → Out → Out → Out) → ℕ → ℕ → Here → Out
+turned_at m f held to h = f (environment_of m h) (read h.regs held) (read h.regs to)
 
-abbrev pub Turned : ℕ → ℕ → ℕ → (Environment → Out → Out → Out) → Claim
-Turned mark held to f h0 h = But mark to h0 h × (read h.regs to ≡ f (environment_of h0) (read h0.regs held) (read h0.regs to))
+abbrev pub Turned : Setting → ℕ → ℕ → ℕ → (Environment → Out → Out → Out) → Claim
+Turned m mark held to f h0 h = But mark to h0 h × (read h.regs to ≡ f (environment_of m h0) (read h0.regs held) (read h0.regs to))
 
-pub turns_of : {a b : Draft} {n : ℕ} (held to : ℕ) (f : Environment → Out → Out → Out) → Grows a b → b.next ≡ a.next → Triple a b (λ w. n) no_labels no_last as_begun (Turned a.next held to f) → Turns a b held to f n
+pub turns_of : {a b : Draft} {n : ℕ} (held to : ℕ) (f : Environment → Out → Out → Out) → Grows a b → b.next ≡ a.next → ((m : Setting) → Triple m a b (λ w. n) no_labels no_last as_begun (Turned m a.next held to f)) → Turns a b held to f n
 turns_of {a} {b} {n} held to f grows next x = record {
   grows = grows;
   next = next;
-  turns = λ m u at h s room pc. by m at s (x.runs m u at h (here s) s room pc refl);
+  turns = λ m u at h s room pc. by m at s ((x m).runs u at h (here s) s room pc refl);
 }
   where
-    by : (m : Setting) (at : ℕ → ℕ) (s : State) → Exits m at n (λ l h. ⊥) (λ o shared. ⊥) s (length b.code) (Turned a.next held to f (here s)) → Left m n s (length b.code) a.next to (turned_at f held to (here s))
+    by : (m : Setting) (at : ℕ → ℕ) (s : State) → Exits m at n (λ l h. ⊥) (λ o shared. ⊥) s (length b.code) (Turned m a.next held to f (here s)) → Left m n s (length b.code) a.next to (turned_at m f held to (here s))
     by m at s (off l h) = absurd h.holds
     by m at s (ends o shared z h) = absurd h
     by m at s (on h) = record {
@@ -75,10 +76,10 @@ turns_of {a} {b} {n} held to f grows next x = record {
       keeps = h.holds.0.regs;
     }
 
-pub t_turns : {a b : Draft} {held to n : ℕ} {f : Environment → Out → Out → Out} (g : Labels) (e : Last) (p q : Claim) → Turns a b held to f n → ((h0 h : Here) (regs : List Out) → p h0 h → read regs to ≡ f (environment_of h) (read h.regs held) (read h.regs to) → ((k : ℕ) → k < a.next → k ≢ to → read regs k ≡ read h.regs k) → q h0 (with_regs h regs)) → Triple a b (λ w. n) g e p q
-t_turns {a} {b} {held} {to} {n} {f} g e p q x goes = record {
+pub t_turns : (m : Setting) {a b : Draft} {held to n : ℕ} {f : Environment → Out → Out → Out} (g : Labels) (e : Last) (p q : Claim) → Turns a b held to f n → ((h0 h : Here) (regs : List Out) → p h0 h → read regs to ≡ f (environment_of m h) (read h.regs held) (read h.regs to) → ((k : ℕ) → k < a.next → k ≢ to → read regs k ≡ read h.regs k) → q h0 (with_regs h regs)) → Triple m a b (λ w. n) g e p q
+t_turns m {a} {b} {held} {to} {n} {f} g e p q x goes = record {
   extends = extends x.grows;
-  runs = λ m u at h h0 s room start pre.
+  runs = λ u at h h0 s room start pre.
       let l = x.turns m u at h s room start in
       on (record {
         regs = l.regs;
@@ -92,47 +93,49 @@ t_turns {a} {b} {held} {to} {n} {f} g e p q x goes = record {
 }
 
 -- a value by the value that another register holds, which is free behind it
-pub leaves_held : (a b c : Draft) (held to i n : ℕ) (g : Environment → Out) (f : Environment → Out → Out) → held ≡ a.next → Leaves (taken a) b held (λ w env. g env) (λ w. i) → Turns b c held to (λ env x y. f env x) n → to < a.next → Leaves a (given_back c) to (λ w env. f env (g env)) (λ w. i + n)
+pub leaves_held : (a b c : Draft) (held to i n : ℕ) (g : Environment → Out) (f : Environment → Out → Out) → held ≡ a.next → Leaves (taken a) b held (λ env. g env) (λ w. i) → Turns b c held to (λ env x y. f env x) n → to < a.next → Leaves a (given_back c) to (λ env. f env (g env)) (λ w. i + n)
 leaves_held a b c held to i n g f is_next l t lt =
-    let there_is : Claim = λ h0 h. But a.next to h0 h × (read h.regs held ≡ g (environment_of h0)) in
-    let done : Claim = Turned a.next held to (λ env x y. f env (g env)) in
-    let take = t_draft no_labels no_last as_begun (g_taken a) refl in
-    let first : Triple (taken a) b (λ w. i) no_labels no_last as_begun there_is = t_leaves no_labels no_last as_begun there_is l (λ h0 h pre. ap (λ (z : Here). z.shared.world) pre) (λ h0 h regs pre long is same.
-    (but_regs regs (λ k below ne. same k (omega arith) (omega (arith, is_next))) (begun_but a.next to h0 h pre), is ∙ ap (λ (z : Here). g (environment_of z)) pre)) in
-    let second : Triple b c (λ w. n) no_labels no_last there_is done = t_turns no_labels no_last there_is done t (λ h0 h regs pre is same.
-    (but_regs regs (λ k below ne. same k (omega (arith, l.next)) ne) pre.0, is ∙ ap (λ env. f env (read h.regs held)) (but_env pre.0) ∙ ap (f (environment_of h0)) pre.1)) in
-    let back = t_draft no_labels no_last done (g_given_back c) refl in
-    leaves_turns held (turns_of held to (λ env x y. f env (g env)) (grows_then (g_taken a) (grows_then l.grows (grows_then t.grows (g_given_back c)))) (omega (arith, l.next, t.next)) (t_more (λ w. i + n) (λ w. omega arith) (t_seq (t_seq (t_seq take first) second) back)))
+    leaves_turns held (turns_of held to (λ env x y. f env (g env)) (grows_then (g_taken a) (grows_then l.grows (grows_then t.grows (g_given_back c)))) (omega (arith, l.next, t.next)) (λ m.
+    let there_is : Claim = λ h0 h. But a.next to h0 h × (read h.regs held ≡ g (environment_of m h0)) in
+    let done : Claim = Turned m a.next held to (λ env x y. f env (g env)) in
+    let take = t_draft m no_labels no_last as_begun (g_taken a) refl in
+    let first : Triple m (taken a) b (λ w. i) no_labels no_last as_begun there_is = t_leaves m no_labels no_last as_begun there_is l (λ h0 h pre. ap (λ (z : Here). z.shared.world) pre) (λ h0 h regs pre long is same.
+    (but_regs regs (λ k below ne. same k (omega arith) (omega (arith, is_next))) (begun_but a.next to h0 h pre), is ∙ ap (λ (z : Here). g (environment_of m z)) pre)) in
+    let second : Triple m b c (λ w. n) no_labels no_last there_is done = t_turns m no_labels no_last there_is done t (λ h0 h regs pre is same.
+    (but_regs regs (λ k below ne. same k (omega (arith, l.next)) ne) pre.0, is ∙ ap (λ env. f env (read h.regs held)) (but_env m pre.0) ∙ ap (f (environment_of m h0)) pre.1)) in
+    let back = t_draft m no_labels no_last done (g_given_back c) refl in
+    t_more (λ w. i + n) (λ w. omega arith) (t_seq (t_seq (t_seq take first) second) back)))
 
 -- an instruction that takes the value, and that of the other register
-pub turns_op : (a b : Draft) (op : Op) (held to n : ℕ) (f : Environment → Out → Out → Out) (u : Out → Out → Out) → Turns a b held to f n → to < a.next → a.next ≤ a.most → held < a.next → held ≢ to → ((m : Setting) (at : ℕ → ℕ) (s : State) → act m (Some (placed at op)) s ≡ put s to (u (read s.regs held) (read s.regs to))) → Turns a (with_op b op) held to (λ env x y. u x (f env x y)) (n + 1)
+pub turns_op : (a b : Draft) (op : Op) (held to n : ℕ) (f : Environment → Out → Out → Out) (u : HostMeanings → Out → Out → Out) → Turns a b held to f n → to < a.next → a.next ≤ a.most → held < a.next → held ≢ to → ((m : Setting) (at : ℕ → ℕ) (s : State) → act m (Some (placed at op)) s ≡ put s to (u m.hosts (read s.regs held) (read s.regs to))) → Turns a (with_op b op) held to (λ env x y. u env.hosts x (f env x y)) (n + 1)
 turns_op a b op held to n f u t lt counted held_lt ne law =
-    let done : Claim = Turned a.next held to (λ env x y. u x (f env x y)) in
-    let first : Triple a b (λ w. n) no_labels no_last as_begun (Turned a.next held to f) = t_turns no_labels no_last as_begun (Turned a.next held to f) t (λ h0 h regs pre is same.
-    (but_regs regs same (begun_but a.next to h0 h pre), is ∙ begun_is (turned_at f held to) h0 h pre)) in
-    let second : Triple b (with_op b op) (λ w. 1) no_labels no_last (Turned a.next held to f) done = t_put b op to (λ h. u (read h.regs held) (read h.regs to)) no_labels no_last (Turned a.next held to f) done (omega (arith, t.grows.most)) law (λ h0 h regs pre long is same.
-    (but_regs regs (λ k below other. same k other) pre.0, is ∙ ap (λ x. u x (read h.regs to)) (pre.0.regs held held_lt ne) ∙ ap (u (read h0.regs held)) pre.1)) in
-    turns_of held to (λ env x y. u x (f env x y)) (grows_then t.grows (g_op b op)) t.next (t_more (λ w. n + 1) (λ w. omega arith) (t_seq first second))
+    turns_of held to (λ env x y. u env.hosts x (f env x y)) (grows_then t.grows (g_op b op)) t.next (λ m.
+    let done : Claim = Turned m a.next held to (λ env x y. u env.hosts x (f env x y)) in
+    let first : Triple m a b (λ w. n) no_labels no_last as_begun (Turned m a.next held to f) = t_turns m no_labels no_last as_begun (Turned m a.next held to f) t (λ h0 h regs pre is same.
+    (but_regs regs same (begun_but a.next to h0 h pre), is ∙ begun_is (turned_at m f held to) h0 h pre)) in
+    let second : Triple m b (with_op b op) (λ w. 1) no_labels no_last (Turned m a.next held to f) done = t_put m b op to (λ h. u m.hosts (read h.regs held) (read h.regs to)) no_labels no_last (Turned m a.next held to f) done (omega (arith, t.grows.most)) (law m) (λ h0 h regs pre long is same.
+    (but_regs regs (λ k below other. same k other) pre.0, is ∙ ap (λ x. u m.hosts x (read h.regs to)) (pre.0.regs held held_lt ne) ∙ ap (u m.hosts (read h0.regs held)) pre.1)) in
+    t_more (λ w. n + 1) (λ w. omega arith) (t_seq first second))
 
 -- ---- values that are decided
 
-abbrev decision_at : (Environment → Out → Option Out) → ℕ → Here → Option Out
-decision_at f held h = f (environment_of h) (read h.regs held)
+abbrev decision_at : Setting → (Environment → Out → Option Out) → ℕ → Here → Option Out
+decision_at m f held h = f (environment_of m h) (read h.regs held)
 
-abbrev pub Won : ℕ → ℕ → ℕ → (Environment → Out → Option Out) → Claim
-Won mark held to f h0 h = But mark to h0 h × (f (environment_of h0) (read h0.regs held) ≡ Some (read h.regs to))
+abbrev pub Won : Setting → ℕ → ℕ → ℕ → (Environment → Out → Option Out) → Claim
+Won m mark held to f h0 h = But mark to h0 h × (f (environment_of m h0) (read h0.regs held) ≡ Some (read h.regs to))
 
-abbrev pub Open : ℕ → ℕ → ℕ → (Environment → Out → Option Out) → Claim
-Open mark held to f h0 h = But mark to h0 h × (f (environment_of h0) (read h0.regs held) ≡ None)
+abbrev pub Open : Setting → ℕ → ℕ → ℕ → (Environment → Out → Option Out) → Claim
+Open m mark held to f h0 h = But mark to h0 h × (f (environment_of m h0) (read h0.regs held) ≡ None)
 
-pub decides_of : {a b : Draft} {n : ℕ} (held to label : ℕ) (f : Environment → Out → Option Out) → Grows a b → b.next ≡ a.next → Triple a b (λ w. n) (with_claim label (Won a.next held to f) no_labels) no_last as_begun (Open a.next held to f) → Decides a b held to label f n
+pub decides_of : {a b : Draft} {n : ℕ} (held to label : ℕ) (f : Environment → Out → Option Out) → Grows a b → b.next ≡ a.next → ((m : Setting) → Triple m a b (λ w. n) (with_claim label (Won m a.next held to f) no_labels) no_last as_begun (Open m a.next held to f)) → Decides a b held to label f n
 decides_of {a} {b} {n} held to label f grows next x = record {
   grows = grows;
   next = next;
-  decides = λ m u at h s room pc. by m at s (x.runs m u at h (here s) s room pc refl);
+  decides = λ m u at h s room pc. by m at s ((x m).runs u at h (here s) s room pc refl);
 }
   where
-    wins : (m : Setting) (at : ℕ → ℕ) (s : State) (l : ℕ) → l ≡ label → (h : Falls m n s (at l) (λ h. Unit {0})) → Won a.next held to f (here s) (record { regs = h.regs; args = s.args; cursors = h.cursors; shared = h.shared }) → Decided m n s (length b.code) (at label) a.next to (decision_at f held (here s))
+    wins : (m : Setting) (at : ℕ → ℕ) (s : State) (l : ℕ) → l ≡ label → (h : Falls m n s (at l) (λ h. Unit {0})) → Won m a.next held to f (here s) (record { regs = h.regs; args = s.args; cursors = h.cursors; shared = h.shared }) → Decided m n s (length b.code) (at label) a.next to (decision_at m f held (here s))
     wins m at s l is h ok = subst (Decided m n s (length b.code) (at label) a.next to) (sym ok.1) (record {
       regs = h.regs;
       way = subst (λ k. Reaches m n s (record s { pc = at k; regs = h.regs })) is (left_as m n s (at l) h.regs h.cursors h.shared ok.0.cursors ok.0.shared h.way);
@@ -141,7 +144,7 @@ decides_of {a} {b} {n} held to label f grows next x = record {
       keeps = ok.0.regs;
     })
 
-    by : (m : Setting) (at : ℕ → ℕ) (s : State) → Exits m at n (λ l. with_claim label (Won a.next held to f) no_labels l (here s)) (λ o shared. ⊥) s (length b.code) (Open a.next held to f (here s)) → Decided m n s (length b.code) (at label) a.next to (decision_at f held (here s))
+    by : (m : Setting) (at : ℕ → ℕ) (s : State) → Exits m at n (λ l. with_claim label (Won m a.next held to f) no_labels l (here s)) (λ o shared. ⊥) s (length b.code) (Open m a.next held to f (here s)) → Decided m n s (length b.code) (at label) a.next to (decision_at m f held (here s))
     by m at s (on h) = subst (Decided m n s (length b.code) (at label) a.next to) (sym h.holds.1) (
       read h.regs to,
       record {
@@ -156,15 +159,15 @@ decides_of {a} {b} {n} held to label f grows next x = record {
         ⊎_elim (λ ok. wins m at s l ok.0 (record { regs = h.regs; cursors = h.cursors; shared = h.shared; way = h.way; long = h.long; wide = h.wide; holds = tt }) ok.1) (λ no. absurd no) h.holds
     by m at s (ends o shared z h) = absurd h
 
-pub t_decides : {a b : Draft} {held to label n : ℕ} {f : Environment → Out → Option Out} (g : Labels) (e : Last) (p q : Claim) → Decides a b held to label f n → ((h0 h : Here) (regs : List Out) → p h0 h → f (environment_of h) (read h.regs held) ≡ None → ((k : ℕ) → k < a.next → k ≢ to → read regs k ≡ read h.regs k) → q h0 (with_regs h regs)) → ((h0 h : Here) (regs : List Out) → p h0 h → f (environment_of h) (read h.regs held) ≡ Some (read regs to) → ((k : ℕ) → k < a.next → k ≢ to → read regs k ≡ read h.regs k) → g label h0 (with_regs h regs)) → Triple a b (λ w. n) g e p q
-t_decides {a} {b} {held} {to} {label} {n} {f} g e p q x goes wins = record {
+pub t_decides : (m : Setting) {a b : Draft} {held to label n : ℕ} {f : Environment → Out → Option Out} (g : Labels) (e : Last) (p q : Claim) → Decides a b held to label f n → ((h0 h : Here) (regs : List Out) → p h0 h → f (environment_of m h) (read h.regs held) ≡ None → ((k : ℕ) → k < a.next → k ≢ to → read regs k ≡ read h.regs k) → q h0 (with_regs h regs)) → ((h0 h : Here) (regs : List Out) → p h0 h → f (environment_of m h) (read h.regs held) ≡ Some (read regs to) → ((k : ℕ) → k < a.next → k ≢ to → read regs k ≡ read h.regs k) → g label h0 (with_regs h regs)) → Triple m a b (λ w. n) g e p q
+t_decides m {a} {b} {held} {to} {label} {n} {f} g e p q x goes wins = record {
   extends = extends x.grows;
-  runs = λ m u at h h0 s room start pre.
-      by m at h0 s pre (decision_at f held (here s)) refl (x.decides m u at h s room start);
+  runs = λ u at h h0 s room start pre.
+      by at h0 s pre (decision_at m f held (here s)) refl (x.decides m u at h s room start);
 }
   where
-    by : (m : Setting) (at : ℕ → ℕ) (h0 : Here) (s : State) → p h0 (here s) → (o : Option Out) → decision_at f held (here s) ≡ o → Decided m n s (length b.code) (at label) a.next to o → Exits m at n (λ l. g l h0) (e h0) s (length b.code) (q h0)
-    by m at h0 s pre None is (v, l) = on (record {
+    by : (at : ℕ → ℕ) (h0 : Here) (s : State) → p h0 (here s) → (o : Option Out) → decision_at m f held (here s) ≡ o → Decided m n s (length b.code) (at label) a.next to o → Exits m at n (λ l. g l h0) (e h0) s (length b.code) (q h0)
+    by at h0 s pre None is (v, l) = on (record {
       regs = l.regs;
       cursors = s.cursors;
       shared = s.shared;
@@ -173,7 +176,7 @@ t_decides {a} {b} {held} {to} {label} {n} {f} g e p q x goes wins = record {
       wide = refl;
       holds = goes h0 (here s) l.regs pre is l.keeps;
     })
-    by m at h0 s pre (Some v) is l = off label (record {
+    by at h0 s pre (Some v) is l = off label (record {
       regs = l.regs;
       cursors = s.cursors;
       shared = s.shared;
@@ -186,56 +189,59 @@ t_decides {a} {b} {held} {to} {label} {n} {f} g e p q x goes wins = record {
 pub decides_none : (a : Draft) (held to label : ℕ) → Decides a a held to label (λ env x. None) 0
 decides_none a held to label =
     let none : Environment → Out → Option Out = λ env x. None in
-    let g : Labels = with_claim label (Won a.next held to none) no_labels in
-    let done : Claim = Open a.next held to none in
-    decides_of held to label none (grows_none a) refl (t_use as_begun done (λ h0 h pre. pre) (λ h0 h pre. (begun_but a.next to h0 h pre, refl)) (t_draft g no_last as_begun (grows_none a) refl))
+    decides_of held to label none (grows_none a) refl (λ m.
+    let g : Labels = with_claim label (Won m a.next held to none) no_labels in
+    let done : Claim = Open m a.next held to none in
+    t_use as_begun done (λ h0 h pre. pre) (λ h0 h pre. (begun_but a.next to h0 h pre, refl)) (t_draft m g no_last as_begun (grows_none a) refl))
 
 -- one decision behind another, which reads its register as the first does
 pub decides_then : {a b c : Draft} {held to label i n : ℕ} {f g : Environment → Out → Option Out} → Decides a b held to label f i → Decides b c held to label g n → ((env : Environment) (r q : List Out) → ((k : ℕ) → k < a.next → k ≢ to → read r k ≡ read q k) → g env (read r held) ≡ g env (read q held)) → Decides a c held to label (λ env x. first_of (f env x) (g env x)) (i + n)
 decides_then {a} {b} {c} {held} {to} {label} {i} {n} {f} {g} x y stay =
     let all : Environment → Out → Option Out = λ env z. first_of (f env z) (g env z) in
-    let labels : Labels = with_claim label (Won a.next held to all) no_labels in
-    let done : Claim = Open a.next held to all in
-    let mid : Claim = Open a.next held to f in
-    let first : Triple a b (λ w. i) labels no_last as_begun mid = t_decides labels no_last as_begun mid x (λ h0 h regs pre is same.
-    (but_regs regs same (begun_but a.next to h0 h pre), sym (begun_is (decision_at f held) h0 h pre) ∙ is))
-    (λ h0 h regs pre is same. inl (refl, (but_regs regs same (begun_but a.next to h0 h pre), ap (λ o. first_of o (decision_at g held h0)) (sym (begun_is (decision_at f held) h0 h pre) ∙ is)))) in
-    let then_is : (h0 h : Here) → mid h0 h → decision_at all held h0 ≡ decision_at g held h = λ h0 h pre.
-    ap (λ o. first_of o (decision_at g held h0)) pre.1 ∙ sym (ap (λ env. g env (read h.regs held)) (but_env pre.0) ∙ stay (environment_of h0) h.regs h0.regs pre.0.regs) in
-    let second : Triple b c (λ w. n) labels no_last mid done = t_decides labels no_last mid done y (λ h0 h regs pre is same.
+    decides_of held to label all (grows_then x.grows y.grows) (y.next ∙ x.next) (λ m.
+    let labels : Labels = with_claim label (Won m a.next held to all) no_labels in
+    let done : Claim = Open m a.next held to all in
+    let mid : Claim = Open m a.next held to f in
+    let first : Triple m a b (λ w. i) labels no_last as_begun mid = t_decides m labels no_last as_begun mid x (λ h0 h regs pre is same.
+    (but_regs regs same (begun_but a.next to h0 h pre), sym (begun_is (decision_at m f held) h0 h pre) ∙ is))
+    (λ h0 h regs pre is same. inl (refl, (but_regs regs same (begun_but a.next to h0 h pre), ap (λ o. first_of o (decision_at m g held h0)) (sym (begun_is (decision_at m f held) h0 h pre) ∙ is)))) in
+    let then_is : (h0 h : Here) → mid h0 h → decision_at m all held h0 ≡ decision_at m g held h = λ h0 h pre.
+    ap (λ o. first_of o (decision_at m g held h0)) pre.1 ∙ sym (ap (λ env. g env (read h.regs held)) (but_env m pre.0) ∙ stay (environment_of m h0) h.regs h0.regs pre.0.regs) in
+    let second : Triple m b c (λ w. n) labels no_last mid done = t_decides m labels no_last mid done y (λ h0 h regs pre is same.
     (but_regs regs (λ k below ne. same k (omega (arith, x.next)) ne) pre.0, then_is h0 h pre ∙ is))
     (λ h0 h regs pre is same. inl (refl, (but_regs regs (λ k below ne. same k (omega (arith, x.next)) ne) pre.0, then_is h0 h pre ∙ is))) in
-    decides_of held to label all (grows_then x.grows y.grows) (y.next ∙ x.next) (t_seq first second)
+    t_seq first second)
 
 -- the same of functions that agree, in more instructions
 pub decides_as : {a b : Draft} {held to label i : ℕ} {f : Environment → Out → Option Out} (g : Environment → Out → Option Out) (n : ℕ) → ((env : Environment) (x : Out) → f env x ≡ g env x) → i ≤ n → Decides a b held to label f i → Decides a b held to label g n
-decides_as {a} {b} {held} {to} {label} {i} {f} g n same le x = decides_of held to label g x.grows x.next (t_more (λ w. n) (λ w. le) (t_decides labels no_last as_begun done x (λ h0 h regs pre is keeps.
-    (but_regs regs keeps (begun_but a.next to h0 h pre), agree h0 h pre ∙ is)) (λ h0 h regs pre is keeps. inl (refl, (but_regs regs keeps (begun_but a.next to h0 h pre), agree h0 h pre ∙ is)))))
+decides_as {a} {b} {held} {to} {label} {i} {f} g n same le x = decides_of held to label g x.grows x.next (λ m. t_more (λ w. n) (λ w. le) (t_decides m (labels m) no_last as_begun (done m) x (λ h0 h regs pre is keeps.
+    (but_regs regs keeps (begun_but a.next to h0 h pre), agree m h0 h pre ∙ is)) (λ h0 h regs pre is keeps. inl (refl, (but_regs regs keeps (begun_but a.next to h0 h pre), agree m h0 h pre ∙ is)))))
   where
-    labels : Labels
-    labels = with_claim label (Won a.next held to g) no_labels
+    labels : Setting → Labels
+    labels m = with_claim label (Won m a.next held to g) no_labels
 
-    done : Claim
-    done = Open a.next held to g
+    done : Setting → Claim
+    done m = Open m a.next held to g
 
-    agree : (h0 h : Here) → h ≡ h0 → decision_at g held h0 ≡ decision_at f held h
-    agree h0 h pre = sym (same (environment_of h0) (read h0.regs held)) ∙ sym (begun_is (decision_at f held) h0 h pre)
+    agree : (m : Setting) (h0 h : Here) → h ≡ h0 → decision_at m g held h0 ≡ decision_at m f held h
+    agree m h0 h pre = sym (same (environment_of m h0) (read h0.regs held)) ∙ sym (begun_is (decision_at m f held) h0 h pre)
 
 -- what is decided, or else the value of the code behind
-pub turns_decided : (a b c : Draft) (held to label i n : ℕ) (f : Environment → Out → Option Out) (g : Environment → Out) → label ≡ length a.labels → Decides (with_label a) b held to label f i → Leaves b c to (λ w env. g env) (λ w. n) → Turns a (bound c label) held to (λ env x y. out_or (f env x) (g env)) (i + n)
+pub turns_decided : (a b c : Draft) (held to label i n : ℕ) (f : Environment → Out → Option Out) (g : Environment → Out) → label ≡ length a.labels → Decides (with_label a) b held to label f i → Leaves b c to (λ env. g env) (λ w. n) → Turns a (bound c label) held to (λ env x y. out_or (f env x) (g env)) (i + n)
 turns_decided a b c held to label i n f g label_is x l =
     let all : Environment → Out → Out → Out = λ env z y. out_or (f env z) (g env) in
-    let done : Claim = Turned a.next held to all in
+    turns_of held to all (g_bound c label (grows_then (g_label a) (grows_then x.grows l.grows)) (omega (arith, label_is)) is_open) (l.next ∙ x.next) (λ m.
+    let done : Claim = Turned m a.next held to all in
     let labels : Labels = with_claim label done no_labels in
-    let mid : Claim = Open a.next held to f in
-    let start = t_draft labels no_last as_begun (g_label a) refl in
-    let first : Triple (with_label a) b (λ w. i) labels no_last as_begun mid = t_decides labels no_last as_begun mid x (λ h0 h regs pre is same.
-    (but_regs regs same (begun_but a.next to h0 h pre), sym (begun_is (decision_at f held) h0 h pre) ∙ is))
-    (λ h0 h regs pre is same. inl (refl, (but_regs regs same (begun_but a.next to h0 h pre), sym (ap (λ o. out_or o (g (environment_of h0))) (sym (begun_is (decision_at f held) h0 h pre) ∙ is))))) in
-    let second : Triple b c (λ w. n) labels no_last mid done = t_leaves labels no_last mid done l (λ h0 h pre. ap (λ (y : Shared). y.world) pre.0.shared) (λ h0 h regs pre long is same.
-    (but_regs regs (λ k below ne. same k (omega (arith, x.next)) ne) pre.0, is ∙ ap g (but_env pre.0) ∙ sym (ap (λ o. out_or o (g (environment_of h0))) pre.1))) in
+    let mid : Claim = Open m a.next held to f in
+    let start = t_draft m labels no_last as_begun (g_label a) refl in
+    let first : Triple m (with_label a) b (λ w. i) labels no_last as_begun mid = t_decides m labels no_last as_begun mid x (λ h0 h regs pre is same.
+    (but_regs regs same (begun_but a.next to h0 h pre), sym (begun_is (decision_at m f held) h0 h pre) ∙ is))
+    (λ h0 h regs pre is same. inl (refl, (but_regs regs same (begun_but a.next to h0 h pre), sym (ap (λ o. out_or o (g (environment_of m h0))) (sym (begun_is (decision_at m f held) h0 h pre) ∙ is))))) in
+    let second : Triple m b c (λ w. n) labels no_last mid done = t_leaves m labels no_last mid done l (λ h0 h pre. ap (λ (y : Shared). y.world) pre.0.shared) (λ h0 h regs pre long is same.
+    (but_regs regs (λ k below ne. same k (omega (arith, x.next)) ne) pre.0, is ∙ ap g (but_env m pre.0) ∙ sym (ap (λ o. out_or o (g (environment_of m h0))) pre.1))) in
     let whole = t_bind label done is_open (λ h0 h pre. pre) (t_seq (t_seq start first) second) in
-    turns_of held to all (g_bound c label (grows_then (g_label a) (grows_then x.grows l.grows)) (omega (arith, label_is)) is_open) (l.next ∙ x.next) (t_more (λ w. i + n) (λ w. omega arith) whole)
+    t_more (λ w. i + n) (λ w. omega arith) whole)
   where
     is_open : slice_get c.labels label ≡ Some None
     is_open = l.grows.open_labels label (x.grows.open_labels label (subst (λ k. slice_get (with_label a).labels k ≡ Some None) (sym label_is) (open_new a)))
@@ -245,20 +251,22 @@ turns_decided a b c held to label i n f g label_is x l =
 pub turns_none : (a : Draft) (held to : ℕ) → Turns a a held to (λ env x y. y) 0
 turns_none a held to =
     let same : Environment → Out → Out → Out = λ env x y. y in
-    turns_of held to same (grows_none a) refl (t_use as_begun (Turned a.next held to same) (λ h0 h pre. pre) (λ h0 h pre. (begun_but a.next to h0 h pre, ap (λ (z : Here). read z.regs to) pre)) (t_draft no_labels no_last as_begun (grows_none a) refl))
+    turns_of held to same (grows_none a) refl (λ m.
+    t_use as_begun (Turned m a.next held to same) (λ h0 h pre. pre) (λ h0 h pre. (begun_but a.next to h0 h pre, ap (λ (z : Here). read z.regs to) pre)) (t_draft m no_labels no_last as_begun (grows_none a) refl))
 
 pub turns_then : {a b c : Draft} {held to i n : ℕ} {f g : Environment → Out → Out → Out} → Turns a b held to f i → Turns b c held to g n → held < a.next → held ≢ to → Turns a c held to (λ env x y. g env x (f env x y)) (i + n)
 turns_then {a} {b} {c} {held} {to} {i} {n} {f} {g} x y lt ne =
     let all : Environment → Out → Out → Out = λ env z v. g env z (f env z v) in
-    let mid : Claim = Turned a.next held to f in
-    let done : Claim = Turned a.next held to all in
-    let first : Triple a b (λ w. i) no_labels no_last as_begun mid = t_turns no_labels no_last as_begun mid x (λ h0 h regs pre is same.
-    (but_regs regs same (begun_but a.next to h0 h pre), is ∙ begun_is (turned_at f held to) h0 h pre)) in
-    let second : Triple b c (λ w. n) no_labels no_last mid done = t_turns no_labels no_last mid done y (λ h0 h regs pre is same.
-    (but_regs regs (λ k below other. same k (omega (arith, x.next)) other) pre.0, is ∙ ap (λ env. g env (read h.regs held) (read h.regs to)) (but_env pre.0) ∙ ap (λ z. g (environment_of h0) z (read h.regs to)) (pre.0.regs held lt ne) ∙ ap (g (environment_of h0) (read h0.regs held)) pre.1)) in
-    turns_of held to all (grows_then x.grows y.grows) (y.next ∙ x.next) (t_seq first second)
+    turns_of held to all (grows_then x.grows y.grows) (y.next ∙ x.next) (λ m.
+    let mid : Claim = Turned m a.next held to f in
+    let done : Claim = Turned m a.next held to all in
+    let first : Triple m a b (λ w. i) no_labels no_last as_begun mid = t_turns m no_labels no_last as_begun mid x (λ h0 h regs pre is same.
+    (but_regs regs same (begun_but a.next to h0 h pre), is ∙ begun_is (turned_at m f held to) h0 h pre)) in
+    let second : Triple m b c (λ w. n) no_labels no_last mid done = t_turns m no_labels no_last mid done y (λ h0 h regs pre is same.
+    (but_regs regs (λ k below other. same k (omega (arith, x.next)) other) pre.0, is ∙ ap (λ env. g env (read h.regs held) (read h.regs to)) (but_env m pre.0) ∙ ap (λ z. g (environment_of m h0) z (read h.regs to)) (pre.0.regs held lt ne) ∙ ap (g (environment_of m h0) (read h0.regs held)) pre.1)) in
+    t_seq first second)
 
 -- an instruction by itself
 pub turns_alone : (a : Draft) (op : Op) (held to : ℕ) (u : Out → Out → Out) → to < a.next → a.next ≤ a.most → held < a.next → held ≢ to → ((m : Setting) (at : ℕ → ℕ) (s : State) → act m (Some (placed at op)) s ≡ put s to (u (read s.regs held) (read s.regs to))) → Turns a (with_op a op) held to (λ env x y. u x y) 1
 turns_alone a op held to u lt counted held_lt ne law =
-    turns_as (λ env x y. u x y) 1 (λ env x y. refl) (omega arith) (turns_op a a op held to 0 (λ env x y. y) u (turns_none a held to) lt counted held_lt ne law)
+    turns_as (λ env x y. u x y) 1 (λ env x y. refl) (omega arith) (turns_op a a op held to 0 (λ env x y. y) (λ hosts. u) (turns_none a held to) lt counted held_lt ne law)

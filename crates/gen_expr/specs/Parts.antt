@@ -1,12 +1,13 @@
 -- What the parts of an expression's code do: those between the codes of operands, and those that decide a value.
 use Rattle.std.specs.Prelude.{◌≡◌, ℕ, ◌+◌, true, List, [], ◌∷◌, length, pos, Some, None}
 use Rattle.std.specs.declared.option.Option.{Option}
+use Rattle.eng_value.specs.Collations.{keys_of}
 use Rattle.eng_value.specs.Comparisons.{comparison_of}
 use Rattle.eng_value.specs.Environments.{Environment}
 use Rattle.eng_value.specs.Truths.{truth_in, truth_of}
 use Rattle.eng_value.specs.declared.compare_op.CompareOp.TheVariants as compare
-use Rattle.eng_value.specs.declared.built.Built.{Built}
 use Rattle.eng_value.specs.declared.builtin.Builtin.{Builtin}
+use Rattle.eng_value.specs.declared.collation.Collation.{Collation}
 use Rattle.eng_value.specs.declared.operators.BinaryOperator.{BinaryOperator}
 use Rattle.eng_value.specs.declared.operators.BinaryOperator.TheVariants as binary
 use Rattle.eng_value.specs.declared.operators.Sides.{Sides}
@@ -38,7 +39,7 @@ with_unary d o to = with_op d (op.Unary o to to)
 abbrev pub with_binary : Draft → BinaryOperator → ℕ → ℕ → Draft
 with_binary d o to other = given_back (with_op d (op.Binary o to other to))
 
-abbrev pub with_call : Draft → Builtin → Built → ℕ → ℕ → ℕ → Draft
+abbrev pub with_call : Draft → Builtin → Collation → ℕ → ℕ → ℕ → Draft
 with_call d f collation first count to = released (with_op d (op.Function f collation first count to)) first
 
 abbrev pub with_compared : Draft → Sides → ℕ → ℕ → Draft
@@ -77,7 +78,7 @@ pub record Turns (a b : Draft) (held to : ℕ) (f : Environment → Out → Out 
   pub grows : Grows a b
   pub next : b.next ≡ a.next
   pub turns : (m : Setting) (u : ℕ) (at : ℕ → ℕ) → Holds b m.prog u at → (s : State) → Ready b u s → s.pc ≡ length a.code
-      → Left m most s (length b.code) a.next to (f (environment_of (here s)) (read s.regs held) (read s.regs to))
+      → Left m most s (length b.code) a.next to (f (environment_of m (here s)) (read s.regs held) (read s.regs to))
 
 -- ---- code that decides a value, or leaves that to what is behind it
 
@@ -91,7 +92,7 @@ pub record Decides (a b : Draft) (held to label : ℕ) (f : Environment → Out 
   pub grows : Grows a b
   pub next : b.next ≡ a.next
   pub decides : (m : Setting) (u : ℕ) (at : ℕ → ℕ) → Holds b m.prog u at → (s : State) → Ready b u s → s.pc ≡ length a.code
-      → Decided m most s (length b.code) (at label) a.next to (f (environment_of (here s)) (read s.regs held))
+      → Decided m most s (length b.code) (at label) a.next to (f (environment_of m (here s)) (read s.regs held))
 
 -- ---- what is decided
 
@@ -106,7 +107,7 @@ abbrev pub decided_arm : Environment → Arm → Option Out
 decided_arm env arm = decided_by (truth_in (truth_of (arm.condition env))) (arm.value env)
 
 abbrev pub decided_match : Environment → Out → MatchArm → Option Out
-decided_match env a arm = decided_by (truth_in (truth_of (comparison_of compare.Eq arm.sides a (arm.operand env)))) (arm.value env)
+decided_match env a arm = decided_by (truth_in (truth_of (comparison_of (keys_of env.hosts) compare.Eq arm.sides a (arm.operand env)))) (arm.value env)
 
 -- by an operand of coalesce, unless it is NULL
 abbrev pub decided_known : Out → Option Out

@@ -1,6 +1,7 @@
 // The code of an expression.
 ghost use Rattle.std.specs.Prelude.{◌≡◌, ◌+◌, ◌<◌, ◌≤◌, [], ◌∷◌, OnOk, IfOk, length, map, sum_by};
 ghost use Rattle.eng_value.specs.Applied.{member_of};
+ghost use Rattle.eng_value.specs.Collations.{keys_of};
 ghost use Rattle.gen_expr.specs.Parts.{AreBehind};
 ghost use Rattle.gen_expr.specs.Steps.{arm_steps_of, match_steps_of, steps_of};
 ghost use Rattle.sql_meaning.specs.Expression.{arm_of, chosen_in, first_known, in_all, match_of, matched_in, value_of};
@@ -22,7 +23,7 @@ use vm_code::{Builder, Op};
 pub fn emit(b: &mut Builder, e: &BoundExpr, to: u32) -> Result<(), AllocError>
     requires taken { to < b.old.next }
     requires counted { b.old.next ≤ b.old.most }
-    ensures leaves { OnOk result (Leaves b.old b.new to (λ _ env. value_of e.now env) (λ _. steps_of e.now)) }
+    ensures leaves { OnOk result (Leaves b.old b.new to (λ env. value_of e.now env) (λ _. steps_of e.now)) }
     ensures units { OnOk result (b.new.units ≡ b.old.units) }
     ensures cursors { OnOk result (b.new.cursors ≡ b.old.cursors) }
 {
@@ -76,7 +77,7 @@ fn emit_three(
     z: &BoundExpr,
 ) -> Result<Operands, AllocError>
     requires counted { b.old.next ≤ b.old.most }
-    ensures fills { OnOk result (Fills b.old b.new 3 (λ _ env. value_of x.now env ∷ value_of y.now env ∷ value_of z.now env ∷ []) (λ _. steps_of x.now + steps_of y.now + steps_of z.now)) }
+    ensures fills { OnOk result (Fills b.old b.new 3 (λ env. value_of x.now env ∷ value_of y.now env ∷ value_of z.now env ∷ []) (λ _. steps_of x.now + steps_of y.now + steps_of z.now)) }
     ensures places { IfOk result (AreBehind b.old.next) }
     ensures units { OnOk result (b.new.units ≡ b.old.units) }
     ensures cursors { OnOk result (b.new.cursors ≡ b.old.cursors) }
@@ -98,7 +99,7 @@ fn emit_three(
 #[cycle(emitting)]
 fn emit_all(b: &mut Builder, all: &[BoundExpr]) -> Result<u32, AllocError>
     requires counted { b.old.next ≤ b.old.most }
-    ensures fills { IfOk result (λ count. Fills b.old b.new count (λ _ env. in_all (map value_of all.now) env) (λ _. sum_by steps_of all.now)) }
+    ensures fills { IfOk result (λ count. Fills b.old b.new count (λ env. in_all (map value_of all.now) env) (λ _. sum_by steps_of all.now)) }
     ensures units { OnOk result (b.new.units ≡ b.old.units) }
     ensures cursors { OnOk result (b.new.cursors ≡ b.old.cursors) }
 {
@@ -121,7 +122,7 @@ fn emit_member(
 ) -> Result<(), AllocError>
     requires taken { to < b.old.next }
     requires counted { b.old.next ≤ b.old.most }
-    ensures leaves { OnOk result (Leaves b.old b.new to (λ _ env. member_of sides (value_of tested.now env) (in_all (map value_of others.now) env)) (λ _. steps_of tested.now + 2 + sum_by (λ e. steps_of e + 2) others.now)) }
+    ensures leaves { OnOk result (Leaves b.old b.new to (λ env. member_of (keys_of env.hosts) sides (value_of tested.now env) (in_all (map value_of others.now) env)) (λ _. steps_of tested.now + 2 + sum_by (λ e. steps_of e + 2) others.now)) }
     ensures units { OnOk result (b.new.units ≡ b.old.units) }
     ensures cursors { OnOk result (b.new.cursors ≡ b.old.cursors) }
 {
@@ -142,7 +143,7 @@ fn emit_member(
 fn emit_known(b: &mut Builder, operands: &[BoundExpr], to: u32) -> Result<(), AllocError>
     requires taken { to < b.old.next }
     requires counted { b.old.next ≤ b.old.most }
-    ensures leaves { OnOk result (Leaves b.old b.new to (λ _ env. first_known (in_all (map value_of operands.now) env)) (λ _. sum_by (λ e. steps_of e + 2) operands.now + 1)) }
+    ensures leaves { OnOk result (Leaves b.old b.new to (λ env. first_known (in_all (map value_of operands.now) env)) (λ _. sum_by (λ e. steps_of e + 2) operands.now + 1)) }
     ensures units { OnOk result (b.new.units ≡ b.old.units) }
     ensures cursors { OnOk result (b.new.cursors ≡ b.old.cursors) }
 {
@@ -166,7 +167,7 @@ fn emit_choice(
 ) -> Result<(), AllocError>
     requires taken { to < b.old.next }
     requires counted { b.old.next ≤ b.old.most }
-    ensures leaves { OnOk result (Leaves b.old b.new to (λ _ env. chosen_in env (map arm_of arms.now) (value_of otherwise.now env)) (λ _. sum_by arm_steps_of arms.now + steps_of otherwise.now)) }
+    ensures leaves { OnOk result (Leaves b.old b.new to (λ env. chosen_in env (map arm_of arms.now) (value_of otherwise.now env)) (λ _. sum_by arm_steps_of arms.now + steps_of otherwise.now)) }
     ensures units { OnOk result (b.new.units ≡ b.old.units) }
     ensures cursors { OnOk result (b.new.cursors ≡ b.old.cursors) }
 {
@@ -194,7 +195,7 @@ fn emit_match(
 ) -> Result<(), AllocError>
     requires taken { to < b.old.next }
     requires counted { b.old.next ≤ b.old.most }
-    ensures leaves { OnOk result (Leaves b.old b.new to (λ _ env. matched_in env (value_of tested.now env) (map match_of arms.now) (value_of otherwise.now env)) (λ _. steps_of tested.now + sum_by match_steps_of arms.now + steps_of otherwise.now)) }
+    ensures leaves { OnOk result (Leaves b.old b.new to (λ env. matched_in env (value_of tested.now env) (map match_of arms.now) (value_of otherwise.now env)) (λ _. steps_of tested.now + sum_by match_steps_of arms.now + steps_of otherwise.now)) }
     ensures units { OnOk result (b.new.units ≡ b.old.units) }
     ensures cursors { OnOk result (b.new.cursors ≡ b.old.cursors) }
 {

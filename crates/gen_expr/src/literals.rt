@@ -13,7 +13,7 @@ use vm_code::{Builder, Op};
 pub fn emit_literal(b: &mut Builder, literal: &Literal, to: u32) -> Result<(), AllocError>
     requires taken { to < b.old.next }
     requires counted { b.old.next ≤ b.old.most }
-    ensures leaves { OnOk result (Leaves b.old b.new to (λ _ _. literal_out literal.now) (λ _. 1)) }
+    ensures leaves { OnOk result (Leaves b.old b.new to (λ _. literal_out literal.now) (λ _. 1)) }
     ensures units { OnOk result (b.new.units ≡ b.old.units) }
     ensures cursors { OnOk result (b.new.cursors ≡ b.old.cursors) }
 {
@@ -30,7 +30,7 @@ pub fn emit_literal(b: &mut Builder, literal: &Literal, to: u32) -> Result<(), A
 fn emit_value(b: &mut Builder, value: &Value, to: u32) -> Result<(), AllocError>
     requires taken { to < b.old.next }
     requires counted { b.old.next ≤ b.old.most }
-    ensures leaves { OnOk result (Leaves b.old b.new to (λ _ _. Good value.now) (λ _. 1)) }
+    ensures leaves { OnOk result (Leaves b.old b.new to (λ _. Good value.now) (λ _. 1)) }
     ensures units { OnOk result (b.new.units ≡ b.old.units) }
     ensures cursors { OnOk result (b.new.cursors ≡ b.old.cursors) }
 {

@@ -2,7 +2,7 @@
 ghost use Rattle.std.specs.Prelude.{◌≡◌, ◌≤◌, ◌<◌, OnOk, IfOk, None, Some, length, slice_get};
 ghost use Rattle.gen_expr.specs.Parts.{with_arm_left, with_arm_tested, with_between, with_binary, with_call, with_column, with_compared, with_known_left, with_like_escaped, with_member_begun, with_or_equal, with_parameter, with_unary};
 
-use eng_value::{BinaryOperator, Built, Builtin, CompareOp, Sides, UnaryOperator};
+use eng_value::{BinaryOperator, Builtin, Collation, CompareOp, Sides, UnaryOperator};
 use std::alloc::AllocError;
 use vm_code::{Builder, Op};
 
@@ -68,7 +68,7 @@ pub(crate) fn binary(
 pub(crate) fn call(
     b: &mut Builder,
     function: Builtin,
-    collation: Built,
+    collation: Collation,
     first: u32,
     count: u32,
     to: u32,

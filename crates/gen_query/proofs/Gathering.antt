@@ -3,16 +3,15 @@ use Rattle.std.proofs.Common.{◌≡◌, ◌≢◌, ℕ, zero, suc, ◌+◌, ◌
 use Rattle.std.proofs.lemmas.List.{map-append}
 use Rattle.std.proofs.lemmas.List.Sums.{fold-append, sum_by_push}
 use Rattle.eng_value.specs.Applied.{merged}
-use Rattle.eng_value.specs.Environments.{Environment}
+use Rattle.eng_value.specs.Environments.{Environment, with_causes}
 use Rattle.eng_value.specs.declared.out.Out.{Out}
 use Rattle.gen_expr.specs.Steps.{steps_of}
 use Rattle.gen_query.specs.Stretches.{Gathers}
 use Rattle.sql_meaning.specs.Expression.{value_of}
-use Rattle.sql_meaning.specs.Statement.{with_causes}
 use Rattle.sql_meaning.specs.declared.bound.BoundExpr.{BoundExpr}
 use Rattle.vm_code.specs.declared.op.Op.TheVariants as op
 use Rattle.vm_code.specs.Draft.{Draft, with_op, taken}
-use Rattle.vm_code.specs.Machine.{World, State, outs_from, read, Reaches}
+use Rattle.vm_code.specs.Machine.{Setting, State, outs_from, read, Reaches}
 use Rattle.vm_code.specs.Frames.{Here, here, with_regs, Fills, Leaves}
 use Rattle.vm_code.specs.Claims.{Claim, Labels, Last, on, Triple}
 use Rattle.vm_code.proofs.Runs.{reaches_none, reaches_op, reaches_then}
@@ -30,14 +29,14 @@ abbrev pub values_in : List BoundExpr → Environment → List Out
 values_in es env = map (λ e. value_of e env) es
 
 -- the same of functions that agree
-fills_by : {a b : Draft} {count n i k : ℕ} (f g : World → Environment → List Out) → ((w : World) (env : Environment) → f w env ≡ g w env) → count ≡ n → i ≡ k → Fills a b count f (λ w. i) → Fills a b n g (λ w. k)
+fills_by : {a b : Draft} {count n i k : ℕ} (f g : Environment → List Out) → ((env : Environment) → f env ≡ g env) → count ≡ n → i ≡ k → Fills a b count f (λ w. i) → Fills a b n g (λ w. k)
 fills_by {a} {b} {count} {n} {i} {k} f g same many cost x =
     subst (λ c. Fills a b c g (λ w. k)) many (Rattle.vm_code.proofs.Fills.fills_same g same cost x)
 
 -- a result more
-pub fills_result : {a b z : Draft} (es : List BoundExpr) (e : BoundExpr) (to : ℕ) → to ≡ b.next → Fills a b (length es) (λ w env. values_in es env) (λ w. sum_by steps_of es) → Leaves (taken b) z to (λ w env. value_of e env) (λ w. steps_of e) → Fills a z (length (es ++ e ∷ [])) (λ w env. values_in (es ++ e ∷ []) env) (λ w. sum_by steps_of (es ++ e ∷ []))
+pub fills_result : {a b z : Draft} (es : List BoundExpr) (e : BoundExpr) (to : ℕ) → to ≡ b.next → Fills a b (length es) (λ env. values_in es env) (λ w. sum_by steps_of es) → Leaves (taken b) z to (λ env. value_of e env) (λ w. steps_of e) → Fills a z (length (es ++ e ∷ [])) (λ env. values_in (es ++ e ∷ []) env) (λ w. sum_by steps_of (es ++ e ∷ []))
 fills_result es e to to_is x l =
-    fills_by (λ w env. values_in es env ++ value_of e env ∷ []) (λ w env. values_in (es ++ e ∷ []) env) (λ w env. sym (map-append (λ e. value_of e env) es (e ∷ []))) (sym (Rattle.std.proofs.Common.length-append es (e ∷ []))) (sym (sum_by_push steps_of es e)) (fills_more to x to_is l)
+    fills_by (λ env. values_in es env ++ value_of e env ∷ []) (λ env. values_in (es ++ e ∷ []) env) (λ env. sym (map-append (λ e. value_of e env) es (e ∷ []))) (sym (Rattle.std.proofs.Common.length-append es (e ∷ []))) (sym (sum_by_push steps_of es e)) (fills_more to x to_is l)
 
 -- ---- causes
 
@@ -86,10 +85,10 @@ gathers_next a b first from causes apart le inside counted x =
     subst (λ n. Gathers a (with_op b (op.Merge from causes)) first n causes) more (subst (λ r. Gathers a (with_op b (op.Merge r causes)) first (from - first + 1) causes) is (gathers_more a b first (from - first) causes apart (omega arith) counted x))
 
 -- code that gathers causes, inside another stretch
-pub t_gathers : {a b : Draft} {first count causes : ℕ} (g : Labels) (e : Last) (p q : Claim) → Gathers a b first count causes → ((h0 h : Here) (regs : List Out) → p h0 h → length regs ≡ length h.regs → read regs causes ≡ fold with_causes (read h.regs causes) (outs_from h.regs first count) → ((k : ℕ) → k < a.next → k ≢ causes → read regs k ≡ read h.regs k) → q h0 (with_regs h regs)) → Triple a b (λ w. count) g e p q
-t_gathers g e p q x goes = record {
+pub t_gathers : (m : Setting) {a b : Draft} {first count causes : ℕ} (g : Labels) (e : Last) (p q : Claim) → Gathers a b first count causes → ((h0 h : Here) (regs : List Out) → p h0 h → length regs ≡ length h.regs → read regs causes ≡ fold with_causes (read h.regs causes) (outs_from h.regs first count) → ((k : ℕ) → k < a.next → k ≢ causes → read regs k ≡ read h.regs k) → q h0 (with_regs h regs)) → Triple m a b (λ w. count) g e p q
+t_gathers m g e p q x goes = record {
   extends = extends x.grows;
-  runs = λ m u at h h0 s room start pre.
+  runs = λ u at h h0 s room start pre.
       let l = x.gathers m u at h s room start in
       on (record {
         regs = l.regs;

@@ -3,8 +3,10 @@ use Rattle.std.proofs.Common.{◌≡◌, ℕ, ◌+◌, ◌-◌, ◌≤◌, ◌<�
 use Rattle.std.specs.Prelude.{slice_get}
 use Rattle.std.proofs.lemmas.Option.{slice_get_within}
 use Rattle.std.specs.Option.{option_map, option_to_list}
+use Rattle.std.specs.declared.option.Option.{Option}
 use Rattle.eng_value.specs.Causes.{CauseSet}
-use Rattle.eng_value.specs.Environments.{Environment}
+use Rattle.eng_value.specs.Environments.{Environment, ItemRow, carried, no_causes, with_causes}
+use Rattle.eng_value.specs.StoredRows.{StoredRow}
 use Rattle.eng_value.specs.declared.out.Out.{Out}
 use Rattle.eng_value.specs.declared.out.Out.TheVariants.{Good, Bad}
 use Rattle.gen_expr.specs.Steps.{steps_of}
@@ -14,11 +16,11 @@ use Rattle.gen_query.proofs.Conjuncts.{t_sifts}
 use Rattle.gen_query.proofs.Gathering.{t_gathers, values_in}
 use Rattle.gen_query.proofs.Listing.{good_or_null-same, with_given-nil}
 use Rattle.sql_meaning.specs.Statement as meaning
-use Rattle.sql_meaning.specs.Statement.{item_by, item_of, items_at, no_causes, shown, sifted, with_causes}
+use Rattle.sql_meaning.specs.Statement.{item_by, item_of, items_at, shown, sifted}
 use Rattle.sql_meaning.specs.declared.bound.BoundExpr.{BoundExpr}
 use Rattle.vm_code.specs.declared.op.Op.TheVariants as op
 use Rattle.vm_code.specs.Draft.{Draft, with_op, with_label, bound, taken, released}
-use Rattle.vm_code.specs.Machine.{Row, Shared, ending_of, is_bad, read, outs_from, values_from}
+use Rattle.vm_code.specs.Machine.{Row, World, Cursor, Closed, Open, Setting, Shared, current, ending_of, is_bad, read, row_read, row_under, rows_of, outs_from, values_from}
 use Rattle.vm_code.specs.Frames.{Here, with_regs, environment_of, Memory, memory_of, Outcome, Done, Fails, Does, Fills, Grows, Sifts}
 use Rattle.vm_code.specs.Claims.{Claim, Labels, Last, Triple}
 use Rattle.vm_code.proofs.Drafts.{g_bound, g_label, g_op, g_released, g_taken, grows_then, open_new, open_old, open_other}
@@ -30,12 +32,29 @@ use Rattle.vm_code.proofs.Fills.{t_fills}
 -- ---- the item by what the registers hold
 
 -- a rejected row has none
-items-none : (conjuncts results : List BoundExpr) (env : Environment) → sifted conjuncts env no_causes ≡ None → items_at conjuncts results env ≡ []
-items-none conjuncts results env e = ap (λ o. option_to_list (option_map (shown results env) o)) e
+items-none : (conjuncts results : List BoundExpr) (env : Environment) → carried env.rows ≡ no_causes → sifted conjuncts env no_causes ≡ None → items_at conjuncts results env ≡ []
+items-none conjuncts results env none e =
+    ap (λ o. option_to_list (option_map (shown results env) o)) (ap (sifted conjuncts env) none ∙ e)
 
 -- else it is the one of the causes and of the results
-items-some : (conjuncts results : List BoundExpr) (env : Environment) (v : Out) → sifted conjuncts env no_causes ≡ Some v → items_at conjuncts results env ≡ item_of v (values_in results env) ∷ []
-items-some conjuncts results env v e = ap (λ o. option_to_list (option_map (shown results env) o)) e
+items-some : (conjuncts results : List BoundExpr) (env : Environment) (v : Out) → carried env.rows ≡ no_causes → sifted conjuncts env no_causes ≡ Some v → items_at conjuncts results env ≡ item_of v (values_in results env) ∷ []
+items-some conjuncts results env v none e =
+    ap (λ o. option_to_list (option_map (shown results env) o)) (ap (sifted conjuncts env) none ∙ e)
+
+-- rows under cursors carry no causes
+row_carries : (w : World) (cursor : Cursor) → (current w cursor).causes ≡ no_causes
+row_carries w Closed = refl
+row_carries w (Open table None) = refl
+row_carries w (Open table (Some rowid)) = by (row_under (rows_of w table) rowid)
+  where
+    by : (o : Option StoredRow) → (row_read o).causes ≡ no_causes
+    by None = refl
+    by (Some r) = refl
+
+cursors_carry : (w : World) (cursors : List Cursor) → carried (map (current w) cursors) ≡ no_causes
+cursors_carry w [] = refl
+cursors_carry w (c ∷ cursors) =
+    ap (λ o. fold with_causes (with_causes no_causes o) (map (λ (r : ItemRow). r.causes) (map (current w) cursors))) (row_carries w c) ∙ cursors_carry w cursors
 
 -- good, it is given; bad, it ends the run
 gives-good : (outs : List Out) (all : Out) (x : Memory) → is_bad all ≡ false → gives (item_by outs all ∷ []) x ≡ Done (with_given x (map meaning.good_or_null outs ∷ []))
@@ -48,7 +67,7 @@ gives-bad outs (Bad causes) x e = (causes, refl, refl)
 
 -- ---- the code of a row
 
-module _ (a x y z : Draft) (conjuncts results : List BoundExpr) (counted : a.next ≤ a.most) (sx : Sifts (with_op (taken (with_label a)) (op.Null a.next)) x a.next (length a.labels) (λ w env. sifted conjuncts env) (λ w. conjuncts_steps conjuncts)) (fy : Fills x y (length results) (λ w env. values_in results env) (λ w. sum_by steps_of results)) (gz : Gathers y z x.next (y.next - x.next) a.next) where
+module _ (a x y z : Draft) (conjuncts results : List BoundExpr) (counted : a.next ≤ a.most) (sx : Sifts (with_op (taken (with_label a)) (op.Null a.next)) x a.next (length a.labels) (λ env. sifted conjuncts env) (λ w. conjuncts_steps conjuncts)) (fy : Fills x y (length results) (λ env. values_in results env) (λ w. sum_by steps_of results)) (gz : Gathers y z x.next (y.next - x.next) a.next) where
   abbrev causes : ℕ
   causes = a.next
 
@@ -104,121 +123,125 @@ module _ (a x y z : Draft) (conjuncts results : List BoundExpr) (counted : a.nex
   grows_row =
       grows_then (g_bound halting next (grows_then (g_bound leaving fail grows_leaving (omega (arith, next_below)) (open_new z)) (g_op (bound leaving fail) (op.HaltBad causes))) (omega arith) next_there) (g_released (bound halting next) causes)
 
-  -- what is known on the way
-  abbrev items_of : Here → List meaning.Item
-  items_of h = items_at conjuncts results (environment_of h)
-
-  abbrev outs_of : Here → List Out
-  outs_of h = values_in results (environment_of h)
-
   abbrev started : Claim
   started = But causes causes
-
-  abbrev nulled : Claim
-  nulled h0 h = started h0 h × (read h.regs causes ≡ no_causes)
-
-  abbrev kept : Claim
-  kept h0 h = started h0 h × (sifted conjuncts (environment_of h0) no_causes ≡ Some (read h.regs causes))
-
-  abbrev filled : Claim
-  filled h0 h = kept h0 h × (outs_from h.regs x.next count ≡ outs_of h0)
-
-  abbrev gathered : Claim
-  gathered h0 h =
-      started h0 h × (items_of h0 ≡ item_by (outs_of h0) (read h.regs causes) ∷ []) × (outs_from h.regs x.next count ≡ outs_of h0)
-
-  abbrev good : Claim
-  good h0 h = gathered h0 h × (is_bad (read h.regs causes) ≡ false)
-
-  abbrev bad_row : Claim
-  bad_row h0 h = gathered h0 h × (is_bad (read h.regs causes) ≡ true)
 
   abbrev effect : Environment → Out → Memory → Outcome
   effect = row_effect conjuncts results
 
-  abbrev done : Claim
-  done = EndsDone effect 0 0 causes
+  module _ (m : Setting) where
+    -- what is known on the way
+    abbrev items_of : Here → List meaning.Item
+    items_of h = items_at conjuncts results (environment_of m h)
 
-  abbrev last : Last
-  last = EndsFailed effect 0 0
+    abbrev outs_of : Here → List Out
+    outs_of h = values_in results (environment_of m h)
 
-  abbrev outer : Labels
-  outer = with_claim 0 (EndsQuit effect 0 0 causes) no_labels
+    abbrev nulled : Claim
+    nulled h0 h = started h0 h × (read h.regs causes ≡ no_causes)
 
-  abbrev inner : Labels
-  inner = with_claim next done outer
+    abbrev kept : Claim
+    kept h0 h = started h0 h × (sifted conjuncts (environment_of m h0) no_causes ≡ Some (read h.regs causes))
 
-  abbrev innermost : Labels
-  innermost = with_claim fail bad_row inner
+    abbrev filled : Claim
+    filled h0 h = kept h0 h × (outs_from h.regs x.next count ≡ outs_of h0)
 
-  -- where only registers from the mark on and what is given differ
-  row_done : (h0 h : Here) (rows : List Row) → started h0 h → gives (items_of h0) (memory_of 0 h0) ≡ Done (with_given (memory_of 0 h0) rows) → done h0 (record h { shared = record h.shared { given = h.shared.given ++ rows } })
-  row_done h0 h rows but e = (
-    (λ k le lt. but.regs k lt (omega arith)),
-    but.cursors,
-    e ∙ ap (λ (y : Shared). Done (record { own = []; shared = record y { given = y.given ++ rows } })) (sym but.shared),
-  )
+    abbrev gathered : Claim
+    gathered h0 h =
+        started h0 h × (items_of h0 ≡ item_by (outs_of h0) (read h.regs causes) ∷ []) × (outs_from h.regs x.next count ≡ outs_of h0)
 
-  rejected : (h0 h : Here) → started h0 h → sifted conjuncts (environment_of h0) no_causes ≡ None → done h0 h
-  rejected h0 h but none = (
-    (λ k le lt. but.regs k lt (omega arith)),
-    but.cursors,
-    ap (λ l. gives l (memory_of 0 h0)) (items-none conjuncts results (environment_of h0) none) ∙ ap Done (with_given-nil (memory_of 0 h0)) ∙ ap (λ (y : Shared). Done (record { own = []; shared = y })) (sym but.shared),
-  )
+    abbrev good : Claim
+    good h0 h = gathered h0 h × (is_bad (read h.regs causes) ≡ false)
 
-  begins : Triple a nulling (λ w. 1) innermost last started nulled
-  begins =
-      let take = t_draft innermost last started (grows_then (g_label a) (g_taken (with_label a))) refl in
-      let clear = t_put (taken (with_label a)) (op.Null causes) causes (λ h. no_causes) innermost last started nulled (omega arith) (λ m at s. refl) (λ h0 h regs pre long is same.
-      (but_regs regs (λ k lt ne. same k ne) pre, is)) in
-      t_more (λ w. 1) (λ w. omega arith) (t_seq take clear)
+    abbrev bad_row : Claim
+    bad_row h0 h = gathered h0 h × (is_bad (read h.regs causes) ≡ true)
 
-  sifts : Triple nulling x (λ w. conjuncts_steps conjuncts) innermost last nulled kept
-  sifts = t_sifts innermost last nulled kept sx (λ h0 h pre. ap (λ (y : Shared). y.world) pre.0.shared) (λ h0 h regs v pre is long has same.
-      (but_regs regs (λ k lt ne. same k (omega arith) ne) pre.0, sym (ap (λ env. sifted conjuncts env no_causes) (but_env pre.0)) ∙ sym (ap (sifted conjuncts (environment_of h)) pre.1) ∙ is ∙ ap Some (sym has))) (λ h0 h regs pre is long same.
-      inr (inl (refl, rejected h0 (with_regs h regs) (but_regs regs (λ k lt ne. same k (omega arith) ne) pre.0) (sym (ap (λ env. sifted conjuncts env no_causes) (but_env pre.0)) ∙ sym (ap (sifted conjuncts (environment_of h)) pre.1) ∙ is))))
+    abbrev done : Claim
+    done = EndsDone m effect 0 0 causes
 
-  fills : Triple x y (λ w. sum_by steps_of results) innermost last kept filled
-  fills = t_fills innermost last kept filled fy (λ h0 h pre. ap (λ (y : Shared). y.world) pre.0.shared) (λ h0 h regs pre long is same.
-      ((but_regs regs (λ k lt ne. same k (omega (arith, first_is))) pre.0, pre.1 ∙ ap Some (sym (same causes (omega (arith, first_is))))), ap (outs_from regs x.next) count_is ∙ is ∙ ap (values_in results) (but_env pre.0)))
+    abbrev last : Last
+    last = EndsFailed m effect 0 0
 
-  gathers : Triple y z (λ w. count) innermost last filled gathered
-  gathers = t_gathers innermost last filled gathered gz (λ h0 h regs pre long is same.
-      let all : read regs causes ≡ fold with_causes (read h.regs causes) (outs_of h0) = is ∙ ap (fold with_causes (read h.regs causes)) pre.1 in (
-        but_regs regs (λ k lt ne. same k (omega (arith, first_is, fy.next)) ne) pre.0.0,
-        items-some conjuncts results (environment_of h0) (read h.regs causes) pre.0.1 ∙ ap (λ o. item_by (outs_of h0) o ∷ []) (sym all),
-        outs_same regs h.regs count x.next (λ k le lt. same k (omega (arith, lt, count_is, fy.next)) (omega (arith, le, first_is))) ∙ pre.1,
-      ))
+    abbrev outer : Labels
+    outer = with_claim 0 (EndsQuit m effect 0 0 causes) no_labels
 
-  tests : Triple z testing (λ w. 1) innermost last gathered good
-  tests =
-      let label = t_draft innermost last gathered (g_label z) refl in
-      let jump = t_test (with_label z) (op.IsBad causes fail) fail (λ h. is_bad (read h.regs causes)) innermost last gathered good (λ m at s. refl) (λ h0 h pre b. inl (refl, (pre, b))) (λ h0 h pre b. (pre, b)) in
-      t_more (λ w. 1) (λ w. omega arith) (t_seq label jump)
+    abbrev inner : Labels
+    inner = with_claim next done outer
 
-  given : Triple testing giving (λ w. 1) innermost last good done
-  given = t_op testing (op.ResultRow x.next count) (λ h. record h { shared = record h.shared { given = h.shared.given ++ values_from h.regs x.next count ∷ [] } }) innermost last good done (λ m at s. refl) (λ h. (refl, refl)) (λ h0 h most wide pre.
-      let row : values_from h.regs x.next count ≡ map meaning.good_or_null (outs_of h0) = values_outs h.regs count x.next ∙ good_or_null-same (outs_from h.regs x.next count) ∙ ap (map meaning.good_or_null) pre.0.2 in
-      let gave = ap (λ l. gives l (memory_of 0 h0)) pre.0.1 ∙ gives-good (outs_of h0) (read h.regs causes) (memory_of 0 h0) pre.1 ∙ ap (λ r. Done (with_given (memory_of 0 h0) (r ∷ []))) (sym row) in
-      row_done h0 h (values_from h.regs x.next count ∷ []) pre.0.0 gave)
+    abbrev innermost : Labels
+    innermost = with_claim fail bad_row inner
 
-  leaves : Triple giving leaving (λ w. 1) innermost last done (λ h0 h. ⊥)
-  leaves = t_goto giving next innermost last done (λ h0 h pre. inr (inl (refl, pre)))
+    -- where only registers from the mark on and what is given differ
+    row_done : (h0 h : Here) (rows : List Row) → started h0 h → gives (items_of h0) (memory_of 0 h0) ≡ Done (with_given (memory_of 0 h0) rows) → done h0 (record h { shared = record h.shared { given = h.shared.given ++ rows } })
+    row_done h0 h rows but e = (
+      (λ k le lt. but.regs k lt (omega arith)),
+      but.cursors,
+      e ∙ ap (λ (y : Shared). Done (record { own = []; shared = record y { given = y.given ++ rows } })) (sym but.shared),
+    )
 
-  fails : Triple (bound leaving fail) halting (λ w. 1) inner last bad_row (λ h0 h. ⊥)
-  fails = t_halt_bad (bound leaving fail) causes inner last bad_row (λ h0 h pre.
-      let ends = gives-bad (outs_of h0) (read h.regs causes) (memory_of 0 h0) pre.1 in (
-        ends.0,
-        with_given (memory_of 0 h0) [],
-        ap (λ l. gives l (memory_of 0 h0)) pre.0.1 ∙ ends.2,
-        ap ending_of ends.1,
-        ap (λ (y : Memory). y.shared) (with_given-nil (memory_of 0 h0)) ∙ sym pre.0.0.shared,
-      ))
+    rejected : (h0 h : Here) → started h0 h → sifted conjuncts (environment_of m h0) no_causes ≡ None → done h0 h
+    rejected h0 h but none = (
+      (λ k le lt. but.regs k lt (omega arith)),
+      but.cursors,
+      ap (λ l. gives l (memory_of 0 h0)) (items-none conjuncts results (environment_of m h0) (cursors_carry h0.shared.world h0.cursors) none) ∙ ap Done (with_given-nil (memory_of 0 h0)) ∙ ap (λ (y : Shared). Done (record { own = []; shared = y })) (sym but.shared),
+    )
+
+    begins : Triple m a nulling (λ w. 1) innermost last started nulled
+    begins =
+        let take = t_draft m innermost last started (grows_then (g_label a) (g_taken (with_label a))) refl in
+        let clear = t_put m (taken (with_label a)) (op.Null causes) causes (λ h. no_causes) innermost last started nulled (omega arith) (λ at s. refl) (λ h0 h regs pre long is same.
+        (but_regs regs (λ k lt ne. same k ne) pre, is)) in
+        t_more (λ w. 1) (λ w. omega arith) (t_seq take clear)
+
+    sifts : Triple m nulling x (λ w. conjuncts_steps conjuncts) innermost last nulled kept
+    sifts = t_sifts m innermost last nulled kept sx (λ h0 h pre. ap (λ (y : Shared). y.world) pre.0.shared) (λ h0 h regs v pre is long has same.
+        (but_regs regs (λ k lt ne. same k (omega arith) ne) pre.0, sym (ap (λ env. sifted conjuncts env no_causes) (but_env m pre.0)) ∙ sym (ap (sifted conjuncts (environment_of m h)) pre.1) ∙ is ∙ ap Some (sym has))) (λ h0 h regs pre is long same.
+        inr (inl (refl, rejected h0 (with_regs h regs) (but_regs regs (λ k lt ne. same k (omega arith) ne) pre.0) (sym (ap (λ env. sifted conjuncts env no_causes) (but_env m pre.0)) ∙ sym (ap (sifted conjuncts (environment_of m h)) pre.1) ∙ is))))
+
+    fills : Triple m x y (λ w. sum_by steps_of results) innermost last kept filled
+    fills = t_fills m innermost last kept filled fy (λ h0 h pre. ap (λ (y : Shared). y.world) pre.0.shared) (λ h0 h regs pre long is same.
+        ((but_regs regs (λ k lt ne. same k (omega (arith, first_is))) pre.0, pre.1 ∙ ap Some (sym (same causes (omega (arith, first_is))))), ap (outs_from regs x.next) count_is ∙ is ∙ ap (values_in results) (but_env m pre.0)))
+
+    gathers : Triple m y z (λ w. count) innermost last filled gathered
+    gathers = t_gathers m innermost last filled gathered gz (λ h0 h regs pre long is same.
+        let all : read regs causes ≡ fold with_causes (read h.regs causes) (outs_of h0) = is ∙ ap (fold with_causes (read h.regs causes)) pre.1 in (
+          but_regs regs (λ k lt ne. same k (omega (arith, first_is, fy.next)) ne) pre.0.0,
+          items-some conjuncts results (environment_of m h0) (read h.regs causes) (cursors_carry h0.shared.world h0.cursors) pre.0.1 ∙ ap (λ o. item_by (outs_of h0) o ∷ []) (sym all),
+          outs_same regs h.regs count x.next (λ k le lt. same k (omega (arith, lt, count_is, fy.next)) (omega (arith, le, first_is))) ∙ pre.1,
+        ))
+
+    tests : Triple m z testing (λ w. 1) innermost last gathered good
+    tests =
+        let label = t_draft m innermost last gathered (g_label z) refl in
+        let jump = t_test m (with_label z) (op.IsBad causes fail) fail (λ h. is_bad (read h.regs causes)) innermost last gathered good (λ at s. refl) (λ h0 h pre b. inl (refl, (pre, b))) (λ h0 h pre b. (pre, b)) in
+        t_more (λ w. 1) (λ w. omega arith) (t_seq label jump)
+
+    given : Triple m testing giving (λ w. 1) innermost last good done
+    given = t_op m testing (op.ResultRow x.next count) (λ h. record h { shared = record h.shared { given = h.shared.given ++ values_from h.regs x.next count ∷ [] } }) innermost last good done (λ at s. refl) (λ h. (refl, refl)) (λ h0 h most wide pre.
+        let row : values_from h.regs x.next count ≡ map meaning.good_or_null (outs_of h0) = values_outs h.regs count x.next ∙ good_or_null-same (outs_from h.regs x.next count) ∙ ap (map meaning.good_or_null) pre.0.2 in
+        let gave = ap (λ l. gives l (memory_of 0 h0)) pre.0.1 ∙ gives-good (outs_of h0) (read h.regs causes) (memory_of 0 h0) pre.1 ∙ ap (λ r. Done (with_given (memory_of 0 h0) (r ∷ []))) (sym row) in
+        row_done h0 h (values_from h.regs x.next count ∷ []) pre.0.0 gave)
+
+    leaves : Triple m giving leaving (λ w. 1) innermost last done (λ h0 h. ⊥)
+    leaves = t_goto m giving next innermost last done (λ h0 h pre. inr (inl (refl, pre)))
+
+    fails : Triple m (bound leaving fail) halting (λ w. 1) inner last bad_row (λ h0 h. ⊥)
+    fails = t_halt_bad m (bound leaving fail) causes inner last bad_row (λ h0 h pre.
+        let ends = gives-bad (outs_of h0) (read h.regs causes) (memory_of 0 h0) pre.1 in (
+          ends.0,
+          with_given (memory_of 0 h0) [],
+          ap (λ l. gives l (memory_of 0 h0)) pre.0.1 ∙ ends.2,
+          ap ending_of ends.1,
+          ap (λ (y : Memory). y.shared) (with_given-nil (memory_of 0 h0)) ∙ sym pre.0.0.shared,
+        ))
+
+    whole : Triple m a row_code (λ w. row_steps conjuncts results) outer last started done
+    whole =
+        let good_way = t_seq (t_seq (t_seq (t_seq (t_seq (t_seq begins sifts) fills) gathers) tests) given) leaves in
+        let at_fail = t_bind fail bad_row (open_new z) (λ h0 h no. absurd no) good_way in
+        let all = t_bind next done next_there (λ h0 h no. absurd no) (t_seq at_fail fails) in
+        let back = t_draft m outer last done (g_released (bound halting next) causes) refl in
+        t_more (λ w. row_steps conjuncts results) (λ w. omega (arith, count_is)) (t_seq all back)
 
   pub row-does : Does a row_code 0 0 0 (row_effect conjuncts results) (λ w. row_steps conjuncts results)
-  row-does =
-      let good_way = t_seq (t_seq (t_seq (t_seq (t_seq (t_seq begins sifts) fills) gathers) tests) given) leaves in
-      let at_fail = t_bind fail bad_row (open_new z) (λ h0 h no. absurd no) good_way in
-      let all = t_bind next done next_there (λ h0 h no. absurd no) (t_seq at_fail fails) in
-      let back = t_draft outer last done (g_released (bound halting next) causes) refl in
-      does_of 0 0 0 effect started grows_row refl (λ h shut. but_none causes causes h) (t_more (λ w. row_steps conjuncts results) (λ w. omega (arith, count_is)) (t_seq all back))
+  row-does = does_of 0 0 0 effect started grows_row refl (λ h shut. but_none causes causes h) whole

@@ -4,7 +4,7 @@ use Rattle.std.specs.Prelude.{Option, Some, None}
 use Rattle.std.proofs.Math.Nat.{mul-le-mul_left}
 use Rattle.std.proofs.lemmas.List.Sums.{sum_by-cons}
 use Rattle.eng_value.specs.declared.builtin.Builtin.{Builtin}
-use Rattle.eng_value.specs.declared.built.Built.{Built}
+use Rattle.eng_value.specs.declared.collation.Collation.{Collation}
 use Rattle.eng_value.specs.declared.operators.BinaryOperator.{BinaryOperator}
 use Rattle.eng_value.specs.declared.operators.Sides.{Sides}
 use Rattle.eng_value.specs.declared.operators.UnaryOperator.{UnaryOperator}
@@ -58,7 +58,7 @@ nodes_of-Choose arms otherwise = search (rules, the_lemmas)
 nodes_of-Match : (a : BoundExpr) (arms : List BoundMatch) (otherwise : BoundExpr) → nodes_of (e.Match a arms otherwise) ≡ 1 + nodes_of a + total (map nodes_of_match arms) + nodes_of otherwise
 nodes_of-Match a arms otherwise = search (rules, the_lemmas)
 
-nodes_of-Call : (f : Builtin) (collation : Built) (args : List BoundExpr) → nodes_of (e.Call f collation args) ≡ 1 + total (map nodes_of args)
+nodes_of-Call : (f : Builtin) (collation : Collation) (args : List BoundExpr) → nodes_of (e.Call f collation args) ≡ 1 + total (map nodes_of args)
 nodes_of-Call f collation args = search (rules, the_lemmas)
 
 nodes_of_arm-is : (condition shown : BoundExpr) → nodes_of_arm (roll-BoundArm (record { condition = condition; value = shown })) ≡ 1 + nodes_of condition + nodes_of shown
@@ -129,7 +129,7 @@ choose_small arms a y x = omega (arith, x, y, steps_of-Choose arms a, nodes_of-C
 match_small : (a : BoundExpr) (arms : List BoundMatch) (b : BoundExpr) → IsSmall a → sum_by match_steps_of arms ≤ 3 * total (map nodes_of_match arms) → IsSmall b → IsSmall (e.Match a arms b)
 match_small a arms b x y z = omega (arith, x, y, z, steps_of-Match a arms b, nodes_of-Match a arms b)
 
-call_small : (f : Builtin) (collation : Built) (args : List BoundExpr) → sum_by steps_of args ≤ 3 * total (map nodes_of args) → IsSmall (e.Call f collation args)
+call_small : (f : Builtin) (collation : Collation) (args : List BoundExpr) → sum_by steps_of args ≤ 3 * total (map nodes_of args) → IsSmall (e.Call f collation args)
 call_small f collation args y = omega (arith, y, steps_of-Call f collation args, nodes_of-Call f collation args)
 
 arm_small : (a b : BoundExpr) → IsSmall a → IsSmall b → IsSmallArm (roll-BoundArm (record { condition = a; value = b }))

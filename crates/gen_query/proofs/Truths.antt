@@ -3,6 +3,7 @@ use Rattle.std.proofs.Common.{◌≡◌, Bool, true, false, not, pos, List, [], 
 use Rattle.std.specs.Ordering.{int_eq, is_eq}
 use Rattle.eng_value.specs.Applied.{is_null_of, not_null_of, falsehood_of, member_of, or_equal}
 use Rattle.eng_value.specs.Casts.{to_number, to_text}
+use Rattle.eng_value.specs.Collations.{Keys, keys_of}
 use Rattle.eng_value.specs.Comparisons.{comparison, comparison_of, glob_of, globbed, is_of, like_escaped_of, like_of, liked, liked_beside, compare_sides, to_escape}
 use Rattle.eng_value.specs.Functions.{is_null}
 use Rattle.eng_value.specs.Outs.{on_both, on_three, passes, truth_value, turned}
@@ -96,28 +97,28 @@ pub or_truth : (a b : Out) → IsTruth (or_of a b)
 unfolding or_of
 or_truth a b = spelled (one_of_both (truth_in (truth_of a)) (truth_in (truth_of b)))
 
-compared : (op : CompareOp) (sides : Sides) (v w : Value) → IsTruth (Good (comparison op sides v w))
-compared op sides Null w = null
-compared op sides (Integer n) Null = null
-compared op sides (Integer n) (Integer m) = flag (passes op (compare_sides sides (Integer n) (Integer m)))
-compared op sides (Integer n) (Text t) = flag (passes op (compare_sides sides (Integer n) (Text t)))
-compared op sides (Integer n) (Blob t) = flag (passes op (compare_sides sides (Integer n) (Blob t)))
-compared op sides (Text s) Null = null
-compared op sides (Text s) (Integer m) = flag (passes op (compare_sides sides (Text s) (Integer m)))
-compared op sides (Text s) (Text t) = flag (passes op (compare_sides sides (Text s) (Text t)))
-compared op sides (Text s) (Blob t) = flag (passes op (compare_sides sides (Text s) (Blob t)))
-compared op sides (Blob s) Null = null
-compared op sides (Blob s) (Integer m) = flag (passes op (compare_sides sides (Blob s) (Integer m)))
-compared op sides (Blob s) (Text t) = flag (passes op (compare_sides sides (Blob s) (Text t)))
-compared op sides (Blob s) (Blob t) = flag (passes op (compare_sides sides (Blob s) (Blob t)))
+compared : (keys : Keys) (op : CompareOp) (sides : Sides) (v w : Value) → IsTruth (Good (comparison keys op sides v w))
+compared keys op sides Null w = null
+compared keys op sides (Integer n) Null = null
+compared keys op sides (Integer n) (Integer m) = flag (passes op (compare_sides keys sides (Integer n) (Integer m)))
+compared keys op sides (Integer n) (Text t) = flag (passes op (compare_sides keys sides (Integer n) (Text t)))
+compared keys op sides (Integer n) (Blob t) = flag (passes op (compare_sides keys sides (Integer n) (Blob t)))
+compared keys op sides (Text s) Null = null
+compared keys op sides (Text s) (Integer m) = flag (passes op (compare_sides keys sides (Text s) (Integer m)))
+compared keys op sides (Text s) (Text t) = flag (passes op (compare_sides keys sides (Text s) (Text t)))
+compared keys op sides (Text s) (Blob t) = flag (passes op (compare_sides keys sides (Text s) (Blob t)))
+compared keys op sides (Blob s) Null = null
+compared keys op sides (Blob s) (Integer m) = flag (passes op (compare_sides keys sides (Blob s) (Integer m)))
+compared keys op sides (Blob s) (Text t) = flag (passes op (compare_sides keys sides (Blob s) (Text t)))
+compared keys op sides (Blob s) (Blob t) = flag (passes op (compare_sides keys sides (Blob s) (Blob t)))
 
-pub comparison_truth : (op : CompareOp) (sides : Sides) (a b : Out) → IsTruth (comparison_of op sides a b)
+pub comparison_truth : (keys : Keys) (op : CompareOp) (sides : Sides) (a b : Out) → IsTruth (comparison_of keys op sides a b)
 unfolding comparison_of
-comparison_truth op sides a b = of_both (λ v w. Good (comparison op sides v w)) (compared op sides) a b
+comparison_truth keys op sides a b = of_both (λ v w. Good (comparison keys op sides v w)) (compared keys op sides) a b
 
-pub is_truth : (sides : Sides) (a b : Out) → IsTruth (is_of sides a b)
+pub is_truth : (keys : Keys) (sides : Sides) (a b : Out) → IsTruth (is_of keys sides a b)
 unfolding is_of
-is_truth sides a b = of_both (λ v w. Good (truth_value (is_eq (compare_sides sides v w)))) (λ v w. flag (is_eq (compare_sides sides v w))) a b
+is_truth keys sides a b = of_both (λ v w. Good (truth_value (is_eq (compare_sides keys sides v w)))) (λ v w. flag (is_eq (compare_sides keys sides v w))) a b
 
 liked_known : (t p : Value) → IsTruth (Good (liked t p))
 liked_known Null p = null
@@ -163,12 +164,12 @@ pub like_escaped_truth : (a b c : Out) → IsTruth (like_escaped_of a b c)
 unfolding like_escaped_of
 like_escaped_truth a b c = of_three (λ t p e. Good (liked_beside t p e)) escaped_known (turned to_text a) (turned to_text b) (to_escape c)
 
-found_truth : (sides : Sides) (a found : Out) (others : List Out) → IsTruth found → IsTruth (fold (or_equal sides a) found others)
-found_truth sides a found [] e = e
-found_truth sides a found (b ∷ others) e = found_truth sides a (or_equal sides a found b) others (or_truth found _)
+found_truth : (keys : Keys) (sides : Sides) (a found : Out) (others : List Out) → IsTruth found → IsTruth (fold (or_equal keys sides a) found others)
+found_truth keys sides a found [] e = e
+found_truth keys sides a found (b ∷ others) e = found_truth keys sides a (or_equal keys sides a found b) others (or_truth found _)
 
-pub member_truth : (sides : Sides) (a : Out) (others : List Out) → IsTruth (member_of sides a others)
-member_truth sides a others = found_truth sides a (falsehood_of a) others (bad_one a (λ v. Good (truth_value false)) (λ v. flag false))
+pub member_truth : (keys : Keys) (sides : Sides) (a : Out) (others : List Out) → IsTruth (member_of keys sides a others)
+member_truth keys sides a others = found_truth keys sides a (falsehood_of a) others (bad_one a (λ v. Good (truth_value false)) (λ v. flag false))
 
 -- ---- the expressions of these operators
 
@@ -179,4 +180,4 @@ pub between_gives : (above below : Sides) (x y z : BoundExpr) → GivesTruth (e.
 between_gives above below x y z env = rw (value_of-Between above below x y z env) (and_truth _ _)
 
 pub in_gives : (sides : Sides) (x : BoundExpr) (es : List BoundExpr) → GivesTruth (e.In sides x es)
-in_gives sides x es env = rw (value_of-In sides x es env) (member_truth sides (value_of x env) (in_all (map value_of es) env))
+in_gives sides x es env = rw (value_of-In sides x es env) (member_truth (keys_of env.hosts) sides (value_of x env) (in_all (map value_of es) env))

@@ -2,12 +2,12 @@
 use Rattle.std.specs.Prelude.{ℕ, ◌+◌, ◌*◌, ◌≤◌, List, [], ◌∷◌, ◌++◌, length, map, sum_by, slice_set, Option, Some, None}
 use Rattle.std.specs.List.{flat_map}
 use Rattle.eng_value.specs.Causes.{CauseSet}
-use Rattle.eng_value.specs.Environments.{Environment}
+use Rattle.eng_value.specs.Environments.{Environment, ItemRow, Surroundings, environment, table_row}
 use Rattle.eng_value.specs.StoredRows.{StoredRow}
 use Rattle.eng_value.specs.declared.value.Value.{Value}
 use Rattle.gen_expr.specs.Steps.{steps_of}
 use Rattle.sql_meaning.specs.Sizes.{all_nodes}
-use Rattle.sql_meaning.specs.Statement.{Item, at_none, at_row, given_of, items_at, refusal_of}
+use Rattle.sql_meaning.specs.Statement.{Item, given_of, items_at, refusal_of}
 use Rattle.sql_meaning.specs.declared.bound.BoundExpr.{BoundExpr}
 use Rattle.sql_meaning.specs.declared.bound.BoundSelect.{BoundSelect}
 use Rattle.vm_code.specs.Frames.{Effect, Memory, Outcome, Done, Fails}
@@ -15,28 +15,29 @@ use Rattle.vm_code.specs.Machine.{World, Run, Ending, Finished, Failed, rows_of}
 
 -- ---- the whole query
 
--- one for each row of the table, in their order, or a single one where there is no FROM
-abbrev pub environments_in : Option ℕ → List Value → World → List Environment
-environments_in None params w = at_none params ∷ []
-environments_in (Some table) params w = map (at_row params) (rows_of w table)
+-- the rows of the FROM's items: one of the table's after the other, in their order, or a single one of no items where there is no FROM
+abbrev pub rows_in : Option ℕ → World → List (List ItemRow)
+rows_in None w = [] ∷ []
+rows_in (Some table) w = map (λ r. table_row r ∷ []) (rows_of w table)
 
-abbrev pub items_in : BoundSelect → List Value → World → List Item
-items_in q params w = flat_map (items_at q.conjuncts q.results) (environments_in q.table params w)
+abbrev pub items_in : BoundSelect → Surroundings → List Item
+items_in q x =
+    flat_map (λ rows. items_at q.conjuncts q.results (environment x [] [] rows)) (rows_in q.table x.world)
 
 abbrev pub ending_by : Option CauseSet → Ending
 ending_by None = Finished
 ending_by (Some causes) = Failed causes
 
 -- the good items in front of the first bad one are given, and nothing is changed
-abbrev pub run_by : List Value → World → List Item → Run
-run_by params w items =
+abbrev pub run_by : Surroundings → List Item → Run
+run_by x items =
     record {
       ending = ending_by (refusal_of items);
-      shared = record { params = params; world = w; given = given_of items; changes = [] };
+      shared = record { params = x.params; world = x.world; given = given_of items; changes = [] };
     }
 
-abbrev pub query_run : BoundSelect → List Value → World → Run
-query_run q params w = run_by params w (items_in q params w)
+abbrev pub query_run : BoundSelect → Surroundings → Run
+query_run q x = run_by x (items_in q x)
 
 -- ---- a stretch of its code
 
@@ -56,7 +57,7 @@ row_effect conjuncts results env causes x = gives (items_at conjuncts results en
 
 -- an environment with a row for the item of this number
 abbrev pub with_row : ℕ → Environment → StoredRow → Environment
-with_row item env r = record env { rows = slice_set env.rows item r.values }
+with_row item env r = record env { rows = slice_set env.rows item (table_row r) }
 
 abbrev pub scan_effect : ℕ → ℕ → List BoundExpr → List BoundExpr → Effect
 scan_effect item table conjuncts results env causes x =

@@ -1,6 +1,6 @@
 -- What the stretches of a query's code do.
 use Rattle.std.specs.Prelude.{◌≡◌, ℕ, length, fold}
-use Rattle.sql_meaning.specs.Statement.{with_causes}
+use Rattle.eng_value.specs.Environments.{with_causes}
 use Rattle.vm_code.specs.declared.op.Op.TheVariants as op
 use Rattle.vm_code.specs.Draft.{Draft, bound, with_label, with_op}
 use Rattle.vm_code.specs.Frames.{Grows, Holds, Left, Ready}

@@ -109,7 +109,7 @@ fn emit_row(
 /// Writes code that leaves the results in registers that it takes, one after another.
 fn emit_results(b: &mut Builder, results: &[BoundExpr]) -> Result<(), AllocError>
     requires counted { b.old.next ≤ b.old.most }
-    ensures fills { OnOk result (Fills b.old b.new (length results.now) (λ _ env. map (λ e. value_of e env) results.now) (λ _. sum_by steps_of results.now)) }
+    ensures fills { OnOk result (Fills b.old b.new (length results.now) (λ env. map (λ e. value_of e env) results.now) (λ _. sum_by steps_of results.now)) }
     ensures cursors { OnOk result (b.new.cursors ≡ b.old.cursors) }
 {
     for result in results {

@@ -1,6 +1,7 @@
 // The conjuncts of a WHERE.
 ghost use Rattle.std.specs.Prelude.{◌≡◌, ◌+◌, ◌<◌, ◌≤◌, true, OnOk};
 ghost use Rattle.eng_value.specs.Applied.{binary_of, unary_of};
+ghost use Rattle.eng_value.specs.Collations.{Keys};
 ghost use Rattle.eng_value.specs.Truths.{truth_in, truth_of};
 ghost use Rattle.eng_value.specs.declared.out.Out.{Out};
 ghost use Rattle.gen_expr.specs.Steps.{steps_of};
@@ -26,7 +27,7 @@ pub(crate) fn emit_conjuncts(
 ) -> Result<(), AllocError>
     requires taken { causes < b.old.next }
     requires counted { b.old.next ≤ b.old.most }
-    ensures sifts { OnOk result (Sifts b.old b.new causes next (λ _ env. sifted conjuncts.now env) (λ _. conjuncts_steps conjuncts.now)) }
+    ensures sifts { OnOk result (Sifts b.old b.new causes next (λ env. sifted conjuncts.now env) (λ _. conjuncts_steps conjuncts.now)) }
     ensures cursors { OnOk result (b.new.cursors ≡ b.old.cursors) }
 {
     for conjunct in conjuncts {
@@ -44,7 +45,7 @@ fn emit_conjunct(
 ) -> Result<(), AllocError>
     requires taken { causes < b.old.next }
     requires counted { b.old.next ≤ b.old.most }
-    ensures sifts { OnOk result (Sifts b.old b.new causes next (λ _ env found. after_conjunct found (truth_in (truth_of (value_of conjunct.now env)))) (λ _. steps_of conjunct.now + 3)) }
+    ensures sifts { OnOk result (Sifts b.old b.new causes next (λ env found. after_conjunct found (truth_in (truth_of (value_of conjunct.now env)))) (λ _. steps_of conjunct.now + 3)) }
     ensures cursors { OnOk result (b.new.cursors ≡ b.old.cursors) }
 {
     let value = b.take()?;
@@ -66,7 +67,7 @@ fn emit_conjunct(
 fn emit_truth(b: &mut Builder, e: &BoundExpr, to: u32) -> Result<(), AllocError>
     requires taken { to < b.old.next }
     requires counted { b.old.next ≤ b.old.most }
-    ensures leaves { OnOk result (Leaves b.old b.new to (λ _ env. truth_of (value_of e.now env)) (λ _. steps_of e.now + 1)) }
+    ensures leaves { OnOk result (Leaves b.old b.new to (λ env. truth_of (value_of e.now env)) (λ _. steps_of e.now + 1)) }
     ensures cursors { OnOk result (b.new.cursors ≡ b.old.cursors) }
 {
     emit(b, e, to)?;
@@ -112,7 +113,7 @@ fn unary_gives_truth(operator: UnaryOperator) -> bool
 
 #[tactic(auto, using(crate::proofs::Truths::and_truth, crate::proofs::Truths::or_truth, crate::proofs::Truths::comparison_truth, crate::proofs::Truths::is_truth, crate::proofs::Truths::like_truth, crate::proofs::Truths::glob_truth))]
 fn binary_gives_truth(operator: BinaryOperator) -> bool
-    ensures { result ≡ true → (a b : Out) → IsTruth (binary_of operator a b) }
+    ensures { result ≡ true → (keys : Keys) (a b : Out) → IsTruth (binary_of keys operator a b) }
 {
     match operator {
         BinaryOperator::And => true,

@@ -6,16 +6,16 @@ use Rattle.std.proofs.lemmas.List.{get_or-set_same, get_or-set_other}
 use Rattle.std.proofs.lemmas.List.Sums.{fold-append}
 use Rattle.eng_value.specs.Applied.{merged}
 use Rattle.eng_value.specs.Casts.{store_as}
+use Rattle.eng_value.specs.Environments.{with_causes}
 use Rattle.eng_value.specs.Outs.{turned}
 use Rattle.eng_value.specs.declared.affinity.Affinity.{Affinity}
 use Rattle.eng_value.specs.declared.out.Out.{Out}
 use Rattle.gen_write.specs.Stretches.{Stores, stored_literals}
 use Rattle.sql_meaning.specs.Expression.{literal_out}
-use Rattle.sql_meaning.specs.Statement.{with_causes}
 use Rattle.sql_meaning.specs.declared.bound.Literal.{Literal}
 use Rattle.vm_code.specs.declared.op.Op.TheVariants as op
 use Rattle.vm_code.specs.Draft.{Draft, with_op, taken}
-use Rattle.vm_code.specs.Machine.{State, outs_from, read, Reaches}
+use Rattle.vm_code.specs.Machine.{Setting, State, outs_from, read, Reaches}
 use Rattle.vm_code.specs.Frames.{Here, here, with_regs, Leaves}
 use Rattle.vm_code.specs.Claims.{Claim, Labels, Last, on, Triple}
 use Rattle.vm_code.proofs.Runs.{reaches_none, reaches_op, reaches_then, reaches_more}
@@ -74,11 +74,11 @@ stores_then {a} {b} {c} causes xs ys below x y = record {
 }
 
 -- one column
-pub stores_column : (a z : Draft) (affinity : Affinity) (l : Literal) (to causes : ℕ) → to ≡ a.next → causes < a.next → a.next ≤ a.most → Leaves (taken a) z to (λ w env. literal_out l) (λ w. 1) → Stores a (with_op (with_op z (op.Affinity to affinity)) (op.Merge to causes)) causes (turned (store_as affinity) (literal_out l) ∷ [])
+pub stores_column : (a z : Draft) (affinity : Affinity) (l : Literal) (to causes : ℕ) → to ≡ a.next → causes < a.next → a.next ≤ a.most → Leaves (taken a) z to (λ env. literal_out l) (λ w. 1) → Stores a (with_op (with_op z (op.Affinity to affinity)) (op.Merge to causes)) causes (turned (store_as affinity) (literal_out l) ∷ [])
 stores_column a z affinity l to causes to_is below counted x =
     let out = turned (store_as affinity) (literal_out l) in
     let b = with_op z (op.Affinity to affinity) in
-    let y : Leaves (taken a) b to (λ w env. out) (λ w. 1 + 1) = leaves_one (taken a) z (op.Affinity to affinity) to (λ w env. literal_out l) (turned (store_as affinity)) (λ w. 1) x (omega (arith, to_is)) (omega arith) (λ m at s. refl) in
+    let y : Leaves (taken a) b to (λ env. out) (λ w. 1 + 1) = leaves_one (taken a) z (op.Affinity to affinity) to (λ env. literal_out l) (turned (store_as affinity)) (λ w. 1) x (omega (arith, to_is)) (omega arith) (λ m at s. refl) in
     record {
       grows = grows_then (g_taken a) (grows_then y.grows (g_op b (op.Merge to causes)));
       next = omega (arith, y.next);
@@ -103,10 +103,10 @@ stores_column a z affinity l to causes to_is below counted x =
     }
 
 -- code that stores columns, inside another stretch
-pub t_stores : {a b : Draft} {causes : ℕ} {outs : List Out} (g : Labels) (e : Last) (p q : Claim) → Stores a b causes outs → ((h0 h : Here) (regs : List Out) → p h0 h → length regs ≡ length h.regs → outs_from regs a.next (length outs) ≡ outs → read regs causes ≡ fold with_causes (read h.regs causes) outs → ((k : ℕ) → k < a.next → k ≢ causes → read regs k ≡ read h.regs k) → q h0 (with_regs h regs)) → Triple a b (λ w. 3 * length outs) g e p q
-t_stores g e p q x goes = record {
+pub t_stores : (m : Setting) {a b : Draft} {causes : ℕ} {outs : List Out} (g : Labels) (e : Last) (p q : Claim) → Stores a b causes outs → ((h0 h : Here) (regs : List Out) → p h0 h → length regs ≡ length h.regs → outs_from regs a.next (length outs) ≡ outs → read regs causes ≡ fold with_causes (read h.regs causes) outs → ((k : ℕ) → k < a.next → k ≢ causes → read regs k ≡ read h.regs k) → q h0 (with_regs h regs)) → Triple m a b (λ w. 3 * length outs) g e p q
+t_stores m g e p q x goes = record {
   extends = extends x.grows;
-  runs = λ m u at h h0 s room start pre.
+  runs = λ u at h h0 s room start pre.
       let l = x.stores m u at h s room start in
       on (record {
         regs = l.regs;

@@ -5,6 +5,7 @@ use Rattle.std.specs.declared.option.Option.{Option}
 use Rattle.std.proofs.Math.ListN.{length-set}
 use Rattle.std.proofs.lemmas.List.{get_or-set_same, get_or-set_other}
 use Rattle.eng_value.specs.Causes.{CauseSet, only}
+use Rattle.eng_value.specs.Environments.{no_causes, with_causes}
 use Rattle.eng_value.specs.StoredRows.{next_rowid}
 use Rattle.eng_value.specs.declared.cause.Cause.TheVariants.{Full}
 use Rattle.eng_value.specs.declared.out.Out.{Out}
@@ -16,7 +17,7 @@ use Rattle.gen_write.specs.Writes.{failed, finished, row_put, row_under}
 use Rattle.gen_write.proofs.Columns.{t_stores}
 use Rattle.gen_write.proofs.RowRuns.{HasFailed, HasRun, puts_of}
 use Rattle.sql_meaning.specs.Statement as meaning
-use Rattle.sql_meaning.specs.Statement.{item_by, item_of, no_causes, with_causes}
+use Rattle.sql_meaning.specs.Statement.{item_by, item_of}
 use Rattle.vm_code.specs.declared.op.Op.TheVariants as op
 use Rattle.vm_code.specs.Draft.{Draft, with_op, with_label, bound, taken, released}
 use Rattle.vm_code.specs.Machine as machine
@@ -167,105 +168,110 @@ module _ (a y : Draft) (cursor table : ℕ) (name : List ℕ) (outs : List Out) 
   same_start : (h0 h : Here) (regs : List Out) → ((k : ℕ) → k < causes → k ≢ causes → read regs k ≡ read h.regs k) → started h0 h → started h0 (with_regs h regs)
   same_start h0 h regs same pre = (but_regs regs same pre.0, pre.1)
 
-  begins : Triple a nulling (λ w. 1) innermost last started nulled
-  begins =
-      let take = t_draft innermost last started (g_taken a) refl in
-      let clear = t_put (taken a) (op.Null causes) causes (λ h. no_causes) innermost last started nulled (omega arith) (λ m at s. refl) (λ h0 h regs pre long is same.
-      (same_start h0 h regs (λ k lt ne. same k ne) pre, is)) in
-      t_more (λ w. 1) (λ w. omega arith) (t_seq take clear)
+  module _ (m : Setting) where
+    begins : Triple m a nulling (λ w. 1) innermost last started nulled
+    begins =
+        let take = t_draft m innermost last started (g_taken a) refl in
+        let clear = t_put m (taken a) (op.Null causes) causes (λ h. no_causes) innermost last started nulled (omega arith) (λ at s. refl) (λ h0 h regs pre long is same.
+        (same_start h0 h regs (λ k lt ne. same k ne) pre, is)) in
+        t_more (λ w. 1) (λ w. omega arith) (t_seq take clear)
 
-  stores : Triple nulling y (λ w. 3 * length outs) innermost last nulled stored
-  stores = t_stores innermost last nulled stored sy (λ h0 h regs pre long is gathers same.
-      (same_start h0 h regs (λ k lt ne. same k (omega arith) ne) pre.0, ap (outs_from regs first) count_is ∙ is, gathers ∙ ap (λ o. fold with_causes o outs) pre.1))
+    stores : Triple m nulling y (λ w. 3 * length outs) innermost last nulled stored
+    stores = t_stores m innermost last nulled stored sy (λ h0 h regs pre long is gathers same.
+        (same_start h0 h regs (λ k lt ne. same k (omega arith) ne) pre.0, ap (outs_from regs first) count_is ∙ is, gathers ∙ ap (λ o. fold with_causes o outs) pre.1))
 
-  tests : Triple y testing (λ w. 1) innermost last stored good
-  tests =
-      let label = t_draft innermost last stored grows_labelled refl in
-      let jump = t_test labelled (op.IsBad causes fail) fail (λ h. is_bad (read h.regs causes)) innermost last stored good (λ m at s. refl) (λ h0 h pre b. inl (refl, (pre, b))) (λ h0 h pre b. (pre, b)) in
-      t_more (λ w. 1) (λ w. omega arith) (t_seq label jump)
+    tests : Triple m y testing (λ w. 1) innermost last stored good
+    tests =
+        let label = t_draft m innermost last stored grows_labelled refl in
+        let jump = t_test m labelled (op.IsBad causes fail) fail (λ h. is_bad (read h.regs causes)) innermost last stored good (λ at s. refl) (λ h0 h pre b. inl (refl, (pre, b))) (λ h0 h pre b. (pre, b)) in
+        t_more (λ w. 1) (λ w. omega arith) (t_seq label jump)
 
-  -- the run of a good row
-  run_good : (h0 h : Here) → good h0 h → run h0.shared ≡ row_under table name h0.shared values (drawn_now h0) finished
-  run_good h0 h pre =
-      put-good table name h0.shared outs (fold with_causes no_causes outs) (ap is_bad (sym pre.0.2) ∙ pre.1)
+    -- the run of a good row
+    run_good : (h0 h : Here) → good h0 h → run h0.shared ≡ row_under table name h0.shared values (drawn_now h0) finished
+    run_good h0 h pre =
+        put-good table name h0.shared outs (fold with_causes no_causes outs) (ap is_bad (sym pre.0.2) ∙ pre.1)
 
-  -- what is drawn
-  draws_from : (h0 h : Here) → good h0 h → next_rowid (cursor_rows h.shared.world (cursor_at h.cursors cursor)) ≡ drawn_now h0
-  draws_from h0 h pre =
-      ap (λ c. next_rowid (cursor_rows h.shared.world c)) pre.0.0.1 ∙ ap (λ (x : Shared). next_rowid (rows_of x.world table)) pre.0.0.0.shared
+    -- what is drawn
+    draws_from : (h0 h : Here) → good h0 h → next_rowid (cursor_rows h.shared.world (cursor_at h.cursors cursor)) ≡ drawn_now h0
+    draws_from h0 h pre =
+        ap (λ c. next_rowid (cursor_rows h.shared.world c)) pre.0.0.1 ∙ ap (λ (x : Shared). next_rowid (rows_of x.world table)) pre.0.0.0.shared
 
-  abbrev rowid_out : Here → Out
-  rowid_out h =
-      Good (Integer (unwrap_or (next_rowid (cursor_rows h.shared.world (cursor_at h.cursors cursor))) (pos 0)))
+    abbrev rowid_out : Here → Out
+    rowid_out h =
+        Good (Integer (unwrap_or (next_rowid (cursor_rows h.shared.world (cursor_at h.cursors cursor))) (pos 0)))
 
-  abbrev with_rowid : Here → Here
-  with_rowid h = with_regs h (slice_set h.regs rowid (rowid_out h))
+    abbrev with_rowid : Here → Here
+    with_rowid h = with_regs h (slice_set h.regs rowid (rowid_out h))
 
-  draws_free : Triple testing drawing (λ w. 1) innermost last is_free has_rowid
-  draws_free = t_op_if testing (op.NewRowid cursor rowid name) with_rowid innermost last is_free has_rowid law (λ h. (length-set h.regs rowid _, refl)) goes
-    where
-      law : (m : Setting) (at : ℕ → ℕ) (h0 : Here) (s : State) → is_free h0 (here s) → act m (Some (placed at (op.NewRowid cursor rowid name))) s ≡ On (there s (s.pc + 1) (with_rowid (here s)).regs (with_rowid (here s)).cursors (with_rowid (here s)).shared)
-      law m at h0 s pre =
-          let is = draws_from h0 (here s) pre.0 ∙ pre.1.1 in
-          ap (drawn s rowid name) is ∙ ap (λ o. put s rowid (Good (Integer (unwrap_or o (pos 0))))) (sym is)
+    draws_free : Triple m testing drawing (λ w. 1) innermost last is_free has_rowid
+    draws_free = t_op_if m testing (op.NewRowid cursor rowid name) with_rowid innermost last is_free has_rowid law (λ h. (length-set h.regs rowid _, refl)) goes
+      where
+        law : (at : ℕ → ℕ) (h0 : Here) (s : State) → is_free h0 (here s) → act m (Some (placed at (op.NewRowid cursor rowid name))) s ≡ On (there s (s.pc + 1) (with_rowid (here s)).regs (with_rowid (here s)).cursors (with_rowid (here s)).shared)
+        law at h0 s pre =
+            let is = draws_from h0 (here s) pre.0 ∙ pre.1.1 in
+            ap (drawn s rowid name) is ∙ ap (λ o. put s rowid (Good (Integer (unwrap_or o (pos 0))))) (sym is)
 
-      goes : (h0 h : Here) → testing.most ≤ length h.regs → testing.cursors ≤ length h.cursors → is_free h0 h → has_rowid h0 (record (with_rowid h) { args = h.args })
-      goes h0 h most wide pre =
-          let is = draws_from h0 h pre.0 ∙ pre.1.1 in
-          let regs = slice_set h.regs rowid (rowid_out h) in
-          let other : (k : ℕ) → k ≢ rowid → read regs k ≡ read h.regs k = λ k ne. get_or-set_other h.regs rowid k (rowid_out h) _ ne in
-          let apart : causes ≢ rowid = omega (arith, sy.next) in (
-            (
+        goes : (h0 h : Here) → testing.most ≤ length h.regs → testing.cursors ≤ length h.cursors → is_free h0 h → has_rowid h0 (record (with_rowid h) { args = h.args })
+        goes h0 h most wide pre =
+            let is = draws_from h0 h pre.0 ∙ pre.1.1 in
+            let regs = slice_set h.regs rowid (rowid_out h) in
+            let other : (k : ℕ) → k ≢ rowid → read regs k ≡ read h.regs k = λ k ne. get_or-set_other h.regs rowid k (rowid_out h) _ ne in
+            let apart : causes ≢ rowid = omega (arith, sy.next) in (
               (
-                same_start h0 h regs (λ k lt ne. other k (omega (arith, lt, sy.next))) pre.0.0.0,
-                outs_same regs h.regs count first (λ k le lt. other k (omega (arith, lt, count_is, sy.next))) ∙ pre.0.0.1,
-                other causes apart ∙ pre.0.0.2,
+                (
+                  same_start h0 h regs (λ k lt ne. other k (omega (arith, lt, sy.next))) pre.0.0.0,
+                  outs_same regs h.regs count first (λ k le lt. other k (omega (arith, lt, count_is, sy.next))) ∙ pre.0.0.1,
+                  other causes apart ∙ pre.0.0.2,
+                ),
+                ap is_bad (other causes apart) ∙ pre.0.1,
               ),
-              ap is_bad (other causes apart) ∙ pre.0.1,
-            ),
-            (pre.1.0, pre.1.1, get_or-set_same h.regs rowid (rowid_out h) _ (omega (arith, most)) ∙ ap (λ o. Good (Integer (unwrap_or o (pos 0)))) is),
-          )
+              (pre.1.0, pre.1.1, get_or-set_same h.regs rowid (rowid_out h) _ (omega (arith, most)) ∙ ap (λ o. Good (Integer (unwrap_or o (pos 0)))) is),
+            )
 
-  draws_none : Triple testing drawing (λ w. 1) innermost last is_full (λ h0 h. ⊥)
-  draws_none = t_end testing (op.NewRowid cursor rowid name) innermost last is_full (λ h. Failed (only (Full name))) (λ m at h0 s pre. ap (drawn s rowid name) (draws_from h0 (here s) pre.0 ∙ pre.1)) (λ h0 h pre.
-      (only (Full name), refl, run_good h0 h pre.0 ∙ ap (λ o. row_under table name h0.shared values o finished) pre.1 ∙ ap (failed (only (Full name))) (sym pre.0.0.0.0.shared)))
+    draws_none : Triple m testing drawing (λ w. 1) innermost last is_full (λ h0 h. ⊥)
+    draws_none = t_end m testing (op.NewRowid cursor rowid name) innermost last is_full (λ h. Failed (only (Full name))) (λ at h0 s pre. ap (drawn s rowid name) (draws_from h0 (here s) pre.0 ∙ pre.1)) (λ h0 h pre.
+        (only (Full name), refl, run_good h0 h pre.0 ∙ ap (λ o. row_under table name h0.shared values o finished) pre.1 ∙ ap (failed (only (Full name))) (sym pre.0.0.0.0.shared)))
 
-  full_or_free : (h0 h : Here) → good h0 h → is_full h0 h ⊎ is_free h0 h
-  full_or_free h0 h pre = by (drawn_now h0) refl
-    where
-      by : (o : Option ℤ) → drawn_now h0 ≡ o → is_full h0 h ⊎ is_free h0 h
-      by None is = inl (pre, is)
-      by (Some n) is = inr (pre, (n, is))
+    full_or_free : (h0 h : Here) → good h0 h → is_full h0 h ⊎ is_free h0 h
+    full_or_free h0 h pre = by (drawn_now h0) refl
+      where
+        by : (o : Option ℤ) → drawn_now h0 ≡ o → is_full h0 h ⊎ is_free h0 h
+        by None is = inl (pre, is)
+        by (Some n) is = inr (pre, (n, is))
 
-  draws : Triple testing drawing (λ w. 1) innermost last good has_rowid
-  draws =
-      let either = t_either is_full is_free (t_use is_full has_rowid (λ h0 h pre. pre) (λ h0 h pre. absurd pre) draws_none) draws_free in
-      t_use good has_rowid full_or_free (λ h0 h pre. pre) either
+    draws : Triple m testing drawing (λ w. 1) innermost last good has_rowid
+    draws =
+        let either = t_either is_full is_free (t_use is_full has_rowid (λ h0 h pre. pre) (λ h0 h pre. absurd pre) draws_none) draws_free in
+        t_use good has_rowid full_or_free (λ h0 h pre. pre) either
 
-  puts : Triple drawing putting (λ w. 1) innermost last has_rowid done
-  puts = t_op drawing (op.Insert cursor rowid first count) (λ h. record h { shared = inserted (cursor_at h.cursors cursor) h.shared (record { rowid = integer_in h.regs rowid; values = values_from h.regs first count }) }) innermost last has_rowid done (λ m at s. refl) (λ h. (refl, refl)) (λ h0 h most wide pre.
-      let known = pre.0.0 in
-      let row : values_from h.regs first count ≡ values = values_outs h.regs count first ∙ good_or_null-same (outs_from h.regs first count) ∙ ap (map meaning.good_or_null) known.1 in
-      let number : integer_in h.regs rowid ≡ pre.1.0 = ap (λ v. integer_of (machine.good_or_null v)) pre.1.2 in
-      let now : inserted (cursor_at h.cursors cursor) h.shared (record { rowid = integer_in h.regs rowid; values = values_from h.regs first count }) ≡ with_row h0.shared table (record { rowid = pre.1.0; values = values }) = ap (λ c. inserted c h.shared (record { rowid = integer_in h.regs rowid; values = values_from h.regs first count })) known.0.1 ∙ ap (λ x. with_row x table (record { rowid = integer_in h.regs rowid; values = values_from h.regs first count })) known.0.0.shared ∙ ap (λ n. with_row h0.shared table (record { rowid = n; values = values_from h.regs first count })) number ∙ ap (λ vs. with_row h0.shared table (record { rowid = pre.1.0; values = vs })) row in (
-        (λ k lt. known.0.0.regs k lt (omega arith)),
-        known.0.0.cursors,
-        run_good h0 h pre.0 ∙ ap (λ o. row_under table name h0.shared values o finished) pre.1.1 ∙ ap finished (sym now),
-      ))
+    puts : Triple m drawing putting (λ w. 1) innermost last has_rowid done
+    puts = t_op m drawing (op.Insert cursor rowid first count) (λ h. record h { shared = inserted (cursor_at h.cursors cursor) h.shared (record { rowid = integer_in h.regs rowid; values = values_from h.regs first count }) }) innermost last has_rowid done (λ at s. refl) (λ h. (refl, refl)) (λ h0 h most wide pre.
+        let known = pre.0.0 in
+        let row : values_from h.regs first count ≡ values = values_outs h.regs count first ∙ good_or_null-same (outs_from h.regs first count) ∙ ap (map meaning.good_or_null) known.1 in
+        let number : integer_in h.regs rowid ≡ pre.1.0 = ap (λ v. integer_of (machine.good_or_null v)) pre.1.2 in
+        let now : inserted (cursor_at h.cursors cursor) h.shared (record { rowid = integer_in h.regs rowid; values = values_from h.regs first count }) ≡ with_row h0.shared table (record { rowid = pre.1.0; values = values }) = ap (λ c. inserted c h.shared (record { rowid = integer_in h.regs rowid; values = values_from h.regs first count })) known.0.1 ∙ ap (λ x. with_row x table (record { rowid = integer_in h.regs rowid; values = values_from h.regs first count })) known.0.0.shared ∙ ap (λ n. with_row h0.shared table (record { rowid = n; values = values_from h.regs first count })) number ∙ ap (λ vs. with_row h0.shared table (record { rowid = pre.1.0; values = vs })) row in (
+          (λ k lt. known.0.0.regs k lt (omega arith)),
+          known.0.0.cursors,
+          run_good h0 h pre.0 ∙ ap (λ o. row_under table name h0.shared values o finished) pre.1.1 ∙ ap finished (sym now),
+        ))
 
-  leaves : Triple putting leaving (λ w. 1) innermost last done (λ h0 h. ⊥)
-  leaves = t_goto putting next innermost last done (λ h0 h pre. inr (inl (refl, pre)))
+    leaves : Triple m putting leaving (λ w. 1) innermost last done (λ h0 h. ⊥)
+    leaves = t_goto m putting next innermost last done (λ h0 h pre. inr (inl (refl, pre)))
 
-  fails : Triple (bound leaving fail) halting (λ w. 1) inner last bad_row (λ h0 h. ⊥)
-  fails = t_halt_bad (bound leaving fail) causes inner last bad_row (λ h0 h pre.
-      let all = fold with_causes no_causes outs in
-      let ends = put-bad table name h0.shared outs all (ap is_bad (sym pre.0.2) ∙ pre.1) in
-      (ends.0, ap ending_of (pre.0.2 ∙ ends.1), ends.2 ∙ ap (failed ends.0) (sym pre.0.0.0.shared)))
+    fails : Triple m (bound leaving fail) halting (λ w. 1) inner last bad_row (λ h0 h. ⊥)
+    fails = t_halt_bad m (bound leaving fail) causes inner last bad_row (λ h0 h pre.
+        let all = fold with_causes no_causes outs in
+        let ends = put-bad table name h0.shared outs all (ap is_bad (sym pre.0.2) ∙ pre.1) in
+        (ends.0, ap ending_of (pre.0.2 ∙ ends.1), ends.2 ∙ ap (failed ends.0) (sym pre.0.0.0.shared)))
+
+    whole : Triple m a row_code (λ w. 3 * length outs + 6) no_labels last started done
+    whole =
+        let good_way = t_seq (t_seq (t_seq (t_seq (t_seq begins stores) tests) draws) puts) leaves in
+        let at_fail = t_bind fail bad_row fail_open (λ h0 h no. absurd no) good_way in
+        let all = t_bind next done next_open (λ h0 h no. absurd no) (t_seq at_fail fails) in
+        let back = t_draft m no_labels last done (g_released (bound halting next) causes) refl in
+        t_more (λ w. 3 * length outs + 6) (λ w. omega arith) (t_seq all back)
 
   pub row-puts : (steps : ℕ) → 3 * length outs + 6 ≤ steps → Puts a row_code cursor table (λ x. row_put table name x (item_of no_causes outs) finished) steps
   row-puts steps le =
-      let good_way = t_seq (t_seq (t_seq (t_seq (t_seq begins stores) tests) draws) puts) leaves in
-      let at_fail = t_bind fail bad_row fail_open (λ h0 h no. absurd no) good_way in
-      let all = t_bind next done next_open (λ h0 h no. absurd no) (t_seq at_fail fails) in
-      let back = t_draft no_labels last done (g_released (bound halting next) causes) refl in
-      puts_of cursor table run started grows_row refl (λ h opened. (but_none causes causes h, opened)) (t_more (λ w. steps) (λ w. omega (arith, le)) (t_seq all back))
+      puts_of cursor table run started grows_row refl (λ h opened. (but_none causes causes h, opened)) (λ m. t_more (λ w. steps) (λ w. le) (whole m))

@@ -109,11 +109,11 @@ abbrev pub HasFailed : (Shared → Run) → Last
 HasFailed run h0 o x = (causes : CauseSet) × (o ≡ Failed causes) × (run h0.shared ≡ failed causes x)
 
 -- a stretch that runs so
-pub puts_of : {a b : Draft} {most : ℕ} (cursor table : ℕ) (run : Shared → Run) (p : Claim) → Grows a b → b.next ≡ a.next → ((h : Here) → cursor_at h.cursors cursor ≡ Open table None → p h h) → Triple a b (λ w. most) no_labels (HasFailed run) p (HasRun run a.next) → Puts a b cursor table run most
+pub puts_of : {a b : Draft} {most : ℕ} (cursor table : ℕ) (run : Shared → Run) (p : Claim) → Grows a b → b.next ≡ a.next → ((h : Here) → cursor_at h.cursors cursor ≡ Open table None → p h h) → ((m : Setting) → Triple m a b (λ w. most) no_labels (HasFailed run) p (HasRun run a.next)) → Puts a b cursor table run most
 puts_of {a} {b} {most} cursor table run p grows next begins x = record {
   grows = grows;
   next = next;
-  puts = λ m u at h s room start opened. by m at s (x.runs m u at h (here s) s room start (begins (here s) opened));
+  puts = λ m u at h s room start opened. by m at s ((x m).runs u at h (here s) s room start (begins (here s) opened));
 }
   where
     by : (m : Setting) (at : ℕ → ℕ) (s : State) → Exits m at most (λ l h. ⊥) (HasFailed run (here s)) s (length b.code) (HasRun run a.next (here s)) → Ran m most s (length b.code) a.next (run s.shared).ending (run s.shared).shared
@@ -128,18 +128,18 @@ puts_of {a} {b} {most} cursor table run p grows next begins x = record {
     })
 
 -- code that runs so, inside another stretch
-pub t_puts : {a b : Draft} {cursor table most : ℕ} {run : Shared → Run} (g : Labels) (e : Last) (p q : Claim) → Puts a b cursor table run most → ((h0 h : Here) → p h0 h → cursor_at h.cursors cursor ≡ Open table None) → ((h0 h : Here) (regs : List Out) (x : Shared) → p h0 h → run h.shared ≡ finished x → q h0 (record h { regs = regs; shared = x })) → ((h0 h : Here) (causes : CauseSet) (x : Shared) → p h0 h → run h.shared ≡ failed causes x → e h0 (Failed causes) x) → Triple a b (λ w. most) g e p q
-t_puts {a} {b} {cursor} {table} {most} {run} g e p q x opened goes fails = record {
+pub t_puts : (m : Setting) {a b : Draft} {cursor table most : ℕ} {run : Shared → Run} (g : Labels) (e : Last) (p q : Claim) → Puts a b cursor table run most → ((h0 h : Here) → p h0 h → cursor_at h.cursors cursor ≡ Open table None) → ((h0 h : Here) (regs : List Out) (x : Shared) → p h0 h → run h.shared ≡ finished x → q h0 (record h { regs = regs; shared = x })) → ((h0 h : Here) (causes : CauseSet) (x : Shared) → p h0 h → run h.shared ≡ failed causes x → e h0 (Failed causes) x) → Triple m a b (λ w. most) g e p q
+t_puts m {a} {b} {cursor} {table} {most} {run} g e p q x opened goes fails = record {
   extends = extends x.grows;
-  runs = λ m u at h h0 s room start pre.
-      by m at h0 s pre (run s.shared) refl (x.puts m u at h s room start (opened h0 (here s) pre));
+  runs = λ u at h h0 s room start pre.
+      by at h0 s pre (run s.shared) refl (x.puts m u at h s room start (opened h0 (here s) pre));
 }
   where
-    ran : (m : Setting) (at : ℕ → ℕ) (h0 : Here) (s : State) → p h0 (here s) → (o : Ending) (y : Shared) → run s.shared ≡ record { ending = o; shared = y } → Ran m most s (length b.code) a.next o y → Exits m at most (λ l. g l h0) (e h0) s (length b.code) (q h0)
-    ran m at h0 s pre Finished y is l =
+    ran : (at : ℕ → ℕ) (h0 : Here) (s : State) → p h0 (here s) → (o : Ending) (y : Shared) → run s.shared ≡ record { ending = o; shared = y } → Ran m most s (length b.code) a.next o y → Exits m at most (λ l. g l h0) (e h0) s (length b.code) (q h0)
+    ran at h0 s pre Finished y is l =
         on (record { regs = l.regs; cursors = s.cursors; shared = y; way = l.way; long = l.long; wide = refl; holds = goes h0 (here s) l.regs y pre is })
-    ran m at h0 s pre (Failed causes) y is z = ends (Failed causes) y z (fails h0 (here s) causes y pre is)
+    ran at h0 s pre (Failed causes) y is z = ends (Failed causes) y z (fails h0 (here s) causes y pre is)
 
-    by : (m : Setting) (at : ℕ → ℕ) (h0 : Here) (s : State) → p h0 (here s) → (r : Run) → run s.shared ≡ r → Ran m most s (length b.code) a.next (run s.shared).ending (run s.shared).shared → Exits m at most (λ l. g l h0) (e h0) s (length b.code) (q h0)
-    by m at h0 s pre r is l =
-        ran m at h0 s pre (run s.shared).ending (run s.shared).shared refl l
+    by : (at : ℕ → ℕ) (h0 : Here) (s : State) → p h0 (here s) → (r : Run) → run s.shared ≡ r → Ran m most s (length b.code) a.next (run s.shared).ending (run s.shared).shared → Exits m at most (λ l. g l h0) (e h0) s (length b.code) (q h0)
+    by at h0 s pre r is l =
+        ran at h0 s pre (run s.shared).ending (run s.shared).shared refl l

@@ -4,6 +4,7 @@ use Rattle.std.specs.declared.option.Option.{Option}
 use Rattle.std.proofs.lemmas.List.Sums.{sum_by-cons}
 use Rattle.eng_value.specs.Casts.{store_as}
 use Rattle.eng_value.specs.Causes.{CauseSet}
+use Rattle.eng_value.specs.Environments.{no_causes, with_causes}
 use Rattle.eng_value.specs.StoredRows.{next_rowid}
 use Rattle.eng_value.specs.declared.affinity.Affinity.{Affinity}
 use Rattle.eng_value.specs.declared.out.Out.{Out}
@@ -12,7 +13,7 @@ use Rattle.eng_value.specs.declared.value.Value.{Value}
 use Rattle.gen_write.specs.Stretches.{and_on, causes_in, ended_by, holds_bad, literals_put, literals_run, stored_literals}
 use Rattle.gen_write.specs.Writes.{finished, row_put, row_steps, row_under, rows_run, stored_as}
 use Rattle.sql_meaning.specs.Expression.{literal_out}
-use Rattle.sql_meaning.specs.Statement.{Item, Row, Failed as BadItem, given_of, good_or_null, item_by, item_of, no_causes, refusal_of, with_causes}
+use Rattle.sql_meaning.specs.Statement.{Item, Row, Failed as BadItem, given_of, good_or_null, item_by, item_of, refusal_of}
 use Rattle.sql_meaning.specs.declared.bound.BoundInsert.{BoundInsert}
 use Rattle.sql_meaning.specs.declared.bound.Literal.{Literal}
 use Rattle.sql_meaning.specs.declared.bound.Literal.TheVariants as literal

@@ -2,13 +2,14 @@
 use Rattle.std.specs.Prelude.{◌≡◌, ◌≢◌, ℕ, ◌+◌, ◌*◌, ◌≤◌, ◌<◌, List, [], ◌∷◌, length, map, fold, None, Bool, true, false}
 use Rattle.std.specs.List.{list_any}
 use Rattle.eng_value.specs.Casts.{store_as}
+use Rattle.eng_value.specs.Environments.{no_causes, with_causes}
 use Rattle.eng_value.specs.Outs.{turned}
 use Rattle.eng_value.specs.declared.affinity.Affinity.{Affinity}
 use Rattle.eng_value.specs.declared.out.Out.{Out}
 use Rattle.eng_value.specs.declared.value.Value.{Value}
 use Rattle.gen_write.specs.Writes.{failed, finished, row_put, untouched}
 use Rattle.sql_meaning.specs.Expression.{literal_out}
-use Rattle.sql_meaning.specs.Statement.{item_of, no_causes, with_causes}
+use Rattle.sql_meaning.specs.Statement.{item_of}
 use Rattle.sql_meaning.specs.declared.bound.BoundInsert.{BoundInsert}
 use Rattle.sql_meaning.specs.declared.bound.Literal.{Literal}
 use Rattle.sql_meaning.specs.declared.bound.Literal.TheVariants as literal

@@ -2,13 +2,14 @@
 use Rattle.std.specs.Prelude.{ℕ, ◌+◌, ◌*◌, List, [], ◌∷◌, length, map, sum_by, ℤ, Option, Some, None}
 use Rattle.eng_value.specs.Casts.{store_as}
 use Rattle.eng_value.specs.Causes.{CauseSet, only}
+use Rattle.eng_value.specs.Environments.{no_causes}
 use Rattle.eng_value.specs.StoredRows.{next_rowid}
 use Rattle.eng_value.specs.declared.affinity.Affinity.{Affinity}
 use Rattle.eng_value.specs.declared.cause.Cause.TheVariants.{Full}
 use Rattle.eng_value.specs.declared.out.Out.{Out}
 use Rattle.eng_value.specs.declared.value.Value.{Value}
 use Rattle.sql_meaning.specs.Expression.{literal_out}
-use Rattle.sql_meaning.specs.Statement.{Item, Row, Failed as Bad, given_of, item_of, no_causes, refusal_of}
+use Rattle.sql_meaning.specs.Statement.{Item, Row, Failed as Bad, given_of, item_of, refusal_of}
 use Rattle.sql_meaning.specs.declared.bound.BoundInsert.{BoundInsert}
 use Rattle.sql_meaning.specs.declared.bound.Literal.{Literal}
 use Rattle.vm_code.specs.Machine.{World, Run, Shared, Finished, Failed, rows_of, with_row, with_table}

@@ -10,7 +10,7 @@ use vm_code::{Builder, Op, Program};
 /// The program of a CREATE TABLE (SQL As Understood By SQLite, "CREATE TABLE"), which adds the table's list of rows behind the
 /// others. What the catalog keeps of the table is not its work. Only memory can fail.
 pub fn compile_create(alloc: Global) -> Result<Program, AllocError>
-    ensures { IfOk result (λ p. Performs p create_run create_steps) }
+    ensures { IfOk result (λ p. Performs p (λ x. create_run x.params x.world) create_steps) }
 {
     let mut b = Builder::new(alloc, Items::new(alloc));
     b.op(Op::Schema)?;

@@ -16,7 +16,7 @@ use vm_code::{Builder, Op, Program};
 /// affinities of the columns and put under the rowid behind the others; the run ends with the causes of the first that cannot
 /// be stored, and with `Full`, which names the table, where no rowid is left. Only memory can fail here.
 pub fn compile_insert(alloc: Global, insert: &BoundInsert) -> Result<Program, AllocError>
-    ensures { IfOk result (λ p. Performs p (put_run insert.now) (put_steps insert.now)) }
+    ensures { IfOk result (λ p. Performs p (λ x. put_run insert.now x.params x.world) (put_steps insert.now)) }
 {
     match first_bad(insert.rows.as_slice()) {
         Some(row) => compile_refusal(alloc, row.as_slice()),
@@ -26,7 +26,7 @@ pub fn compile_insert(alloc: Global, insert: &BoundInsert) -> Result<Program, Al
 
 /// The program that puts each row.
 fn compile_rows(alloc: Global, insert: &BoundInsert) -> Result<Program, AllocError>
-    ensures { IfOk result (λ p. Performs p (λ params w. literals_run insert.now insert.now.rows (untouched params w)) (λ _. sum_by row_steps insert.now.rows + 3)) }
+    ensures { IfOk result (λ p. Performs p (λ x. literals_run insert.now insert.now.rows (untouched x.params x.world)) (λ _. sum_by row_steps insert.now.rows + 3)) }
 {
     let mut b = Builder::new(alloc, Items::new(alloc));
     let cursor = b.cursor()?;

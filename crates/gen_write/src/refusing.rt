@@ -35,7 +35,7 @@ fn is_bad(literal: &Literal) -> bool
 
 /// The program that ends with the causes of a row's literals and changes nothing.
 pub(crate) fn compile_refusal(alloc: Global, row: &[Literal]) -> Result<Program, AllocError>
-    ensures { IfOk result (λ p. Performs p (refused_run row.now) (λ _. 2 * length row.now + 2)) }
+    ensures { IfOk result (λ p. Performs p (λ x. refused_run row.now x.params x.world) (λ _. 2 * length row.now + 2)) }
 {
     let mut b = Builder::new(alloc, Items::new(alloc));
     let causes = b.take()?;
@@ -48,7 +48,7 @@ pub(crate) fn compile_refusal(alloc: Global, row: &[Literal]) -> Result<Program,
 fn emit_causes(b: &mut Builder, row: &[Literal], causes: u32) -> Result<(), AllocError>
     requires taken { causes < b.old.next }
     requires counted { b.old.next ≤ b.old.most }
-    ensures leaves { OnOk result (Leaves b.old b.new causes (λ _ _. causes_in row.now) (λ _. 2 * length row.now + 1)) }
+    ensures leaves { OnOk result (Leaves b.old b.new causes (λ _. causes_in row.now) (λ _. 2 * length row.now + 1)) }
 {
     b.op(Op::Null { to: causes })?;
     for literal in row {

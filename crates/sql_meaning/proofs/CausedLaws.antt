@@ -1,13 +1,13 @@
 -- Whatever is bad in a statement has a cause, so that each refusal can be told.
 use Rattle.std.proofs.Common.{ℕ, length, List, [], ◌∷◌, ◌++◌, Some, None, Ok, Err, Result, map, fold, flat_map, sym, subst, zero, suc}
 use Rattle.std.specs.Bool.{⊤}
-use Rattle.std.specs.Prelude.{slice_index_or}
+use Rattle.std.specs.Prelude.{slice_index_or, slice_set}
 use Rattle.std.specs.Option.{option_map, option_to_list}
 use Rattle.std.specs.declared.option.Option.{Option}
 use Rattle.eng_value.specs.Causes.{CauseSet}
 use Rattle.eng_value.specs.Comparisons.{comparison_of}
-use Rattle.eng_value.specs.Environments.{Environment}
-use Rattle.eng_value.specs.HostMeanings.{HostMeanings}
+use Rattle.eng_value.specs.Collations.{keys_of}
+use Rattle.eng_value.specs.Environments.{Environment, ItemRow, carried, column_of, ignoring, no_causes, null_row, table_row, with_causes, without_column}
 use Rattle.eng_value.specs.StoredRows.{StoredRow, next_rowid}
 use Rattle.eng_value.specs.Truths.{truth_in, truth_of}
 use Rattle.eng_value.specs.declared.cause.Cause.{Cause}
@@ -19,12 +19,9 @@ use Rattle.eng_value.specs.declared.truth.Truth.{Truth}
 use Rattle.eng_value.specs.declared.truth.Truth.TheVariants as truth
 use Rattle.eng_value.specs.declared.value.Value.{Value}
 use Rattle.eng_value.specs.declared.value.Value.TheVariants as value
-use Rattle.eng_key.specs.Values.{value_key}
+use Rattle.eng_key.specs.Values.{value_keys}
 use Rattle.std.proofs.Common.{ℤ}
-use Rattle.sql_tree.specs.declared.statement.Statement.{Statement}
-use Rattle.sql_grammar.specs.Answers.{Answer, Tree, Syntax, TooMuch, place}
-use Rattle.sql_meaning.specs.Built.{built_of}
-use Rattle.sql_meaning.specs.Shapes.{Built, Creates, Inserts, Selects}
+use Rattle.sql_meaning.specs.BoundStatements.{BoundStatement, Creates, FromItem, Put, Puts, Queries}
 use Rattle.sql_meaning.specs.declared.bound.BoundArm.{BoundArm}
 use Rattle.sql_meaning.specs.declared.bound.BoundExpr.{BoundExpr}
 use Rattle.sql_meaning.specs.declared.bound.BoundMatch.{BoundMatch}
@@ -36,24 +33,59 @@ use Rattle.sql_meaning.specs.declared.column.Column.{Column}
 use Rattle.sql_meaning.specs.declared.column.TableEntry.{TableEntry}
 use Rattle.sql_meaning.specs.Binding.{◌>>=◌}
 use Rattle.sql_meaning.specs.Expression.{Arm, MatchArm, Meaning, arm_of, arm_step, chosen_in, first_known, in_all, literal_out, match_of, match_step, matched_in, parameter_of, value_of, value_step}
-use Rattle.sql_meaning.specs.Statement as s
-use Rattle.sql_meaning.specs.Statement.{IsNamed, Item, Outcome, Put, Query, Row, Failed, after_conjunct, all_put, carried_out, causes_of, create_outcome, environments, given_of, if_some, item_by, item_of, item_put, items_at, items_of, no_causes, outcome_of, answer_of, answer_outcome, built_outcome, put_outcome, put_source, query_outcome, refusal_of, refused, row_put, row_under, rows_put, shown, sifted, source_of, stored, text_outcome, with_causes, with_others, written}
-use Rattle.sql_meaning.specs.World.{State, rows_of}
+use Rattle.sql_meaning.specs.Statement.{IsNamed, Item, Row, Failed, after_conjunct, all_put, bound_outcome, causes_of, given_of, if_some, item_by, item_of, item_put, item_rows, items_at, items_of, outcome_of, product, put_source, refusal_of, row_put, row_under, rows_put, shown, sifted, source_of, stored, text_bound, text_outcome, with_others}
+use Rattle.sql_meaning.specs.World.{Context, State, environment_at, rows_of}
 use Rattle.sql_meaning.proofs.CausedOperators.{AreCaused, IsCaused, IsCausedSet, IsCausedTruth, and_of-caused, bad-caused, binary_of-caused, choice_of-caused, comparison_of-caused, function_by-caused, good, like_escaped_of-caused, made-caused, member_of-caused, merged-caused, only-caused, or_else-caused, store_as-caused, truth_in-caused, truth_of-caused, unary_of-caused, union_left}
+
+-- ---- rows whose causes are causes
+
+abbrev pub RowCaused : ItemRow → Type 0
+RowCaused r = AreCaused r.columns × IsCaused r.causes
+
+abbrev pub RowsCaused : List ItemRow → Type 0
+RowsCaused [] = ⊤
+RowsCaused (r ∷ rows) = RowCaused r × RowsCaused rows
+
+place-caused : (outs : List Out) (place : ℕ) → AreCaused outs → IsCaused (slice_index_or outs place (Good value.Null))
+place-caused [] place c = good value.Null
+place-caused (a ∷ outs) zero c = c.0
+place-caused (a ∷ outs) (suc k) c = place-caused outs k c.1
+
+column-caused : (rows : List ItemRow) (item place : ℕ) → RowsCaused rows → IsCaused (column_of (slice_index_or rows item null_row) place)
+column-caused [] item place c = good value.Null
+column-caused (r ∷ rows) zero place c = place-caused r.columns place c.0.0
+column-caused (r ∷ rows) (suc k) place c = column-caused rows k place c.1
+
+all-good : (row : List Value) → AreCaused (map Good row)
+all-good [] = tt
+all-good (v ∷ row) = (good v, all-good row)
+
+set-caused : (outs : List Out) (place : ℕ) → AreCaused outs → AreCaused (slice_set outs place (Good value.Null))
+set-caused [] place c = tt
+set-caused (a ∷ outs) zero c = (good value.Null, c.1)
+set-caused (a ∷ outs) (suc k) c = (c.0, set-caused outs k c.1)
+
+without-caused : (r : ItemRow) (place : Option ℕ) → RowCaused r → RowCaused (without_column r place)
+without-caused r None c = c
+without-caused r (Some place) c = (set-caused r.columns place c.0, c.1)
+
+ignoring-caused : (places : List (Option ℕ)) (r : ItemRow) → RowCaused r → RowCaused (ignoring places r)
+ignoring-caused [] r c = c
+ignoring-caused (place ∷ places) r c = ignoring-caused places (without_column r place) (without-caused r place c)
 
 -- ---- expressions
 
 abbrev ExprCaused : BoundExpr → Type 0
-ExprCaused x = (env : Environment) → IsCaused (value_of x env)
+ExprCaused x = (env : Environment) → RowsCaused env.rows → IsCaused (value_of x env)
 
 abbrev Caused : Meaning → Meaning → Environment → Type 0
 Caused m n env = IsCaused (m env) × IsCaused (n env)
 
 abbrev ArmCaused : BoundArm → Type 0
-ArmCaused x = (env : Environment) → Caused (arm_of x).condition (arm_of x).value env
+ArmCaused x = (env : Environment) → RowsCaused env.rows → Caused (arm_of x).condition (arm_of x).value env
 
 abbrev MatchCaused : BoundMatch → Type 0
-MatchCaused x = (env : Environment) → Caused (match_of x).operand (match_of x).value env
+MatchCaused x = (env : Environment) → RowsCaused env.rows → Caused (match_of x).operand (match_of x).value env
 
 literal-caused : (l : Literal) → IsCaused (literal_out l)
 literal-caused (literal.Value v) = good v
@@ -77,20 +109,20 @@ Arm' = (x : BoundArm) × ArmCaused x
 abbrev Match' : Type 0
 Match' = (x : BoundMatch) × MatchCaused x
 
-all-caused : (xs : List Expr') (env : Environment) → AreCaused (in_all (map value_of (map (λ e. e.0) xs)) env)
-all-caused [] env = tt
-all-caused (x ∷ xs) env = (x.1 env, all-caused xs env)
+all-caused : (xs : List Expr') (env : Environment) → RowsCaused env.rows → AreCaused (in_all (map value_of (map (λ e. e.0) xs)) env)
+all-caused [] env r = tt
+all-caused (x ∷ xs) env r = (x.1 env r, all-caused xs env r)
 
-arms-caused : (arms : List Arm') (otherwise : Out) (env : Environment) → IsCaused otherwise → IsCaused (chosen_in env (map arm_of (map (λ e. e.0) arms)) otherwise)
-arms-caused [] otherwise env c = c
-arms-caused (a ∷ arms) otherwise env c =
-    choice_of-caused ((arm_of a.0).condition env) ((arm_of a.0).value env) (chosen_in env (map arm_of (map (λ e. e.0) arms)) otherwise) (a.1 env).0 (a.1 env).1 (arms-caused arms otherwise env c)
+arms-caused : (arms : List Arm') (otherwise : Out) (env : Environment) → RowsCaused env.rows → IsCaused otherwise → IsCaused (chosen_in env (map arm_of (map (λ e. e.0) arms)) otherwise)
+arms-caused [] otherwise env r c = c
+arms-caused (a ∷ arms) otherwise env r c =
+    choice_of-caused ((arm_of a.0).condition env) ((arm_of a.0).value env) (chosen_in env (map arm_of (map (λ e. e.0) arms)) otherwise) (a.1 env r).0 (a.1 env r).1 (arms-caused arms otherwise env r c)
 
-matches-caused : (arms : List Match') (a otherwise : Out) (env : Environment) → IsCaused a → IsCaused otherwise → IsCaused (matched_in env a (map match_of (map (λ e. e.0) arms)) otherwise)
-matches-caused [] a otherwise env c d = d
-matches-caused (m ∷ arms) a otherwise env c d =
-    choice_of-caused (comparison_of compares.Eq (match_of m.0).sides a ((match_of m.0).operand env)) ((match_of m.0).value env) (matched_in env a (map match_of (map (λ e. e.0) arms)) otherwise)
-    (comparison_of-caused compares.Eq (match_of m.0).sides a ((match_of m.0).operand env) c (m.1 env).0) (m.1 env).1 (matches-caused arms a otherwise env c d)
+matches-caused : (arms : List Match') (a otherwise : Out) (env : Environment) → RowsCaused env.rows → IsCaused a → IsCaused otherwise → IsCaused (matched_in env a (map match_of (map (λ e. e.0) arms)) otherwise)
+matches-caused [] a otherwise env r c d = d
+matches-caused (m ∷ arms) a otherwise env r c d =
+    choice_of-caused (comparison_of (keys_of env.hosts) compares.Eq (match_of m.0).sides a ((match_of m.0).operand env)) ((match_of m.0).value env) (matched_in env a (map match_of (map (λ e. e.0) arms)) otherwise)
+    (comparison_of-caused (keys_of env.hosts) compares.Eq (match_of m.0).sides a ((match_of m.0).operand env) c (m.1 env r).0) (m.1 env r).1 (matches-caused arms a otherwise env r c d)
 
 abbrev plain : BoundExpr-F Expr' Arm' Match' → BoundExpr-F BoundExpr BoundArm BoundMatch
 plain = map-BoundExpr Expr' Arm' Match' BoundExpr BoundArm BoundMatch (λ e. e.0) (λ e. e.0) (λ e. e.0)
@@ -98,28 +130,29 @@ plain = map-BoundExpr Expr' Arm' Match' BoundExpr BoundArm BoundMatch (λ e. e.0
 abbrev meant : BoundExpr-F BoundExpr BoundArm BoundMatch → BoundExpr-F Meaning Arm MatchArm
 meant = map-BoundExpr BoundExpr BoundArm BoundMatch Meaning Arm MatchArm value_of arm_of match_of
 
-step-caused : (y : BoundExpr-F Expr' Arm' Match') (env : Environment) → IsCaused (value_step (meant (plain y)) env)
-step-caused (BoundExpr-F.Literal l) env = literal-caused l
-step-caused (BoundExpr-F.Column item place) env = good _
-step-caused (BoundExpr-F.Parameter number) env = parameter-caused env.params number
-step-caused (BoundExpr-F.Unary op a) env = unary_of-caused op (value_of a.0 env) (a.1 env)
-step-caused (BoundExpr-F.Binary op a b) env = binary_of-caused op (value_of a.0 env) (value_of b.0 env) (a.1 env) (b.1 env)
-step-caused (BoundExpr-F.LikeEscaped a b c) env = like_escaped_of-caused (value_of a.0 env) (value_of b.0 env) (value_of c.0 env) (a.1 env) (b.1 env) (c.1 env)
-step-caused (BoundExpr-F.Between above below a low high) env =
-    and_of-caused (comparison_of compares.Ge above (value_of a.0 env) (value_of low.0 env)) (comparison_of compares.Le below (value_of a.0 env) (value_of high.0 env))
-    (comparison_of-caused compares.Ge above (value_of a.0 env) (value_of low.0 env) (a.1 env) (low.1 env)) (comparison_of-caused compares.Le below (value_of a.0 env) (value_of high.0 env) (a.1 env) (high.1 env))
-step-caused (BoundExpr-F.In sides a others) env = member_of-caused sides (value_of a.0 env) (in_all (map value_of (map (λ e. e.0) others)) env) (a.1 env) (all-caused others env)
-step-caused (BoundExpr-F.Coalesce es) env = first_known-caused (in_all (map value_of (map (λ e. e.0) es)) env) (all-caused es env)
-step-caused (BoundExpr-F.Choose arms otherwise) env = arms-caused arms (value_of otherwise.0 env) env (otherwise.1 env)
-step-caused (BoundExpr-F.Match a arms otherwise) env = matches-caused arms (value_of a.0 env) (value_of otherwise.0 env) env (a.1 env) (otherwise.1 env)
-step-caused (BoundExpr-F.Call f collation args) env = function_by-caused value_key f collation (in_all (map value_of (map (λ e. e.0) args)) env) (all-caused args env)
+step-caused : (y : BoundExpr-F Expr' Arm' Match') (env : Environment) → RowsCaused env.rows → IsCaused (value_step (meant (plain y)) env)
+step-caused (BoundExpr-F.Literal l) env r = literal-caused l
+step-caused (BoundExpr-F.Column item place) env r = column-caused env.rows item place r
+step-caused (BoundExpr-F.Parameter number) env r = parameter-caused env.params number
+step-caused (BoundExpr-F.Unary op a) env r = unary_of-caused op (value_of a.0 env) (a.1 env r)
+step-caused (BoundExpr-F.Binary op a b) env r = binary_of-caused (keys_of env.hosts) op (value_of a.0 env) (value_of b.0 env) (a.1 env r) (b.1 env r)
+step-caused (BoundExpr-F.LikeEscaped a b c) env r = like_escaped_of-caused (value_of a.0 env) (value_of b.0 env) (value_of c.0 env) (a.1 env r) (b.1 env r) (c.1 env r)
+step-caused (BoundExpr-F.Between above below a low high) env r =
+    let keys = keys_of env.hosts in
+    and_of-caused (comparison_of keys compares.Ge above (value_of a.0 env) (value_of low.0 env)) (comparison_of keys compares.Le below (value_of a.0 env) (value_of high.0 env))
+    (comparison_of-caused keys compares.Ge above (value_of a.0 env) (value_of low.0 env) (a.1 env r) (low.1 env r)) (comparison_of-caused keys compares.Le below (value_of a.0 env) (value_of high.0 env) (a.1 env r) (high.1 env r))
+step-caused (BoundExpr-F.In sides a others) env r = member_of-caused (keys_of env.hosts) sides (value_of a.0 env) (in_all (map value_of (map (λ e. e.0) others)) env) (a.1 env r) (all-caused others env r)
+step-caused (BoundExpr-F.Coalesce es) env r = first_known-caused (in_all (map value_of (map (λ e. e.0) es)) env) (all-caused es env r)
+step-caused (BoundExpr-F.Choose arms otherwise) env r = arms-caused arms (value_of otherwise.0 env) env r (otherwise.1 env r)
+step-caused (BoundExpr-F.Match a arms otherwise) env r = matches-caused arms (value_of a.0 env) (value_of otherwise.0 env) env r (a.1 env r) (otherwise.1 env r)
+step-caused (BoundExpr-F.Call f collation args) env r = function_by-caused (value_keys (keys_of env.hosts)) f collation (in_all (map value_of (map (λ e. e.0) args)) env) (all-caused args env r)
 
 -- an expression that is bad has a cause
-pub value_of-caused : (x : BoundExpr) (env : Environment) → IsCaused (value_of x env)
+pub value_of-caused : (x : BoundExpr) (env : Environment) → RowsCaused env.rows → IsCaused (value_of x env)
 value_of-caused = ind-BoundExpr ExprCaused ArmCaused MatchCaused
-    (λ x y is env. subst (λ (m : Meaning). IsCaused (m env)) (sym (fold-roll-BoundExpr Meaning Arm MatchArm value_step arm_step match_step x)) (subst (λ z. IsCaused (value_step (meant z) env)) is (step-caused y env)))
-    (λ x y is env. subst (λ (m : Arm). Caused m.condition m.value env) (sym (fold-roll-BoundArm Meaning Arm MatchArm value_step arm_step match_step x)) (subst (λ (z : BoundArm-F BoundExpr BoundArm BoundMatch). Caused (value_of z.condition) (value_of z.value) env) is (y.condition.1 env, y.value.1 env)))
-    (λ x y is env. subst (λ (m : MatchArm). Caused m.operand m.value env) (sym (fold-roll-BoundMatch Meaning Arm MatchArm value_step arm_step match_step x)) (subst (λ (z : BoundMatch-F BoundExpr BoundArm BoundMatch). Caused (value_of z.operand) (value_of z.value) env) is (y.operand.1 env, y.value.1 env)))
+    (λ x y is env r. subst (λ (m : Meaning). IsCaused (m env)) (sym (fold-roll-BoundExpr Meaning Arm MatchArm value_step arm_step match_step x)) (subst (λ z. IsCaused (value_step (meant z) env)) is (step-caused y env r)))
+    (λ x y is env r. subst (λ (m : Arm). Caused m.condition m.value env) (sym (fold-roll-BoundArm Meaning Arm MatchArm value_step arm_step match_step x)) (subst (λ (z : BoundArm-F BoundExpr BoundArm BoundMatch). Caused (value_of z.condition) (value_of z.value) env) is (y.condition.1 env r, y.value.1 env r)))
+    (λ x y is env r. subst (λ (m : MatchArm). Caused m.operand m.value env) (sym (fold-roll-BoundMatch Meaning Arm MatchArm value_step arm_step match_step x)) (subst (λ (z : BoundMatch-F BoundExpr BoundArm BoundMatch). Caused (value_of z.operand) (value_of z.value) env) is (y.operand.1 env r, y.value.1 env r)))
 
 -- ---- items
 
@@ -157,9 +190,9 @@ told-append (x ∷ xs) ys c d = (c.0, told-append xs ys c.1 d)
 
 -- ---- a query
 
-results-caused : (results : List BoundExpr) (env : Environment) → AreCaused (map (λ r. value_of r env) results)
-results-caused [] env = tt
-results-caused (r ∷ results) env = (value_of-caused r env, results-caused results env)
+results-caused : (results : List BoundExpr) (env : Environment) → RowsCaused env.rows → AreCaused (map (λ r. value_of r env) results)
+results-caused [] env c = tt
+results-caused (r ∷ results) env c = (value_of-caused r env c, results-caused results env c)
 
 abbrev MayBeCaused : Option Out → Type 0
 MayBeCaused None = ⊤
@@ -175,22 +208,60 @@ if_some-caused : (o : Option Out) (g : Out → Option Out) → MayBeCaused o →
 if_some-caused None g c h = tt
 if_some-caused (Some a) g c h = h a c
 
-sifted-caused : (conjuncts : List BoundExpr) (env : Environment) (causes : Out) → IsCaused causes → MayBeCaused (sifted conjuncts env causes)
-sifted-caused [] env causes c = c
-sifted-caused (x ∷ xs) env causes c =
+sifted-caused : (conjuncts : List BoundExpr) (env : Environment) (causes : Out) → RowsCaused env.rows → IsCaused causes → MayBeCaused (sifted conjuncts env causes)
+sifted-caused [] env causes r c = c
+sifted-caused (x ∷ xs) env causes r c =
     if_some-caused (after_conjunct causes (truth_in (truth_of (value_of x env)))) (sifted xs env)
-    (after-caused causes (truth_in (truth_of (value_of x env))) c (truth_in-caused (truth_of (value_of x env)) (truth_of-caused (value_of x env) (value_of-caused x env))))
-    (λ a h. sifted-caused xs env a h)
+    (after-caused causes (truth_in (truth_of (value_of x env))) c (truth_in-caused (truth_of (value_of x env)) (truth_of-caused (value_of x env) (value_of-caused x env r))))
+    (λ a h. sifted-caused xs env a r h)
 
-shown-told : (results : List BoundExpr) (env : Environment) (o : Option Out) → MayBeCaused o → AreTold (option_to_list (option_map (shown results env) o))
-shown-told results env None c = tt
-shown-told results env (Some a) c = (item_of-told a (map (λ r. value_of r env) results) c (results-caused results env), tt)
+shown-told : (results : List BoundExpr) (env : Environment) (o : Option Out) → RowsCaused env.rows → MayBeCaused o → AreTold (option_to_list (option_map (shown results env) o))
+shown-told results env None r c = tt
+shown-told results env (Some a) r c = (item_of-told a (map (λ r. value_of r env) results) c (results-caused results env r), tt)
 
-items-told : (conjuncts results : List BoundExpr) (envs : List Environment) → AreTold (flat_map (items_at conjuncts results) envs)
-items-told conjuncts results [] = tt
-items-told conjuncts results (env ∷ envs) =
-    told-append (items_at conjuncts results env) (flat_map (items_at conjuncts results) envs)
-    (shown-told results env (sifted conjuncts env no_causes) (sifted-caused conjuncts env no_causes (good value.Null))) (items-told conjuncts results envs)
+causes-caused : (rows : List ItemRow) → RowsCaused rows → AreCaused (map (λ (r : ItemRow). r.causes) rows)
+causes-caused [] c = tt
+causes-caused (r ∷ rows) c = (c.0.1, causes-caused rows c.1)
+
+carried-caused : (rows : List ItemRow) → RowsCaused rows → IsCaused (carried rows)
+carried-caused rows c = all_causes-caused no_causes (map (λ (r : ItemRow). r.causes) rows) (good value.Null) (causes-caused rows c)
+
+at-told : (conjuncts results : List BoundExpr) (env : Environment) → RowsCaused env.rows → AreTold (items_at conjuncts results env)
+at-told conjuncts results env c = shown-told results env (sifted conjuncts env (carried env.rows)) c (sifted-caused conjuncts env (carried env.rows) c (carried-caused env.rows c))
+
+-- ---- the rows of a FROM
+
+abbrev EachCaused : List (List ItemRow) → Type 0
+EachCaused [] = ⊤
+EachCaused (rows ∷ others) = RowsCaused rows × EachCaused others
+
+each-append : (xs ys : List (List ItemRow)) → EachCaused xs → EachCaused ys → EachCaused (xs ++ ys)
+each-append [] ys c d = d
+each-append (x ∷ xs) ys c d = (c.0, each-append xs ys c.1 d)
+
+each-flat : (f : ItemRow → List (List ItemRow)) (rows : List ItemRow) → RowsCaused rows → ((r : ItemRow) → RowCaused r → EachCaused (f r)) → EachCaused (flat_map f rows)
+each-flat f [] c h = tt
+each-flat f (r ∷ rows) c h = each-append (f r) (flat_map f rows) (h r c.0) (each-flat f rows c.1 h)
+
+behind-caused : (rows : List ItemRow) (r : ItemRow) → RowsCaused rows → RowCaused r → RowsCaused (rows ++ r ∷ [])
+behind-caused [] r c d = (d, tt)
+behind-caused (x ∷ rows) r c d = (c.0, behind-caused rows r c.1 d)
+
+table-caused : (ignored : List (Option ℕ)) (rows : List StoredRow) → RowsCaused (map (λ r. ignoring ignored (table_row r)) rows)
+table-caused ignored [] = tt
+table-caused ignored (r ∷ rows) = (ignoring-caused ignored (table_row r) (all-good r.values, good value.Null), table-caused ignored rows)
+
+product-caused : (ctx : Context) (items : List FromItem) (rows : List ItemRow) → RowsCaused rows → EachCaused (product ctx items rows)
+product-caused ctx [] rows c = (c, tt)
+product-caused ctx (i ∷ items) rows c =
+    each-flat (λ r. product ctx items (rows ++ r ∷ [])) (item_rows ctx i) (table-caused i.ignored (rows_of ctx.state.world.tables i.table.name))
+    (λ r d. product-caused ctx items (rows ++ r ∷ []) (behind-caused rows r c d))
+
+items-told : (ctx : Context) (conjuncts results : List BoundExpr) (all : List (List ItemRow)) → EachCaused all → AreTold (flat_map (λ rows. items_at conjuncts results (environment_at ctx rows)) all)
+items-told ctx conjuncts results [] c = tt
+items-told ctx conjuncts results (rows ∷ all) c =
+    told-append (items_at conjuncts results (environment_at ctx rows)) (flat_map (λ rows. items_at conjuncts results (environment_at ctx rows)) all)
+    (at-told conjuncts results (environment_at ctx rows) c.0) (items-told ctx conjuncts results all c.1)
 
 -- ---- a write
 
@@ -250,30 +321,19 @@ source-told (row ∷ rows) = (item_of-told no_causes (map literal_out row) (good
 
 -- ---- any statement
 
-carried_out-told : {B : Type 0} (state : State) (g : B → Outcome) (r : Result B Cause) → ((b : B) → ToldCauses (g b).refusal) → ToldCauses (carried_out state g r).refusal
-carried_out-told state g (Ok b) h = h b
-carried_out-told state g (Err why) h = only-caused why
+outcome_of-told : (ctx : Context) (b : BoundStatement) → ToldCauses (outcome_of ctx b).refusal
+outcome_of-told ctx (Creates t) = tt
+outcome_of-told ctx (Puts p) = put_source-told ctx.state p (causes_of (source_of p)) (given_of (source_of p)) (causes_of-told (source_of p) (source-told p.rows))
+outcome_of-told ctx (Queries q) = refusal_of-told (items_of ctx q) (items-told ctx q.conjuncts q.results (product ctx q.from []) (product-caused ctx q.from [] tt))
 
-outcome_of-told : (hosts : HostMeanings) (state : State) (params : List Value) (text : List ℕ) (tokens : ℕ) (st : Built) → ToldCauses (outcome_of hosts state params text tokens st).refusal
-outcome_of-told hosts state params text tokens (Creates c) = carried_out-told state (create_outcome state) (s.created_entry state.world.catalog text tokens c) (λ t. tt)
-outcome_of-told hosts state params text tokens (Inserts i) =
-    carried_out-told state (put_outcome state) (s.put_of state.world.catalog text i) (λ p. put_source-told state p (causes_of (source_of p)) (given_of (source_of p)) (causes_of-told (source_of p) (source-told p.rows)))
-outcome_of-told hosts state params text tokens (Selects q) =
-    carried_out-told state (λ query. query_outcome state (items_of state params query)) (s.query_of state.world.catalog text q) (λ query. refusal_of-told (items_of state params query) (items-told query.conjuncts query.results (environments state params query.table)))
-
-built_outcome-told : (hosts : HostMeanings) (state : State) (params : List Value) (text : List ℕ) (b : Option Built) → ToldCauses (built_outcome hosts state params text b).refusal
-built_outcome-told hosts state params text None = only-caused cause.NotYet
-built_outcome-told hosts state params text (Some b) = outcome_of-told hosts state params text _ b
-
-answer_outcome-told : (hosts : HostMeanings) (state : State) (params : List Value) (text : List ℕ) (x : Answer Statement) → ToldCauses (answer_outcome hosts state params text x).refusal
-answer_outcome-told hosts state params text (Tree st) = built_outcome-told hosts state params text (built_of text st)
-answer_outcome-told hosts state params text (Syntax rest) = only-caused (cause.Syntax (place (length text) rest))
-answer_outcome-told hosts state params text (TooMuch l rest) = only-caused (cause.Limit (s.limit_kind l))
+bound_outcome-told : (ctx : Context) (r : Result BoundStatement Cause) → ToldCauses (bound_outcome ctx r).refusal
+bound_outcome-told ctx (Ok b) = outcome_of-told ctx b
+bound_outcome-told ctx (Err why) = only-caused why
 
 named : (causes : Option CauseSet) → ToldCauses causes → (why : Option Cause) × IsNamed causes why
 named None c = (None, tt)
 named (Some causes) c = (Some c.0, c.1)
 
 -- a refusal has a cause that can be named
-pub text_outcome-named : (hosts : HostMeanings) (state : State) (params : List Value) (text : List ℕ) → (why : Option Cause) × IsNamed (text_outcome hosts state params text).refusal why
-text_outcome-named hosts state params text = named (text_outcome hosts state params text).refusal (answer_outcome-told hosts state params text (answer_of text))
+pub text_outcome-named : (ctx : Context) (text : List ℕ) → (why : Option Cause) × IsNamed (text_outcome ctx text).refusal why
+text_outcome-named ctx text = named (text_outcome ctx text).refusal (bound_outcome-told ctx (text_bound ctx.state.world.catalog text))

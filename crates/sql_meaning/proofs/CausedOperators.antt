@@ -22,10 +22,11 @@ use Rattle.eng_value.specs.Outs.{bad, causes_in, on_both, on_three, turned}
 use Rattle.eng_value.specs.Truths.{and_of, both, choice_of, chosen, is_truth_of, not_of, one_of_both, opposite, or_of, out_of, truth_in, truth_of}
 use Rattle.eng_value.specs.declared.affinity.Affinity.{Affinity}
 use Rattle.eng_value.specs.declared.affinity.Affinity.TheVariants as affinity
-use Rattle.eng_value.specs.declared.built.Built.{Built}
 use Rattle.eng_value.specs.declared.builtin.Builtin.{Builtin}
 use Rattle.eng_value.specs.declared.cause.Cause.{Cause}
 use Rattle.eng_value.specs.declared.cause.Cause.TheVariants as cause
+use Rattle.eng_value.specs.Collations.{Keys}
+use Rattle.eng_value.specs.declared.collation.Collation.{Collation}
 use Rattle.eng_value.specs.declared.compare_op.CompareOp.{CompareOp}
 use Rattle.eng_value.specs.declared.compare_op.CompareOp.TheVariants as compares
 use Rattle.eng_value.specs.declared.operators.ArithmeticOp.{ArithmeticOp}
@@ -301,13 +302,13 @@ concatenation_of-caused : (a b : Out) → IsCaused a → IsCaused b → IsCaused
 unfolding concatenation_of
 concatenation_of-caused a b c d = on_both-caused joined _ _ joined-caused (in_text a c) (in_text b d)
 
-pub comparison_of-caused : (op : CompareOp) (sides : Sides) (a b : Out) → IsCaused a → IsCaused b → IsCaused (comparison_of op sides a b)
+pub comparison_of-caused : (keys : Keys) (op : CompareOp) (sides : Sides) (a b : Out) → IsCaused a → IsCaused b → IsCaused (comparison_of keys op sides a b)
 unfolding comparison_of
-comparison_of-caused op sides a b c d = on_both-caused _ a b (λ v w. good _) c d
+comparison_of-caused keys op sides a b c d = on_both-caused _ a b (λ v w. good _) c d
 
-is_of-caused : (sides : Sides) (a b : Out) → IsCaused a → IsCaused b → IsCaused (is_of sides a b)
+is_of-caused : (keys : Keys) (sides : Sides) (a b : Out) → IsCaused a → IsCaused b → IsCaused (is_of keys sides a b)
 unfolding is_of
-is_of-caused sides a b c d = on_both-caused _ a b (λ v w. good _) c d
+is_of-caused keys sides a b c d = on_both-caused _ a b (λ v w. good _) c d
 
 like_of-caused : (a b : Out) → IsCaused a → IsCaused b → IsCaused (like_of a b)
 unfolding like_of
@@ -343,16 +344,16 @@ unary_of-caused unary.NotNull a c = turned-caused _ a (λ v. good _) c
 unary_of-caused (unary.IsTruth wanted) a c = is_truth_of-caused wanted a c
 unary_of-caused (unary.Cast to) a c = turned-caused (cast to) a (cast-caused to) c
 
-pub binary_of-caused : (op : BinaryOperator) (a b : Out) → IsCaused a → IsCaused b → IsCaused (binary_of op a b)
-binary_of-caused (binary.Arithmetic op) a b c d = arithmetic_of-caused op a b c d
-binary_of-caused (binary.Integers op) a b c d = integers_of-caused op a b c d
-binary_of-caused binary.Concatenate a b c d = concatenation_of-caused a b c d
-binary_of-caused binary.And a b c d = and_of-caused a b c d
-binary_of-caused binary.Or a b c d = or_of-caused a b c d
-binary_of-caused (binary.Compare op sides) a b c d = comparison_of-caused op sides a b c d
-binary_of-caused (binary.Is sides) a b c d = is_of-caused sides a b c d
-binary_of-caused binary.Like a b c d = like_of-caused a b c d
-binary_of-caused binary.Glob a b c d = glob_of-caused a b c d
+pub binary_of-caused : (keys : Keys) (op : BinaryOperator) (a b : Out) → IsCaused a → IsCaused b → IsCaused (binary_of keys op a b)
+binary_of-caused keys (binary.Arithmetic op) a b c d = arithmetic_of-caused op a b c d
+binary_of-caused keys (binary.Integers op) a b c d = integers_of-caused op a b c d
+binary_of-caused keys binary.Concatenate a b c d = concatenation_of-caused a b c d
+binary_of-caused keys binary.And a b c d = and_of-caused a b c d
+binary_of-caused keys binary.Or a b c d = or_of-caused a b c d
+binary_of-caused keys (binary.Compare op sides) a b c d = comparison_of-caused keys op sides a b c d
+binary_of-caused keys (binary.Is sides) a b c d = is_of-caused keys sides a b c d
+binary_of-caused keys binary.Like a b c d = like_of-caused a b c d
+binary_of-caused keys binary.Glob a b c d = glob_of-caused a b c d
 
 -- ---- functions
 
@@ -408,13 +409,13 @@ or_else-caused (Good (Text text)) b c d = good _
 or_else-caused (Good (Blob bytes)) b c d = good _
 or_else-caused (Bad causes) b c d = record { told = c.told }
 
-found-caused : (sides : Sides) (a found : Out) (others : List Out) → IsCaused a → IsCaused found → AreCaused others → IsCaused (fold (or_equal sides a) found others)
-found-caused sides a found [] c d h = d
-found-caused sides a found (b ∷ others) c d h =
-    found-caused sides a (or_equal sides a found b) others c (or_of-caused found (comparison_of compares.Eq sides a b) d (comparison_of-caused compares.Eq sides a b c h.0)) h.1
+found-caused : (keys : Keys) (sides : Sides) (a found : Out) (others : List Out) → IsCaused a → IsCaused found → AreCaused others → IsCaused (fold (or_equal keys sides a) found others)
+found-caused keys sides a found [] c d h = d
+found-caused keys sides a found (b ∷ others) c d h =
+    found-caused keys sides a (or_equal keys sides a found b) others c (or_of-caused found (comparison_of keys compares.Eq sides a b) d (comparison_of-caused keys compares.Eq sides a b c h.0)) h.1
 
-pub member_of-caused : (sides : Sides) (a : Out) (others : List Out) → IsCaused a → AreCaused others → IsCaused (member_of sides a others)
-member_of-caused sides a others c h = found-caused sides a (falsehood_of a) others c (turned-caused _ a (λ v. good _) c) h
+pub member_of-caused : (keys : Keys) (sides : Sides) (a : Out) (others : List Out) → IsCaused a → AreCaused others → IsCaused (member_of keys sides a others)
+member_of-caused keys sides a others c h = found-caused keys sides a (falsehood_of a) others c (turned-caused _ a (λ v. good _) c) h
 
 pub merged-caused : (a b : Out) → IsCaused a → IsCaused b → IsCaused (merged a b)
 merged-caused (Good v) b c d = d
@@ -426,5 +427,5 @@ on_all-caused g [] h c = h []
 on_all-caused g (Good v ∷ rest) h c = on_all-caused (λ vs. g (v ∷ vs)) rest (λ vs. h (v ∷ vs)) c.1
 on_all-caused g (Bad causes ∷ rest) h c = record { told = union_left causes (causes_of_all rest) c.0.told }
 
-pub function_by-caused : (key : Built → Value → List ℕ) (b : Builtin) (collation : Built) (args : List Out) → AreCaused args → IsCaused (function_by key b collation args)
+pub function_by-caused : (key : Collation → Value → List ℕ) (b : Builtin) (collation : Collation) (args : List Out) → AreCaused args → IsCaused (function_by key b collation args)
 function_by-caused key b collation args c = on_all-caused _ args (λ vs. call_of-caused b vs _) c

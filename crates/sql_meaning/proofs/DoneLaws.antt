@@ -3,40 +3,22 @@ use Rattle.std.proofs.Common.{◌≡◌, ℕ, suc, List, [], ◌∷◌, length, 
 use Rattle.std.proofs.Math.Seq.{drop-append_seam}
 use Rattle.std.proofs.lemmas.List.{length-map}
 use Rattle.eng_value.specs.Causes.{CauseSet}
-use Rattle.eng_value.specs.HostMeanings.{HostMeanings}
 use Rattle.eng_value.specs.StoredRows.{StoredRow}
 use Rattle.eng_value.specs.declared.cause.Cause.{Cause}
 use Rattle.eng_value.specs.declared.value.Value.{Value}
-use Rattle.sql_grammar.specs.Answers.{Answer, Tree, Syntax, TooMuch}
-use Rattle.sql_tree.specs.declared.statement.Statement.{Statement}
 use Rattle.sql_meaning.specs.declared.column.TableEntry.{TableEntry}
-use Rattle.sql_meaning.specs.Built.{built_of}
+use Rattle.sql_meaning.specs.BoundStatements.{BoundStatement, Creates, Put, Puts, Queries, Query}
 use Rattle.sql_meaning.specs.Effects.{AddsRows, AddsTable}
-use Rattle.sql_meaning.specs.Names.{is_same_name}
-use Rattle.sql_meaning.specs.Shapes.{Built, Creates, CreateTable, Insert, Inserts, Select, Selects}
-use Rattle.sql_meaning.specs.Spelled.{name_at}
-use Rattle.sql_meaning.specs.Statement.{Item, Outcome, Put, Row, Failed, all_put, answer_of, answer_outcome, built_outcome, carried_out, causes_of, count_of, create_outcome, created_entry, given_of, items_of, last_rowid_of, outcome_of, put_of, put_outcome, put_source, query_of, query_outcome, rows_put, source_of, text_outcome, written}
+use Rattle.sql_meaning.specs.Statement.{Item, Outcome, Row, Failed, all_put, bound_outcome, causes_of, given_of, last_rowid_of, outcome_of, put_outcome, put_source, rows_put, source_of, text_bound, text_outcome, written}
 use Rattle.sql_meaning.specs.Valid.{IsValid}
-use Rattle.sql_meaning.specs.Work.{built_in}
-use Rattle.sql_meaning.specs.World.{State, entry_named, rows_of}
-use Rattle.sql_lex.specs.Tokens.{tokens_of}
+use Rattle.sql_meaning.specs.World.{Context, State, entry_named, rows_of}
 use Rattle.sql_meaning.proofs.EffectLaws.{More, more_behind, rows_with-other, rows_with-same}
 use Rattle.sql_meaning.proofs.StoringLaws.{AreWide}
-use Rattle.sql_meaning.proofs.ValidLaws.{created-free, created-named, found-rows, given_wide, put-is, put-rows}
+use Rattle.sql_meaning.proofs.ValidLaws.{IsPut, found-rows, given_wide, text-fits}
 
--- the outcome of a text is that of the statement that is built of it
-built_outcome-is : (hosts : HostMeanings) (state : State) (params : List Value) (text : List ℕ) (o : Option Built) (b : Built) → o ≡ Some b → built_outcome hosts state params text o ≡ outcome_of hosts state params text (count_of (tokens_of text)) b
-built_outcome-is hosts state params text o b is = ap (built_outcome hosts state params text) is
-
-answer-is : (hosts : HostMeanings) (state : State) (params : List Value) (text : List ℕ) (x : Answer Statement) (b : Built) → built_in text x ≡ Some b → answer_outcome hosts state params text x ≡ outcome_of hosts state params text (count_of (tokens_of text)) b
-answer-is hosts state params text (Tree s) b is = built_outcome-is hosts state params text (built_of text s) b is
-answer-is hosts state params text (Syntax rest) b is = absurd (let none : None ≡ Some b = is in cc)
-answer-is hosts state params text (TooMuch l rest) b is = absurd (let none : None ≡ Some b = is in cc)
-
--- what is not refused was bound
-carried-ok : {B : Type 0} (state : State) (f : B → Outcome) (r : Result B Cause) → (carried_out state f r).refusal ≡ None → (b : B) × (r ≡ Ok b) × (carried_out state f r ≡ f b)
-carried-ok state f (Ok b) e = (b, refl, refl)
-carried-ok state f (Err why) e = absurd (cc)
+-- the outcome of a text is that of what it is bound to
+text-is : (ctx : Context) (text : List ℕ) (b : BoundStatement) → text_bound ctx.state.world.catalog text ≡ Ok b → text_outcome ctx text ≡ outcome_of ctx b
+text-is ctx text b is = ap (bound_outcome ctx) is
 
 -- ---- INSERT
 
@@ -56,7 +38,7 @@ written-adds state name t count rows found more = record {
   behind = rows_with-same state.world.tables t.name rows ∙ more.behind;
   drawn = more.drawn;
   count = more.count;
-  stack = refl;
+  rest = record { transaction = refl; in_flight = refl; commit_answers = refl; recursive_triggers = refl };
   changed = refl;
   changes = refl;
   last_rowid = ap (λ rs. last_rowid_of state.last_rowid (drop (length (rows_of state.world.tables t.name)) rs)) more.behind ∙ ap (last_rowid_of state.last_rowid) (drop-append_seam (rows_of state.world.tables t.name) more.new);
@@ -75,38 +57,29 @@ put_source-adds state name p count None source valid found wide many e =
     subst (λ n. AddsRows state name n (all_put state p.table (length source) (rows_put p.table old source))) (many refl)
     (all_put-adds state name p.table (length source) (rows_put p.table old source) found (λ rows is. more_behind p.table old rows source wide kept is) e)
 
-put-adds : (state : State) (text : List ℕ) (i : Insert) (p : Put) → IsValid state → put_of state.world.catalog text i ≡ Ok p → (put_outcome state p).refusal ≡ None → AddsRows state (name_at text i.table) (length i.rows) (put_outcome state p)
-put-adds state text i p valid is e =
-    let put = put-is state.world.catalog text i p is in
-    put_source-adds state (name_at text i.table) p (length i.rows) (causes_of (source_of p)) (given_of (source_of p)) valid put.found (given_wide (length p.table.columns) p.rows put.wide)
-    (λ none. given_each (source_of p) none ∙ length-map p.rows _ ∙ put-rows state.world.catalog text i p is) e
+put-adds : (state : State) (p : Put) → IsValid state → IsPut state.world.catalog p → (put_outcome state p).refusal ≡ None → AddsRows state p.table.name (length p.rows) (put_outcome state p)
+put-adds state p valid put e =
+    put_source-adds state p.table.name p (length p.rows) (causes_of (source_of p)) (given_of (source_of p)) valid put.found (given_wide (length p.table.columns) p.rows put.wide)
+    (λ none. given_each (source_of p) none ∙ length-map p.rows _) e
 
-pub inserts : (hosts : HostMeanings) (state : State) (params : List Value) (text : List ℕ) (i : Insert) → IsValid state → built_in text (answer_of text) ≡ Some (Inserts i) → (text_outcome hosts state params text).refusal ≡ None
-    → AddsRows state (name_at text i.table) (length i.rows) (text_outcome hosts state params text)
-inserts hosts state params text i valid is e =
-    let whole = answer-is hosts state params text (answer_of text) (Inserts i) is in
-    let bound = carried-ok state (put_outcome state) (put_of state.world.catalog text i) (ap (λ (o : Outcome). o.refusal) (sym whole) ∙ e) in
-    let all = whole ∙ bound.2 in
-    subst (AddsRows state (name_at text i.table) (length i.rows)) (sym all) (put-adds state text i bound.0 valid bound.1 (ap (λ (o : Outcome). o.refusal) (sym all) ∙ e))
+pub inserts : (ctx : Context) (text : List ℕ) (p : Put) → IsValid ctx.state → text_bound ctx.state.world.catalog text ≡ Ok (Puts p) → (text_outcome ctx text).refusal ≡ None → AddsRows ctx.state p.table.name (length p.rows) (text_outcome ctx text)
+inserts ctx text p valid is e =
+    let whole = text-is ctx text (Puts p) is in
+    subst (AddsRows ctx.state p.table.name (length p.rows)) (sym whole)
+    (put-adds ctx.state p valid (text-fits ctx.state.world.catalog text (Puts p) is) (ap (λ (o : Outcome). o.refusal) (sym whole) ∙ e))
 
 -- ---- CREATE TABLE
 
-pub creates : (hosts : HostMeanings) (state : State) (params : List Value) (text : List ℕ) (c : CreateTable) → IsValid state → built_in text (answer_of text) ≡ Some (Creates c) → (text_outcome hosts state params text).refusal ≡ None
-    → AddsTable state (name_at text c.name) (text_outcome hosts state params text)
-creates hosts state params text c valid is e =
-    let whole = answer-is hosts state params text (answer_of text) (Creates c) is in
-    let tokens = count_of (tokens_of text) in
-    let bound = carried-ok state (create_outcome state) (created_entry state.world.catalog text tokens c) (ap (λ (o : Outcome). o.refusal) (sym whole) ∙ e) in
-    let t = bound.0 in
-    let named = created-named state.world.catalog text tokens c t bound.1 in
-    subst (AddsTable state (name_at text c.name)) (sym (whole ∙ bound.2)) (record {
+pub creates : (ctx : Context) (text : List ℕ) (t : TableEntry) → IsValid ctx.state → text_bound ctx.state.world.catalog text ≡ Ok (Creates t) → AddsTable ctx.state t.name (text_outcome ctx text)
+creates ctx text t valid is =
+    subst (AddsTable ctx.state t.name) (sym (text-is ctx text (Creates t) is)) (record {
       table = t;
-      named = named;
-      free = ap (entry_named state.world.catalog) (sym named) ∙ created-free state.world.catalog text tokens c t bound.1;
+      named = refl;
+      free = text-fits ctx.state.world.catalog text (Creates t) is;
       catalog = refl;
-      rows = ap (rows_of (create_outcome state t).next.world.tables) (sym named) ∙ rows_with-same state.world.tables t.name [];
-      others = λ other differs. rows_with-other state.world.tables t.name other [] (ap (λ n. is_same_name n other) named ∙ differs);
-      stack = refl;
+      rows = rows_with-same ctx.state.world.tables t.name [];
+      others = λ other differs. rows_with-other ctx.state.world.tables t.name other [] differs;
+      rest = record { transaction = refl; in_flight = refl; commit_answers = refl; recursive_triggers = refl };
       changed = refl;
       changes = refl;
       last_rowid = refl;
@@ -114,11 +87,5 @@ creates hosts state params text c valid is e =
 
 -- ---- SELECT
 
-carried-same : {B : Type 0} (state : State) (f : B → Outcome) (r : Result B Cause) → ((b : B) → (f b).next ≡ state) → (carried_out state f r).next ≡ state
-carried-same state f (Ok b) h = h b
-carried-same state f (Err why) h = refl
-
-pub selects : (hosts : HostMeanings) (state : State) (params : List Value) (text : List ℕ) (q : Select) → built_in text (answer_of text) ≡ Some (Selects q) → (text_outcome hosts state params text).next ≡ state
-selects hosts state params text q is =
-    ap (λ (o : Outcome). o.next) (answer-is hosts state params text (answer_of text) (Selects q) is)
-    ∙ carried-same state (λ query. query_outcome state (items_of state params query)) (query_of state.world.catalog text q) (λ query. refl)
+pub selects : (ctx : Context) (text : List ℕ) (q : Query) → text_bound ctx.state.world.catalog text ≡ Ok (Queries q) → (text_outcome ctx text).next ≡ ctx.state
+selects ctx text q is = ap (λ (o : Outcome). o.next) (text-is ctx text (Queries q) is)

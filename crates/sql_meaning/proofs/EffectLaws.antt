@@ -3,7 +3,7 @@ use Rattle.std.proofs.Common.{◌≡◌, ◌↔◌, ◌⊎◌, inl, inr, ℕ, su
 use Rattle.std.proofs.lemmas.Int.{ints}
 use Rattle.eng_number.specs.Numbers.{fits_integer}
 use Rattle.eng_value.specs.Causes.{CauseSet, only}
-use Rattle.eng_value.specs.Environments.{Environment}
+use Rattle.eng_value.specs.Environments.{Environment, carried, no_causes}
 use Rattle.eng_value.specs.StoredRows.{StoredRow, next_rowid, rowid_behind}
 use Rattle.eng_value.specs.Truths.{truth_in, truth_of}
 use Rattle.eng_value.specs.declared.cause.Cause.TheVariants.{Full}
@@ -18,7 +18,7 @@ use Rattle.sql_meaning.specs.Binding.{◌>>=◌}
 use Rattle.sql_meaning.specs.Effects.{AreDrawn, IsFull, IsOneMore}
 use Rattle.sql_meaning.specs.Expression.{value_of}
 use Rattle.sql_meaning.specs.Names.{is_same_name}
-use Rattle.sql_meaning.specs.Statement.{Item, Row, Failed, after_conjunct, if_some, item_of, item_put, items_at, no_causes, row_put, row_under, rows_put, sifted, stored}
+use Rattle.sql_meaning.specs.Statement.{Item, Row, Failed, after_conjunct, if_some, item_of, item_put, items_at, row_put, row_under, rows_put, sifted, stored}
 use Rattle.sql_meaning.specs.Valid.{AreRowsOf, IsRowOf}
 use Rattle.sql_meaning.specs.World.{rows_of, with_rows}
 use Rattle.sql_meaning.proofs.NameLaws.{is_same_name-left, is_same_name-refl, is_same_name_comm}
@@ -40,7 +40,7 @@ sifted-rejects (b ∷ before) after c env fails causes =
     none_behind (after_conjunct causes (truth_in (truth_of (value_of b env)))) (sifted (before ++ c ∷ after) env) (sifted-rejects before after c env fails)
 
 pub rejects : (before after : List BoundExpr) (c : BoundExpr) (results : List BoundExpr) (env : Environment) → (truth_in (truth_of (value_of c env)) ≡ truth.False) ⊎ (truth_in (truth_of (value_of c env)) ≡ truth.Unknown) → items_at (before ++ c ∷ after) results env ≡ []
-rejects before after c results env fails = rw (sifted-rejects before after c env fails no_causes) refl
+rejects before after c results env fails = rw (sifted-rejects before after c env fails (carried env.rows)) refl
 
 -- ---- rowids
 

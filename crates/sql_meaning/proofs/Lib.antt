@@ -8,7 +8,7 @@ pub mod StoringLaws
 pub mod ValidLaws
 pub mod EffectLaws
 pub mod DoneLaws
-pub mod ShapeLaws
+pub mod TellingLaws
 pub mod OutcomeLaws
 pub mod ScriptLaws
 pub mod PartsLaws

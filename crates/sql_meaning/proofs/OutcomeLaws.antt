@@ -5,22 +5,34 @@ use Rattle.std.proofs.lemmas.List.Sums.{sum_by-append}
 use Rattle.std.specs.declared.option.Option.{Option}
 use Rattle.eng_value.specs.HostMeanings.{HostMeanings}
 use Rattle.eng_value.specs.declared.cause.Cause.{Cause}
+use Rattle.eng_value.specs.declared.value.Value.{Value}
 use Rattle.sql_meaning.specs.declared.script.Options.{Options}
 use Rattle.sql_meaning.specs.Parts.{Part, Statement, DotLine, BadCharacter}
 use Rattle.sql_meaning.specs.Runs.{last_state, state_behind, AreAsMeant, IsAsMeant, IsEnough, IsEnoughFor, IsFrontOf, PartIsAsMeant}
 use Rattle.sql_meaning.specs.Script.{Came, Comes, Come, Follow, PartComes, as_meant, as_named, cut_off, ends, instructions}
-use Rattle.sql_meaning.specs.Statement.{Outcome, text_outcome}
+use Rattle.sql_meaning.specs.Statement.{MayGive, Outcome, UnlessPlan, text_outcome}
 use Rattle.sql_meaning.specs.Work.{instruction_bound}
-use Rattle.sql_meaning.specs.World.{State}
+use Rattle.sql_meaning.specs.World.{Context, State, context}
 use Rattle.sql_meaning.proofs.CausedLaws.{text_outcome-named}
 
 -- ---- there is something that parts come to
 
-pub Comes-some : (hosts : HostMeanings) (budget : ℕ) (state : State) (text : List ℕ) → (o : Came) × Comes hosts budget state text o
-Comes-some hosts budget state text = let n = text_outcome-named hosts state [] text in (_, as_meant n.0 0 n.1 (omega arith) (omega arith))
+-- the rows that it means may be given
+pub gives_meant : (o : Outcome) (rows : List (List Value)) → rows ≡ o.given → MayGive o rows
+gives_meant o rows is = by o.shows_plan
+  where
+    by : (plan : Bool) → UnlessPlan plan (rows ≡ o.given)
+    by true = tt
+    by false = is
+
+pub Comes-some : (budget : ℕ) (ctx : Context) (text : List ℕ) → (o : Came) × Comes budget 0 ctx text o
+Comes-some budget ctx text =
+    let n = text_outcome-named ctx text in
+    let o = text_outcome ctx text in
+    (as_named o n.0 o.given 0, as_meant n.0 o.given 0 n.1 (gives_meant o o.given refl) (omega arith) (omega arith))
 
 pub PartComes-some : (hosts : HostMeanings) (budget : ℕ) (state : State) (part : Part) → (o : Came) × PartComes hosts budget state part o
-PartComes-some hosts budget state (Statement text) = Comes-some hosts budget state text
+PartComes-some hosts budget state (Statement text) = let some = Comes-some budget (context hosts state []) text in (some.0, λ told. some.1)
 PartComes-some hosts budget state (DotLine line) = (_, refl)
 PartComes-some hosts budget state (BadCharacter place) = (_, refl)
 
@@ -38,22 +50,22 @@ Come-some hosts options state (part ∷ parts) =
 -- ---- where the budget is enough
 
 -- a statement comes to what it means alone
-pub Comes-only : (hosts : HostMeanings) (budget : ℕ) (state : State) (text : List ℕ) (o : Came) → instruction_bound state text ≤ budget → Comes hosts budget state text o → IsAsMeant hosts budget state text o
-Comes-only hosts budget state text o enough (as_meant why ran named within few) = (why, ran, named, within, few, refl)
-Comes-only hosts budget state text o enough (cut_off front rest whole below) = absurd (omega arith)
+pub Comes-only : (budget : ℕ) (ctx : Context) (text : List ℕ) (o : Came) → instruction_bound ctx text ≤ budget → Comes budget 0 ctx text o → IsAsMeant budget ctx text o
+Comes-only budget ctx text o enough (as_meant why rows ran named gives within few) = (why, rows, ran, named, gives, omega arith, omega arith, refl)
+Comes-only budget ctx text o enough (cut_off rows front rest ran gives whole used below) = absurd (omega arith)
 
-PartComes-only : (hosts : HostMeanings) (budget : ℕ) (state : State) (part : Part) (o : Came) → IsEnoughFor budget state part → PartComes hosts budget state part o → PartIsAsMeant hosts budget state part o
-PartComes-only hosts budget state (Statement text) o enough c = Comes-only hosts budget state text o enough c
+PartComes-only : (hosts : HostMeanings) (budget : ℕ) (state : State) (part : Part) (o : Came) → IsEnoughFor hosts budget state part → PartComes hosts budget state part o → PartIsAsMeant hosts budget state part o
+PartComes-only hosts budget state (Statement text) o enough c = Comes-only budget (context hosts state []) text o enough.1 (c enough.0)
 PartComes-only hosts budget state (DotLine line) o enough c = c
 PartComes-only hosts budget state (BadCharacter place) o enough c = c
 
-as_named-next : (m : Outcome) (why : Option Cause) (ran : ℕ) → (as_named m why ran).next ≡ m.next
-as_named-next m None ran = refl
-as_named-next m (Some why) ran = refl
+as_named-next : (m : Outcome) (why : Option Cause) (rows : List (List Value)) (ran : ℕ) → (as_named m why rows ran).next ≡ m.next
+as_named-next m None rows ran = refl
+as_named-next m (Some why) rows ran = refl
 
 part-next : (hosts : HostMeanings) (budget : ℕ) (state : State) (part : Part) (o : Came) → PartIsAsMeant hosts budget state part o → o.next ≡ state_behind hosts state part
 part-next hosts budget state (Statement text) o m =
-    ap (λ (p : Came). p.next) m.5 ∙ as_named-next (text_outcome hosts state [] text) m.0 m.1
+    ap (λ (p : Came). p.next) m.7 ∙ as_named-next (text_outcome (context hosts state []) text) m.0 m.1 m.2
 part-next hosts budget state (DotLine line) o m = ap (λ (p : Came). p.next) m
 part-next hosts budget state (BadCharacter place) o m = ap (λ (p : Came). p.next) m
 
@@ -72,7 +84,8 @@ Come-only hosts options state (part ∷ parts) (o ∷ os) enough c =
 
 -- whatever the budget, they can
 PartIsAsMeant-Comes : (hosts : HostMeanings) (budget : ℕ) (state : State) (part : Part) (o : Came) → PartIsAsMeant hosts budget state part o → PartComes hosts budget state part o
-PartIsAsMeant-Comes hosts budget state (Statement text) o m = subst (Comes hosts budget state text) (sym m.5) (as_meant m.0 m.1 m.2 m.3 m.4)
+PartIsAsMeant-Comes hosts budget state (Statement text) o m = λ told.
+    subst (Comes budget 0 (context hosts state []) text) (sym m.7) (as_meant m.0 m.1 m.2 m.3 m.4 (omega (arith, m.5)) (omega (arith, m.6)))
 PartIsAsMeant-Comes hosts budget state (DotLine line) o m = m
 PartIsAsMeant-Comes hosts budget state (BadCharacter place) o m = m
 

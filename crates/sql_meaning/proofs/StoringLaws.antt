@@ -22,7 +22,8 @@ use Rattle.eng_value.specs.declared.value.Value.TheVariants as value
 use Rattle.sql_meaning.specs.declared.column.Column.{Column}
 use Rattle.sql_meaning.specs.declared.column.TableEntry.{TableEntry}
 use Rattle.sql_meaning.specs.Binding.{◌>>=◌}
-use Rattle.sql_meaning.specs.Statement.{Item, Row, Failed, good_or_null, item_by, item_of, item_put, no_causes, row_put, row_under, rows_put, stored, with_causes}
+use Rattle.sql_meaning.specs.Statement.{Item, Row, Failed, good_or_null, item_by, item_of, item_put, row_put, row_under, rows_put, stored}
+use Rattle.eng_value.specs.Environments.{no_causes, with_causes}
 use Rattle.sql_meaning.specs.Valid.{AreRowsOf, IsHeldBy, IsRowOf}
 
 -- ---- a value

@@ -1,5 +1,6 @@
 -- States stay valid.
 use Rattle.std.proofs.Common.{◌≡◌, ℕ, suc, List, [], ◌∷◌, ◌++◌, Bool, true, false, cond, length, map, drop, Option, Some, None, Result, Ok, Err, ℤ, nat_eq, if◌then◌else◌, All, codes, refl, sym, ap, ◌∙◌, subst, arith}
+use Rattle.std.specs.Bool.{⊤}
 use Rattle.std.specs.List.{AllZip}
 use Rattle.std.proofs.lemmas.Bool.{eqb-true}
 use Rattle.std.proofs.lemmas.List.{length-map}
@@ -7,26 +8,40 @@ use Rattle.std.proofs.lemmas.List.Elements.{All-cons, All-drop, All-head, All-ni
 use Rattle.std.proofs.lemmas.List.Quantifiers.{all_pairs_push}
 use Rattle.eng_number.specs.Numbers.{fits_integer}
 use Rattle.eng_value.specs.Causes.{CauseSet}
-use Rattle.eng_value.specs.HostMeanings.{HostMeanings}
+use Rattle.eng_value.specs.Environments.{no_causes}
 use Rattle.eng_value.specs.StoredRows.{StoredRow}
 use Rattle.eng_value.specs.declared.cause.Cause.{Cause}
 use Rattle.eng_value.specs.declared.cause.Cause.TheVariants as cause
 use Rattle.eng_value.specs.declared.out.Out.TheVariants.{Good}
 use Rattle.eng_value.specs.declared.value.Value.{Value}
-use Rattle.sql_grammar.specs.Answers.{Answer, Tree, Syntax, TooMuch}
+use Rattle.sql_grammar.specs.Answers.{Answer, Tree, Syntax, TooMuch, place}
+use Rattle.sql_lex.specs.Tokens.{tokens_of}
+use Rattle.sql_tree.specs.Layers.{PartLayer, of_part, of_query}
 use Rattle.sql_tree.specs.declared.expr.Expr.{Expr}
+use Rattle.sql_tree.specs.declared.expr.Expr.TheOpen.{QueryPart-F}
+use Rattle.sql_tree.specs.declared.statement.ColumnDefinition.{ColumnDefinition}
+use Rattle.sql_tree.specs.declared.statement.Command.{Command}
+use Rattle.sql_tree.specs.declared.statement.Command.TheVariants as command
+use Rattle.sql_tree.specs.declared.statement.Definition.{Definition}
+use Rattle.sql_tree.specs.declared.statement.Definition.TheVariants as definition
+use Rattle.sql_tree.specs.declared.statement.Insert.{Insert}
+use Rattle.sql_tree.specs.declared.statement.InsertSource.{InsertSource}
+use Rattle.sql_tree.specs.declared.statement.InsertSource.TheVariants as source
+use Rattle.sql_tree.specs.declared.statement.RowCommand.{RowCommand}
+use Rattle.sql_tree.specs.declared.statement.RowCommand.TheVariants as rows_by
+use Rattle.sql_tree.specs.declared.token.Token.{Token}
 use Rattle.sql_tree.specs.declared.statement.Statement.{Statement}
 use Rattle.sql_meaning.specs.declared.bound.Literal.{Literal}
 use Rattle.sql_meaning.specs.declared.column.TableEntry.{TableEntry}
 use Rattle.sql_meaning.specs.Binding.{◌>>=◌, in_turn}
-use Rattle.sql_meaning.specs.Built.{built_of, signed_of}
+use Rattle.sql_meaning.specs.BoundStatements.{BoundStatement, Creates, Put, Puts, Queries}
+use Rattle.sql_meaning.specs.Built.{is_built, signed_of}
 use Rattle.sql_meaning.specs.Expression.{literal_out}
 use Rattle.sql_meaning.specs.Names.{is_reserved_name, is_same_name}
-use Rattle.sql_meaning.specs.Shapes.{Built, Creates, CreateTable, Insert, Inserts, Selects}
 use Rattle.sql_meaning.specs.Spelled.{name_at}
-use Rattle.sql_meaning.specs.Statement.{Item, Outcome, Put, Row, Failed, all_put, answer_of, answer_outcome, built_outcome, carried_out, causes_of, columns_behind, create_outcome, created_entry, fitting, found_table, given_of, is_free_name, is_new_table, item_of, items_of, last_rowid_of, literal_in, no_causes, outcome_of, put_of, put_outcome, put_source, query_of, query_outcome, row_of, rows_in, rows_put, source_of, table_named, text_outcome, width_of, with_created, within_columns, written}
+use Rattle.sql_meaning.specs.Statement.{Item, Outcome, Row, Failed, all_put, answer_bound, answer_of, bound_outcome, causes_of, columns_behind, command_bound, count_of, create_outcome, created_entry, entry_with, fitting, found_table, given_of, is_free_name, is_new_table, item_of, last_rowid_of, limit_kind, literal_in, outcome_of, part_rows, put_bound, put_outcome, put_source, query_bound, row_of, rows_bound, rows_in, rows_put, source_of, source_rows, table_named, text_bound, text_outcome, where_built, width_of, with_created, within_columns, written}
 use Rattle.sql_meaning.specs.Valid.{AreRowsOf, IsRowOf, IsTable, IsValid}
-use Rattle.sql_meaning.specs.World.{State, entry_named, rows_of, with_rows}
+use Rattle.sql_meaning.specs.World.{Context, State, entry_named, rows_of, with_rows}
 use Rattle.sql_meaning.proofs.NameLaws.{is_same_name-left, is_same_name-refl}
 use Rattle.sql_meaning.proofs.StoringLaws.{AreWide, item_of-good, rows_behind}
 
@@ -112,24 +127,21 @@ free_by false None name u e = refl
 free_by false (Some t) name u e = absurd (cc)
 
 -- the name of a table that is created is free
-pub created-free : (catalog : List TableEntry) (text : List ℕ) (tokens : ℕ) (c : CreateTable) (t : TableEntry) → created_entry catalog text tokens c ≡ Ok t → entry_named catalog t.name ≡ None
-created-free catalog text tokens c t e =
-    let name = name_at text c.name in
-    let free = then-ok (is_free_name catalog name) (λ u. columns_behind text [] c.columns >>= λ columns. Ok (record { name = name; columns = columns; tokens = tokens })) t e in
-    let made = then-ok (columns_behind text [] c.columns) (λ columns. Ok (record { name = name; columns = columns; tokens = tokens })) t free.2 in
+entry-free : (catalog : List TableEntry) (text : List ℕ) (tokens : ℕ) (token : Token) (definitions : List ColumnDefinition) (t : TableEntry) → entry_with catalog text tokens token definitions ≡ Ok t → entry_named catalog t.name ≡ None
+entry-free catalog text tokens token definitions t e =
+    let name = name_at text token in
+    let free = then-ok (is_free_name catalog name) (λ u. columns_behind text [] definitions >>= λ columns. Ok (record { name = name; columns = columns; tokens = tokens })) t e in
+    let made = then-ok (columns_behind text [] definitions) (λ columns. Ok (record { name = name; columns = columns; tokens = tokens })) t free.2 in
     let entry : TableEntry = record { name = name; columns = made.0; tokens = tokens } in
     let same : entry ≡ t = (let both : Ok entry ≡ Ok t = made.2 in cc) in
     ap (entry_named catalog) (sym (ap (λ (x : TableEntry). x.name) same)) ∙ free_by (is_reserved_name name) (entry_named catalog name) name free.0 free.1
 
--- and it is the one that the statement gives
-pub created-named : (catalog : List TableEntry) (text : List ℕ) (tokens : ℕ) (c : CreateTable) (t : TableEntry) → created_entry catalog text tokens c ≡ Ok t → t.name ≡ name_at text c.name
-created-named catalog text tokens c t e =
-    let name = name_at text c.name in
-    let free = then-ok (is_free_name catalog name) (λ u. columns_behind text [] c.columns >>= λ columns. Ok (record { name = name; columns = columns; tokens = tokens })) t e in
-    let made = then-ok (columns_behind text [] c.columns) (λ columns. Ok (record { name = name; columns = columns; tokens = tokens })) t free.2 in
-    let entry : TableEntry = record { name = name; columns = made.0; tokens = tokens } in
-    let same : entry ≡ t = (let both : Ok entry ≡ Ok t = made.2 in cc) in
-    sym (ap (λ (x : TableEntry). x.name) same)
+created-free : (catalog : List TableEntry) (text : List ℕ) (tokens : ℕ) (name : Token) (d : Definition) (t : TableEntry) → created_entry catalog text tokens name d ≡ Ok t → entry_named catalog t.name ≡ None
+created-free catalog text tokens name (definition.Table d) t e = entry-free catalog text tokens name d.columns t e
+created-free catalog text tokens name (definition.Index d) t e = absurd (let bad : Err cause.NotYet ≡ Ok t = e in cc)
+created-free catalog text tokens name (definition.View d) t e = absurd (let bad : Err cause.NotYet ≡ Ok t = e in cc)
+created-free catalog text tokens name (definition.Trigger d) t e = absurd (let bad : Err cause.NotYet ≡ Ok t = e in cc)
+created-free catalog text tokens name (definition.VirtualTable d) t e = absurd (let bad : Err cause.NotYet ≡ Ok t = e in cc)
 
 no_rows : (t : TableEntry) → AreRowsOf t []
 no_rows t = record { ascending = λ i j d l h. absurd (omega arith); each = All-nil (IsRowOf t) }
@@ -178,52 +190,96 @@ fits_by : (t : TableEntry) (rows out : List (List Literal)) (w : ℕ) (b : Bool)
 fits_by t rows out w true is wide e = subst (AreWide (length t.columns)) (let same : rows ≡ out = cc in same) (as_wide_as w (length t.columns) rows wide (eqb-true (width_of rows) (length t.columns) is))
 fits_by t rows out w false is wide e = absurd (cc)
 
--- what an INSERT that is bound is like: the table is found, and the rows are as wide
-pub record IsPut (catalog : List TableEntry) (name : List ℕ) (p : Put) : Type 0 where
-  pub found : entry_named catalog name ≡ Some p.table
+-- a table that is found by a name is found by its own
+pub found-own : (catalog : List TableEntry) (name : List ℕ) (t : TableEntry) → entry_named catalog name ≡ Some t → entry_named catalog t.name ≡ Some t
+found-own catalog name t e = look catalog ∙ e
+  where
+    same : is_same_name t.name name ≡ true
+    same = found-same catalog name t e
+
+    look : (others : List TableEntry) → entry_named others t.name ≡ entry_named others name
+    look [] = refl
+    look (x ∷ others) = ap (λ b. cond b (Some x) (entry_named others t.name)) (is_same_name-left x.name t.name name same) ∙ ap (cond (is_same_name x.name name) (Some x)) (look others)
+
+-- what an INSERT that is bound is like: its table is found, and the rows are as wide
+pub record IsPut (catalog : List TableEntry) (p : Put) : Type 0 where
+  pub found : entry_named catalog p.table.name ≡ Some p.table
   pub wide : AreWide (length p.table.columns) p.rows
 
 found_by : (name : List ℕ) (found : Option TableEntry) (t : TableEntry) → found_table name found ≡ Ok t → found ≡ Some t
 found_by name None t e = absurd (cc)
 found_by name (Some u) t e = cc
 
-pub put-is : (catalog : List TableEntry) (text : List ℕ) (i : Insert) (p : Put) → put_of catalog text i ≡ Ok p → IsPut catalog (name_at text i.table) p
+-- rows of one width
+record OneWidth (rows : List (List Literal)) : Type 0 where
+  width : ℕ
+  wide : AreWide width rows
+
+part-wide : (text : List ℕ) (part : PartLayer) (out : List (List Literal)) → part_rows text part ≡ Ok out → OneWidth out
+part-wide text (QueryPart-F.Values rows) out e = record { width = width_of rows; wide = rows_wide text (width_of rows) rows out e }
+part-wide text (QueryPart-F.Select s) out e = absurd (let bad : Err cause.NotYet ≡ Ok out = e in cc)
+
+source-wide : (text : List ℕ) (s : InsertSource) (out : List (List Literal)) → source_rows text s ≡ Ok out → OneWidth out
+source-wide text (source.Query q) out e = part-wide text (of_part (of_query q).first) out e
+source-wide text source.Defaults out e = absurd (let bad : Err cause.NotYet ≡ Ok out = e in cc)
+
+put-is : (catalog : List TableEntry) (text : List ℕ) (i : Insert) (p : Put) → put_bound catalog text i ≡ Ok p → IsPut catalog p
 put-is catalog text i p e =
     let made : TableEntry → List (List Literal) → Result Put Cause = λ t rows. Ok (record { table = t; rows = rows }) in
-    let table = then-ok (table_named catalog (name_at text i.table)) (λ t. rows_in text i.rows >>= λ rows. fitting t rows >>= made t) p e in
+    let table = then-ok (table_named catalog (name_at text i.table)) (λ t. source_rows text i.source >>= λ rows. fitting t rows >>= made t) p e in
     let t = table.0 in
-    let rows = then-ok (rows_in text i.rows) (λ rows. fitting t rows >>= made t) p table.2 in
+    let rows = then-ok (source_rows text i.source) (λ rows. fitting t rows >>= made t) p table.2 in
     let fits = then-ok (fitting t rows.0) (made t) p rows.2 in
     let put : Put = record { table = t; rows = fits.0 } in
     let same : put ≡ p = (let both : Ok put ≡ Ok p = fits.2 in cc) in
-    subst (IsPut catalog (name_at text i.table)) same (record {
-      found = found_by (name_at text i.table) (entry_named catalog (name_at text i.table)) t table.1;
-      wide = fits_by t rows.0 fits.0 (width_of i.rows) (nat_eq (width_of rows.0) (length t.columns)) refl (rows_wide text (width_of i.rows) i.rows rows.0 rows.1) fits.1;
+    let one = source-wide text i.source rows.0 rows.1 in
+    subst (IsPut catalog) same (record {
+      found = found-own catalog (name_at text i.table) t (found_by (name_at text i.table) (entry_named catalog (name_at text i.table)) t table.1);
+      wide = fits_by t rows.0 fits.0 one.width (nat_eq (width_of rows.0) (length t.columns)) refl one.wide fits.1;
     })
 
--- a row for each that is written
-in_turn-length : (f : List Expr → Result (List Literal) Cause) (rows : List (List Expr)) (out : List (List Literal)) → in_turn f rows ≡ Ok out → length out ≡ length rows
-in_turn-length f [] out e = ap length (let same : [] ≡ out = cc in sym same)
-in_turn-length f (row ∷ rows) out e =
-    let first = then-ok (f row) (λ b. in_turn f rows >>= λ bs. Ok (b ∷ bs)) out e in
-    let others = then-ok (in_turn f rows) (λ bs. Ok (first.0 ∷ bs)) out first.2 in
-    let same : first.0 ∷ others.0 ≡ out = (let both : Ok (first.0 ∷ others.0) ≡ Ok out = others.2 in cc) in
-    sym (ap length same) ∙ ap suc (in_turn-length f rows others.0 others.1)
+-- ---- whatever is bound
 
-fits-same : (rows out : List (List Literal)) (b : Bool) (why : Cause) → (if b then Ok rows else Err why) ≡ Ok out → out ≡ rows
-fits-same rows out true why e = cc
-fits-same rows out false why e = absurd (cc)
+-- a table that is created has a name that is free, and rows that are put fit their table
+abbrev pub FitsIn : List TableEntry → BoundStatement → Type 0
+FitsIn catalog (Creates t) = entry_named catalog t.name ≡ None
+FitsIn catalog (Puts p) = IsPut catalog p
+FitsIn catalog (Queries q) = ⊤
 
-pub put-rows : (catalog : List TableEntry) (text : List ℕ) (i : Insert) (p : Put) → put_of catalog text i ≡ Ok p → length p.rows ≡ length i.rows
-put-rows catalog text i p e =
-    let made : TableEntry → List (List Literal) → Result Put Cause = λ t rows. Ok (record { table = t; rows = rows }) in
-    let table = then-ok (table_named catalog (name_at text i.table)) (λ t. rows_in text i.rows >>= λ rows. fitting t rows >>= made t) p e in
-    let t = table.0 in
-    let rows = then-ok (rows_in text i.rows) (λ rows. fitting t rows >>= made t) p table.2 in
-    let fits = then-ok (fitting t rows.0) (made t) p rows.2 in
-    let put : Put = record { table = t; rows = fits.0 } in
-    let same : put ≡ p = (let both : Ok put ≡ Ok p = fits.2 in cc) in
-    sym (ap (λ (q : Put). length q.rows) same) ∙ ap length (fits-same rows.0 fits.0 (nat_eq (width_of rows.0) (length t.columns)) (cause.Arity t.name) fits.1) ∙ in_turn-length (row_of text (width_of i.rows)) i.rows rows.0 rows.1
+rows-fit : (catalog : List TableEntry) (text : List ℕ) (r : RowCommand) (b : BoundStatement) → rows_bound catalog text r ≡ Ok b → FitsIn catalog b
+rows-fit catalog text (rows_by.Query q) b e =
+    let made = then-ok (query_bound catalog text (of_query q)) (λ query. Ok (Queries query)) b e in
+    let same : Queries made.0 ≡ b = (let both : Ok (Queries made.0) ≡ Ok b = made.2 in cc) in
+    subst (FitsIn catalog) same tt
+rows-fit catalog text (rows_by.Insert i) b e =
+    let made = then-ok (put_bound catalog text i) (λ put. Ok (Puts put)) b e in
+    let same : Puts made.0 ≡ b = (let both : Ok (Puts made.0) ≡ Ok b = made.2 in cc) in
+    subst (FitsIn catalog) same (put-is catalog text i made.0 made.1)
+rows-fit catalog text (rows_by.Update u) b e = absurd (let bad : Err cause.NotYet ≡ Ok b = e in cc)
+rows-fit catalog text (rows_by.Delete d) b e = absurd (let bad : Err cause.NotYet ≡ Ok b = e in cc)
+
+command-fits : (catalog : List TableEntry) (text : List ℕ) (tokens : ℕ) (c : Command) (b : BoundStatement) → command_bound catalog text tokens c ≡ Ok b → FitsIn catalog b
+command-fits catalog text tokens (command.Rows r) b e = rows-fit catalog text r b e
+command-fits catalog text tokens (command.Create c) b e =
+    let made = then-ok (created_entry catalog text tokens c.name c.definition) (λ entry. Ok (Creates entry)) b e in
+    let same : Creates made.0 ≡ b = (let both : Ok (Creates made.0) ≡ Ok b = made.2 in cc) in
+    subst (FitsIn catalog) same (created-free catalog text tokens c.name c.definition made.0 made.1)
+command-fits catalog text tokens (command.Remove r) b e = absurd (let bad : Err cause.NotYet ≡ Ok b = e in cc)
+command-fits catalog text tokens (command.Transaction t) b e = absurd (let bad : Err cause.NotYet ≡ Ok b = e in cc)
+command-fits catalog text tokens (command.Pragma p) b e = absurd (let bad : Err cause.NotYet ≡ Ok b = e in cc)
+
+is-built : (t : Bool) (r : Result BoundStatement Cause) (b : BoundStatement) → where_built t r ≡ Ok b → r ≡ Ok b
+is-built true r b e = e
+is-built false r b e = absurd (let bad : Err cause.NotYet ≡ Ok b = e in cc)
+
+answer-fits : (catalog : List TableEntry) (text : List ℕ) (x : Answer Statement) (b : BoundStatement) → answer_bound catalog text x ≡ Ok b → FitsIn catalog b
+answer-fits catalog text (Tree s) b e =
+    command-fits catalog text (count_of (tokens_of text)) s.command b (is-built (is_built text s) (command_bound catalog text (count_of (tokens_of text)) s.command) b e)
+answer-fits catalog text (Syntax rest) b e = absurd (let bad : Err (cause.Syntax (place (length text) rest)) ≡ Ok b = e in cc)
+answer-fits catalog text (TooMuch l rest) b e = absurd (let bad : Err (cause.Limit (limit_kind l)) ≡ Ok b = e in cc)
+
+pub text-fits : (catalog : List TableEntry) (text : List ℕ) (b : BoundStatement) → text_bound catalog text ≡ Ok b → FitsIn catalog b
+text-fits catalog text b e = answer-fits catalog text (answer_of text) b e
 
 -- so are the good rows of the source
 given_by : (n : ℕ) (row : List Literal) (items : List Item) (i : Item) → ((ws : List Value) → i ≡ Row ws → length ws ≡ n) → AreWide n (given_of items) → AreWide n (given_of (i ∷ items))
@@ -263,28 +319,16 @@ module _ (state : State) (valid : IsValid state) where
 
   -- ---- any statement
 
-  carried_out-valid : {B : Type 0} (f : B → Outcome) (r : Result B Cause) → ((b : B) → r ≡ Ok b → IsValid (f b).next) → IsValid (carried_out state f r).next
-  carried_out-valid f (Ok b) h = h b refl
-  carried_out-valid f (Err why) h = valid
+  outcome-valid : (ctx : Context) (b : BoundStatement) → ctx.state ≡ state → FitsIn state.world.catalog b → IsValid (outcome_of ctx b).next
+  outcome-valid ctx (Creates t) is fits = subst (λ x. IsValid (create_outcome x t).next) (sym is) (create-valid state t fits valid)
+  outcome-valid ctx (Puts p) is fits =
+      subst (λ x. IsValid (put_outcome x p).next) (sym is) (put_source-valid p.table.name p (causes_of (source_of p)) (given_of (source_of p)) fits.found (given_wide (length p.table.columns) p.rows fits.wide))
+  outcome-valid ctx (Queries q) is fits = subst IsValid (sym is) valid
 
-  outcome-valid : (hosts : HostMeanings) (params : List Value) (text : List ℕ) (tokens : ℕ) (st : Built) → IsValid (outcome_of hosts state params text tokens st).next
-  outcome-valid hosts params text tokens (Creates c) =
-      carried_out-valid (create_outcome state) (created_entry state.world.catalog text tokens c) (λ t is. create-valid state t (created-free state.world.catalog text tokens c t is) valid)
-  outcome-valid hosts params text tokens (Inserts i) =
-      carried_out-valid (put_outcome state) (put_of state.world.catalog text i)
-      (λ p is. let put = put-is state.world.catalog text i p is in put_source-valid (name_at text i.table) p (causes_of (source_of p)) (given_of (source_of p)) put.found (given_wide (length p.table.columns) p.rows put.wide))
-  outcome-valid hosts params text tokens (Selects q) =
-      carried_out-valid (λ query. query_outcome state (items_of state params query)) (query_of state.world.catalog text q) (λ query is. valid)
-
-  built-valid : (hosts : HostMeanings) (params : List Value) (text : List ℕ) (b : Option Built) → IsValid (built_outcome hosts state params text b).next
-  built-valid hosts params text None = valid
-  built-valid hosts params text (Some b) = outcome-valid hosts params text _ b
-
-  answer-valid : (hosts : HostMeanings) (params : List Value) (text : List ℕ) (x : Answer Statement) → IsValid (answer_outcome hosts state params text x).next
-  answer-valid hosts params text (Tree s) = built-valid hosts params text (built_of text s)
-  answer-valid hosts params text (Syntax rest) = valid
-  answer-valid hosts params text (TooMuch l rest) = valid
+bound-valid : (ctx : Context) (r : Result BoundStatement Cause) → IsValid ctx.state → ((b : BoundStatement) → r ≡ Ok b → FitsIn ctx.state.world.catalog b) → IsValid (bound_outcome ctx r).next
+bound-valid ctx (Ok b) valid fits = outcome-valid ctx.state valid ctx b refl (fits b refl)
+bound-valid ctx (Err why) valid fits = valid
 
 -- every outcome of a valid state is valid
-pub text_outcome-valid : (hosts : HostMeanings) (state : State) (params : List Value) (text : List ℕ) → IsValid state → IsValid (text_outcome hosts state params text).next
-text_outcome-valid hosts state params text valid = answer-valid state valid hosts params text (answer_of text)
+pub text_outcome-valid : (ctx : Context) (text : List ℕ) → IsValid ctx.state → IsValid (text_outcome ctx text).next
+text_outcome-valid ctx text valid = bound-valid ctx (text_bound ctx.state.world.catalog text) valid (text-fits ctx.state.world.catalog text)

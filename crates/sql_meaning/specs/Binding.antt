@@ -5,13 +5,14 @@ use Rattle.std.specs.List.{find, list_any}
 use Rattle.eng_text.specs.Texts.{folded, place_of}
 use Rattle.eng_value.specs.declared.affinity.Affinity.{Affinity}
 use Rattle.eng_value.specs.declared.affinity.Affinity.TheVariants as affinity
-use Rattle.eng_value.specs.declared.built.Built.{Built}
 use Rattle.eng_value.specs.declared.built.Built.TheVariants as built
 use Rattle.eng_value.specs.Functions.{FunctionKind, FirstKnown, Choice, kind_of}
 use Rattle.eng_value.specs.declared.builtin.Builtin.{Builtin}
 use Rattle.eng_value.specs.declared.cause.Cause.{Cause}
 use Rattle.eng_value.specs.declared.cause.Cause.TheVariants as cause
 use Rattle.eng_value.specs.declared.cause.NameKind.TheVariants as named
+use Rattle.eng_value.specs.declared.collation.Collation.{Collation}
+use Rattle.eng_value.specs.declared.collation.Collation.TheVariants as collation
 use Rattle.eng_value.specs.declared.compare_op.CompareOp.{CompareOp}
 use Rattle.eng_value.specs.declared.compare_op.CompareOp.TheVariants as compare
 use Rattle.eng_value.specs.declared.operators.ArithmeticOp.TheVariants as arithmetic
@@ -76,11 +77,12 @@ pub data Form : Type 0 where
   LeastMagnitude : Form
   Truth : Bool → Form
 
--- an expression whose names are bound: its tree, its affinity, the collation of the leftmost COLLATE in it, its form, and what it is split into at the top of a WHERE
+-- an expression whose names are bound: its tree, its affinity, the collation of the leftmost COLLATE in it, that of the column that it is, its form, and what it is split into at the top of a WHERE
 pub record Bound : Type 0 where
   pub tree : BoundExpr
   pub affinity : Affinity
-  pub collation : Option Built
+  pub explicit : Option Collation
+  pub column : Option Collation
   pub form : Form
   pub conjuncts : List BoundExpr
 
@@ -88,14 +90,27 @@ abbrev pub or_else : {X : Type 0} → Option X → Option X → Option X
 or_else None b = b
 or_else (Some a) b = Some a
 
--- the collation of the first that has one
-abbrev pub first_collation : List Bound → Option Built
-first_collation [] = None
-first_collation (b ∷ rest) = or_else b.collation (first_collation rest)
+-- the collation of the first COLLATE in some
+abbrev pub first_explicit : List Bound → Option Collation
+first_explicit [] = None
+first_explicit (b ∷ rest) = or_else b.explicit (first_explicit rest)
 
--- over these operands, without an affinity
+-- the collation of an operand: that of its COLLATE, else that of the column that it is
+abbrev pub collation_of : Bound → Option Collation
+collation_of b = or_else b.explicit b.column
+
+-- the collation of the first that has one
+abbrev pub first_collation : List Bound → Option Collation
+first_collation [] = None
+first_collation (b ∷ rest) = or_else (collation_of b) (first_collation rest)
+
+abbrev pub by_bytes : Collation
+by_bytes = collation.Built built.Binary
+
+-- over these operands, without an affinity and no column
 abbrev pub over : List Bound → BoundExpr → Bound
-over operands tree = record { tree = tree; affinity = affinity.None; collation = first_collation operands; form = Plain; conjuncts = tree ∷ [] }
+over operands tree =
+    record { tree = tree; affinity = affinity.None; explicit = first_explicit operands; column = None; form = Plain; conjuncts = tree ∷ [] }
 
 abbrev pub tree_of : Bound → BoundExpr
 tree_of b = b.tree
@@ -118,8 +133,9 @@ abbrev pub affinity_in : Option Column → Affinity
 affinity_in None = affinity.None
 affinity_in (Some c) = c.affinity
 
+-- no column is declared with a collation yet, and BINARY is that of each
 abbrev pub column_at : List Column → ℕ → Bound
-column_at columns place = record (over [] (e.Column 0 place)) { affinity = affinity_in (slice_get columns place) }
+column_at columns place = record (over [] (e.Column 0 place)) { affinity = affinity_in (slice_get columns place); column = Some by_bytes }
 
 -- the place of the column of this name
 abbrev pub column_place : List Column → List ℕ → Option ℕ
@@ -157,18 +173,21 @@ abbrev pub negative_bound : Form → Bound → Bound
 negative_bound LeastMagnitude a = over [] (e.Literal (literal.Value (value.Integer (negsuc (2 ^ 63 - 1)))))
 negative_bound _ a = over (a ∷ []) (e.Unary unary.Negative a.tree)
 
--- plus takes an affinity off and leaves the value
+-- plus takes an affinity off, and leaves the value and its column's collation
 abbrev pub unary_bound : UnaryOp → Bound → Bound
 unary_bound sign.Negative a = negative_bound a.form a
-unary_bound sign.Positive a = over (a ∷ []) a.tree
+unary_bound sign.Positive a = record (over (a ∷ []) a.tree) { column = a.column }
 unary_bound sign.BitNot a = over (a ∷ []) (e.Unary unary.BitNot a.tree)
 unary_bound sign.Not a = over (a ∷ []) (e.Unary unary.Not a.tree)
 unary_bound sign.IsNull a = over (a ∷ []) (e.Unary unary.IsNull a.tree)
 unary_bound sign.NotNull a = over (a ∷ []) (e.Unary unary.NotNull a.tree)
 
--- BINARY where neither side has a COLLATE
+-- a COLLATE comes before a column's collation, and of each the left side's first; else it is BINARY
+abbrev pub collation_between : Bound → Bound → Collation
+collation_between a b = unwrap_or (or_else (or_else a.explicit b.explicit) (or_else a.column b.column)) by_bytes
+
 abbrev pub sides_of : Bound → Bound → Sides
-sides_of a b = record { left = a.affinity; right = b.affinity; collation = unwrap_or (or_else a.collation b.collation) built.Binary }
+sides_of a b = record { left = a.affinity; right = b.affinity; collation = collation_between a b }
 
 abbrev pub joined : BinaryOperator → Bound → Bound → Bound
 joined o a b = over (a ∷ b ∷ []) (e.Binary o a.tree b.tree)
@@ -223,23 +242,23 @@ like_bound a b (Some c) = over (a ∷ b ∷ c ∷ []) (e.LikeEscaped a.tree b.tr
 
 -- the others have no affinity and no collation
 abbrev pub member_sides : Bound → Sides
-member_sides a = record { left = a.affinity; right = affinity.None; collation = unwrap_or a.collation built.Binary }
+member_sides a = record { left = a.affinity; right = affinity.None; collation = unwrap_or (collation_of a) by_bytes }
 
 abbrev pub in_bound : Bound → List Bound → Bound
 in_bound a others = over (a ∷ others) (e.In (member_sides a) a.tree (map tree_of others))
 
 -- ---- collations and types
 
-abbrev pub collation_named : List ℕ → Option Built
+abbrev pub collation_named : List ℕ → Option Collation
 collation_named name =
-    if is_same_name name (codes "BINARY") then Some built.Binary else
-    if is_same_name name (codes "NOCASE") then Some built.NoCase else
-    if is_same_name name (codes "RTRIM") then Some built.Rtrim else None
+    if is_same_name name (codes "BINARY") then Some (collation.Built built.Binary) else
+    if is_same_name name (codes "NOCASE") then Some (collation.Built built.NoCase) else
+    if is_same_name name (codes "RTRIM") then Some (collation.Built built.Rtrim) else None
 
 -- it keeps the value and the affinity
-abbrev pub collate_bound : List ℕ → Option Built → Bound → Result Bound Cause
+abbrev pub collate_bound : List ℕ → Option Collation → Bound → Result Bound Cause
 collate_bound name None a = Err (cause.Unknown named.Collation name)
-collate_bound name (Some c) a = Ok (record a { collation = Some c; form = Plain; conjuncts = a.tree ∷ [] })
+collate_bound name (Some c) a = Ok (record a { explicit = Some c; form = Plain; conjuncts = a.tree ∷ [] })
 
 -- some word holds this one
 abbrev pub mentions : List (List ℕ) → List ℕ → Bool
@@ -258,7 +277,7 @@ abbrev pub affinity_of_type : List ℕ → TypeName → Affinity
 affinity_of_type text t = affinity_of_words (map (name_at text) t.words)
 
 abbrev pub cast_bound : Affinity → Bound → Bound
-cast_bound to a = record (over (a ∷ []) (e.Unary (unary.Cast to) a.tree)) { affinity = to }
+cast_bound to a = record (over (a ∷ []) (e.Unary (unary.Cast to) a.tree)) { affinity = to; column = a.column }
 
 -- ---- CASE
 
@@ -306,16 +325,16 @@ takes (count.Between least most) given = nat_le least given && nat_le given most
 takes (count.AtLeast least) given = nat_le least given
 
 -- coalesce and iif look at their arguments in order
-abbrev pub tree_by : FunctionKind → Builtin → Built → List BoundExpr → BoundExpr
+abbrev pub tree_by : FunctionKind → Builtin → Collation → List BoundExpr → BoundExpr
 tree_by FirstKnown f collation args = e.Coalesce args
 tree_by Choice f collation (a ∷ b ∷ c ∷ []) = e.Choose (roll-BoundArm (record { condition = a; value = b }) ∷ []) c
 tree_by other f collation args = e.Call f collation args
 
-abbrev pub call_tree : Builtin → Built → List BoundExpr → BoundExpr
+abbrev pub call_tree : Builtin → Collation → List BoundExpr → BoundExpr
 call_tree f collation args = tree_by (kind_of f) f collation args
 
 abbrev pub call_bound : Builtin → List Bound → Bound
-call_bound f args = over args (call_tree f (unwrap_or (first_collation args) built.Binary) (map tree_of args))
+call_bound f args = over args (call_tree f (unwrap_or (first_collation args) by_bytes) (map tree_of args))
 
 -- a function by its name, as it is called
 abbrev pub builtin_named : List ℕ → Option NamedBuiltin

@@ -1,22 +1,37 @@
--- Which statements are built: where the grammar derives a tree, some of what its expressions may hold is not built yet.
+-- Which statements are built: CREATE TABLE with names and types of columns, INSERT of rows of literals, and SELECT of expressions from
+-- one table or none. What any other holds does not run yet.
 use Rattle.std.specs.Prelude.{ℕ, nat_eq, Bool, true, false, not, ◌&&◌, ◌||◌, if◌then◌else◌, List, [], ◌∷◌, length, Option, Some, None, is_some, codes}
 use Rattle.std.specs.List.{list_all}
 use Rattle.sql_tree.specs.declared.expr.Arguments.{Arguments}
 use Rattle.sql_tree.specs.declared.expr.Arguments.TheVariants as arguments
 use Rattle.sql_tree.specs.Folds.{ExprStep, ArmStep, fold_expr, fold_arm}
-use Rattle.sql_tree.specs.Layers.{ExprLayer, ResultLayer, of_expr, of_result}
+use Rattle.sql_tree.specs.Layers.{ExprLayer, ItemLayer, PartLayer, QueryLayer, ResultLayer, SelectLayer, SourceLayer, of_expr, of_item, of_part, of_query, of_result, of_select, of_source}
 use Rattle.sql_tree.specs.declared.expr.Arm.{Arm}
 use Rattle.sql_tree.specs.declared.expr.Expr.{Expr}
-use Rattle.sql_tree.specs.declared.expr.Expr.TheOpen.{Expr-F, ResultColumn-F}
+use Rattle.sql_tree.specs.declared.expr.Expr.TheOpen.{Expr-F, QueryPart-F, ResultColumn-F, Source-F}
 use Rattle.sql_tree.specs.declared.expr.UnaryOp.{UnaryOp}
 use Rattle.sql_tree.specs.declared.expr.UnaryOp.TheVariants as sign
+use Rattle.sql_tree.specs.declared.query.FromItem.{FromItem}
 use Rattle.sql_tree.specs.declared.query.ResultColumn.{ResultColumn}
+use Rattle.sql_tree.specs.declared.statement.ColumnDefinition.{ColumnDefinition}
+use Rattle.sql_tree.specs.declared.statement.Command.{Command}
+use Rattle.sql_tree.specs.declared.statement.Command.TheVariants as command
+use Rattle.sql_tree.specs.declared.statement.ConflictChoice.{ConflictChoice}
+use Rattle.sql_tree.specs.declared.statement.ConflictChoice.TheVariants as choice
+use Rattle.sql_tree.specs.declared.statement.Create.{Create}
+use Rattle.sql_tree.specs.declared.statement.Definition.{Definition}
+use Rattle.sql_tree.specs.declared.statement.Definition.TheVariants as definition
+use Rattle.sql_tree.specs.declared.statement.Insert.{Insert}
+use Rattle.sql_tree.specs.declared.statement.InsertSource.{InsertSource}
+use Rattle.sql_tree.specs.declared.statement.InsertSource.TheVariants as source
+use Rattle.sql_tree.specs.declared.statement.RowCommand.{RowCommand}
+use Rattle.sql_tree.specs.declared.statement.RowCommand.TheVariants as rows_by
 use Rattle.sql_tree.specs.declared.statement.Statement.{Statement}
+use Rattle.sql_tree.specs.declared.statement.TableDefinition.{TableDefinition}
 use Rattle.sql_tree.specs.declared.token.Token.{Token}
 use Rattle.sql_tree.specs.declared.token.TokenKind.{TokenKind}
 use Rattle.sql_tree.specs.declared.token.TokenKind.TheVariants as kind
 use Rattle.sql_meaning.specs.declared.bound.SignedLiteral.{SignedLiteral}
-use Rattle.sql_meaning.specs.Shapes.{Built, Creates, Inserts, Selects, shape_of}
 use Rattle.sql_meaning.specs.Names.{is_named_in}
 use Rattle.sql_meaning.specs.Spelled.{name_bytes}
 
@@ -109,18 +124,93 @@ signed_of x = literal_of_layer (of_expr x)
 abbrev pub is_signed : Expr → Bool
 is_signed x = is_some (signed_of x)
 
+-- ---- CREATE
+
+abbrev pub is_empty : {A : Type 0} → List A → Bool
+is_empty [] = true
+is_empty (x ∷ xs) = false
+
+-- a name and a type, without a constraint
+abbrev pub is_built_column : ColumnDefinition → Bool
+is_built_column c = is_empty c.constraints
+
+abbrev pub is_built_table : TableDefinition → Bool
+is_built_table t = is_empty t.constraints && list_all is_built_column t.columns
+
+abbrev pub is_built_definition : Definition → Bool
+is_built_definition (definition.Table t) = is_built_table t
+is_built_definition other = false
+
+abbrev pub is_built_create : Create → Bool
+is_built_create c = not c.if_not_exists && is_built_definition c.definition
+
+-- ---- queries
+
+-- no WITH, no compound, no ORDER BY and no LIMIT
+abbrev pub stands_alone : QueryLayer → Bool
+stands_alone q = is_empty q.with && is_empty q.others && is_empty q.order_by && not (is_some q.limit)
+
+-- a table by its name alone
+abbrev pub is_built_source : SourceLayer → Bool
+is_built_source (Source-F.Table t None) = true
+is_built_source (Source-F.Table t (Some arguments)) = false
+is_built_source (Source-F.Derived q) = false
+
+abbrev pub is_built_item : ItemLayer → Bool
+is_built_item item = not (is_some item.alias) && is_built_source (of_source item.source)
+
+-- no item, or one
+abbrev pub is_built_from : List FromItem → Bool
+is_built_from [] = true
+is_built_from (item ∷ []) = is_built_item (of_item item)
+is_built_from (item ∷ other ∷ items) = false
+
+-- no DISTINCT, no GROUP BY and no HAVING
+abbrev pub is_plain_select : SelectLayer → Bool
+is_plain_select s = not s.distinct && is_empty s.group_by && not (is_some s.having)
+
+abbrev pub is_built_select : List ℕ → SelectLayer → Bool
+is_built_select text s = is_plain_select s && is_built_from s.from && list_all (is_built_result text) s.results && is_built_filter text s.filter
+
+abbrev pub is_built_part : List ℕ → PartLayer → Bool
+is_built_part text (QueryPart-F.Select s) = is_built_select text (of_select s)
+is_built_part text (QueryPart-F.Values rows) = false
+
+abbrev pub is_built_query : List ℕ → QueryLayer → Bool
+is_built_query text q = stands_alone q && is_built_part text (of_part q.first)
+
+-- ---- INSERT
+
+abbrev pub are_built_rows : PartLayer → Bool
+are_built_rows (QueryPart-F.Select s) = false
+are_built_rows (QueryPart-F.Values rows) = list_all (list_all is_signed) rows
+
+abbrev pub is_built_values : QueryLayer → Bool
+is_built_values q = stands_alone q && are_built_rows (of_part q.first)
+
+abbrev pub is_built_rows_source : InsertSource → Bool
+is_built_rows_source (source.Query q) = is_built_values (of_query q)
+is_built_rows_source source.Defaults = false
+
+abbrev pub is_abort : ConflictChoice → Bool
+is_abort choice.Abort = true
+is_abort other = false
+
+abbrev pub is_built_insert : Insert → Bool
+is_built_insert i = is_empty i.columns && is_abort i.choice && is_built_rows_source i.source
+
 -- ---- statements
 
--- the expressions of a statement are built
-abbrev pub is_built : List ℕ → Built → Bool
-is_built text (Creates c) = true
-is_built text (Inserts i) = list_all (list_all is_signed) i.rows
-is_built text (Selects s) = list_all (is_built_result text) s.results && is_built_filter text s.filter
+abbrev pub is_built_rows : List ℕ → RowCommand → Bool
+is_built_rows text (rows_by.Query q) = is_built_query text (of_query q)
+is_built_rows text (rows_by.Insert i) = is_built_insert i
+is_built_rows text other = false
 
-abbrev pub where_built : List ℕ → Option Built → Option Built
-where_built text None = None
-where_built text (Some b) = if is_built text b then Some b else None
+abbrev pub is_built_command : List ℕ → Command → Bool
+is_built_command text (command.Rows r) = is_built_rows text r
+is_built_command text (command.Create c) = is_built_create c
+is_built_command text other = false
 
--- a statement of a text, where all of it is built
-abbrev pub built_of : List ℕ → Statement → Option Built
-built_of text s = where_built text (shape_of s)
+-- all of the statement is built
+abbrev pub is_built : List ℕ → Statement → Bool
+is_built text s = not (is_some s.explain) && is_built_command text s.command

@@ -4,17 +4,20 @@ use Rattle.std.proofs.Common.{rules}
 use Rattle.eng_value.specs.Applied.{plain, unary_of, binary_of, member_of}
 use Rattle.eng_value.specs.Casts.{beside}
 use Rattle.eng_value.specs.Comparisons.{comparison_of, like_escaped_of}
-use Rattle.eng_value.specs.Environments.{Environment}
+use Rattle.eng_value.specs.Causes.{only}
+use Rattle.eng_value.specs.Environments.{Environment, ItemRow, bad_row, environment, table_row}
+use Rattle.eng_value.specs.HostMeanings.{no_hosts, nobody}
 use Rattle.eng_value.specs.Truths.{and_of, choice_of, truth_of}
 use Rattle.eng_value.specs.declared.builtin.Builtin.{Builtin}
-use Rattle.eng_value.specs.declared.built.Built.{Built}
+use Rattle.eng_value.specs.Collations.{keys_of}
+use Rattle.eng_value.specs.declared.collation.Collation.{Collation}
 use Rattle.eng_value.specs.declared.cause.Cause.TheVariants as cause
 use Rattle.eng_value.specs.declared.compare_op.CompareOp.TheVariants as compare
 use Rattle.eng_value.specs.declared.operators.BinaryOperator.{BinaryOperator}
 use Rattle.eng_value.specs.declared.operators.BinaryOperator.TheVariants as binary
 use Rattle.eng_value.specs.declared.operators.Sides.{Sides}
 use Rattle.eng_value.specs.declared.operators.UnaryOperator.{UnaryOperator}
-use Rattle.eng_value.specs.declared.out.Out.TheVariants.{Good}
+use Rattle.eng_value.specs.declared.out.Out.TheVariants.{Good, Bad}
 use Rattle.eng_value.specs.declared.value.Value.{Value}
 use Rattle.eng_value.specs.declared.value.Value.TheVariants as value
 use Rattle.sql_meaning.specs.declared.bound.BoundArm.{BoundArm, roll-BoundArm}
@@ -37,18 +40,18 @@ value_of-Parameter number env = search (rules, the_lemmas)
 pub value_of-Unary : (op : UnaryOperator) (a : BoundExpr) (env : Environment) → value_of (e.Unary op a) env ≡ unary_of op (value_of a env)
 value_of-Unary op a env = search (rules, the_lemmas)
 
-pub value_of-Binary : (op : BinaryOperator) (a b : BoundExpr) (env : Environment) → value_of (e.Binary op a b) env ≡ binary_of op (value_of a env) (value_of b env)
+pub value_of-Binary : (op : BinaryOperator) (a b : BoundExpr) (env : Environment) → value_of (e.Binary op a b) env ≡ binary_of (keys_of env.hosts) op (value_of a env) (value_of b env)
 value_of-Binary op a b env = search (rules, the_lemmas)
 
 pub value_of-LikeEscaped : (a b c : BoundExpr) (env : Environment) → value_of (e.LikeEscaped a b c) env ≡ like_escaped_of (value_of a env) (value_of b env) (value_of c env)
 value_of-LikeEscaped a b c env = search (rules, the_lemmas)
 
 pub value_of-Between : (above below : Sides) (a low high : BoundExpr) (env : Environment)
-    → value_of (e.Between above below a low high) env ≡ between_of above below (value_of a env) (value_of low env) (value_of high env)
+    → value_of (e.Between above below a low high) env ≡ between_of (keys_of env.hosts) above below (value_of a env) (value_of low env) (value_of high env)
 value_of-Between above below a low high env = search (rules, the_lemmas)
 
 pub value_of-In : (sides : Sides) (a : BoundExpr) (others : List BoundExpr) (env : Environment)
-    → value_of (e.In sides a others) env ≡ member_of sides (value_of a env) (in_all (map value_of others) env)
+    → value_of (e.In sides a others) env ≡ member_of (keys_of env.hosts) sides (value_of a env) (in_all (map value_of others) env)
 value_of-In sides a others env = search (rules, the_lemmas)
 
 pub value_of-Coalesce : (es : List BoundExpr) (env : Environment) → value_of (e.Coalesce es) env ≡ first_known (in_all (map value_of es) env)
@@ -62,8 +65,8 @@ pub value_of-Match : (a : BoundExpr) (arms : List BoundMatch) (otherwise : Bound
     → value_of (e.Match a arms otherwise) env ≡ matched_in env (value_of a env) (map match_of arms) (value_of otherwise env)
 value_of-Match a arms otherwise env = search (rules, the_lemmas)
 
-pub value_of-Call : (f : Builtin) (collation : Built) (args : List BoundExpr) (env : Environment)
-    → value_of (e.Call f collation args) env ≡ function_of f collation (in_all (map value_of args) env)
+pub value_of-Call : (f : Builtin) (collation : Collation) (args : List BoundExpr) (env : Environment)
+    → value_of (e.Call f collation args) env ≡ function_of (keys_of env.hosts) f collation (in_all (map value_of args) env)
 value_of-Call f collation args env = search (rules, the_lemmas)
 
 pub arm_of-is : (condition shown : BoundExpr) → arm_of (roll-BoundArm (record { condition = condition; value = shown })) ≡ record { condition = value_of condition; value = value_of shown }
@@ -74,8 +77,11 @@ match_of-is sides operand shown = search (rules, the_lemmas)
 
 -- ---- examples
 
+abbrev at_rows : List ItemRow → Environment
+at_rows rows = environment (record { params = []; hosts = no_hosts; world = []; ask = nobody }) [] [] rows
+
 abbrev one_row : List Value → Environment
-one_row row = record { rows = row ∷ []; arguments = []; params = [] }
+one_row row = at_rows (table_row (record { rowid = pos 1; values = row }) ∷ [])
 
 abbrev number : ℕ → BoundExpr
 number n = e.Literal (literal.Value (value.Integer (pos n)))
@@ -101,3 +107,7 @@ the_first_arm_decides = rw (value_of-Choose, arm_of-is, value_of-Literal, value_
 -- coalesce(2, 1.5)
 the_first_decides : value_of (e.Coalesce (number 2 ∷ real ∷ [])) (one_row []) ≡ Good (value.Integer (pos 2))
 the_first_decides = rw (value_of-Coalesce, value_of-Literal) refl
+
+-- a column of a row that could not be made
+a_bad_row_is_bad : value_of (e.Column 0 1) (at_rows (bad_row 2 (only cause.Overflow) ∷ [])) ≡ Bad (only cause.Overflow)
+a_bad_row_is_bad = rw value_of-Column refl

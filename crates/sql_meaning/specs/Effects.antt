@@ -20,6 +20,13 @@ AreDrawn rows (r ∷ new) = IsOneMore rows r.rowid × AreDrawn (rows ++ r ∷ []
 abbrev pub IsFull : List StoredRow → Type 0
 IsFull rows = Any (λ (r : StoredRow). r.rowid ≡ MAX_ROWID) rows
 
+-- Nothing else of a state is changed than the world and the counts.
+pub record KeepsRest (old new : State) : Type 0 where
+  pub transaction : new.transaction ≡ old.transaction
+  pub in_flight : new.in_flight ≡ old.in_flight
+  pub commit_answers : new.commit_answers ≡ old.commit_answers
+  pub recursive_triggers : new.recursive_triggers ≡ old.recursive_triggers
+
 -- The table of this name has so many rows more, behind the others, which stay in their order; no other table is changed.
 pub record AddsRows (state : State) (name : List ℕ) (given : ℕ) (o : Outcome) : Type 0 where
   pub table : TableEntry
@@ -30,7 +37,7 @@ pub record AddsRows (state : State) (name : List ℕ) (given : ℕ) (o : Outcome
   pub behind : rows_of o.next.world.tables table.name ≡ rows_of state.world.tables table.name ++ new
   pub drawn : AreDrawn (rows_of state.world.tables table.name) new
   pub count : length new ≡ given
-  pub stack : o.next.stack ≡ state.stack
+  pub rest : KeepsRest state o.next
   pub changed : o.changed ≡ given
   pub changes : o.next.changes ≡ given
   pub last_rowid : o.next.last_rowid ≡ last_rowid_of state.last_rowid new
@@ -43,7 +50,7 @@ pub record AddsTable (state : State) (name : List ℕ) (o : Outcome) : Type 0 wh
   pub catalog : o.next.world.catalog ≡ state.world.catalog ++ table ∷ []
   pub rows : rows_of o.next.world.tables name ≡ []
   pub others : (other : List ℕ) → is_same_name name other ≡ false → rows_of o.next.world.tables other ≡ rows_of state.world.tables other
-  pub stack : o.next.stack ≡ state.stack
+  pub rest : KeepsRest state o.next
   pub changed : o.changed ≡ 0
   pub changes : o.next.changes ≡ state.changes
   pub last_rowid : o.next.last_rowid ≡ state.last_rowid

@@ -17,11 +17,12 @@ use Rattle.sql_lex.specs.Tokens.{tokens_of}
 use Rattle.sql_meaning.specs.Spelled.{the_text_test}
 use Rattle.sql_meaning.specs.declared.bound.Literal.{Literal}
 use Rattle.sql_meaning.specs.declared.bound.Literal.TheVariants as literal
-use Rattle.sql_meaning.specs.Statement.{Outcome, Put, put_outcome, text_outcome}
-use Rattle.sql_meaning.specs.World.{State, new_state}
+use Rattle.sql_meaning.specs.BoundStatements.{Put}
+use Rattle.sql_meaning.specs.Statement.{Outcome, put_outcome, text_outcome}
+use Rattle.sql_meaning.specs.World.{State, context, new_state}
 
 abbrev run : State → List ℕ → Outcome
-run state text = text_outcome no_hosts state [] text
+run state text = text_outcome (context no_hosts state []) text
 
 -- ---- CREATE TABLE and INSERT
 

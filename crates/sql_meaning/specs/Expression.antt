@@ -1,14 +1,15 @@
 -- What an expression comes to in an environment: a value, or causes.
 use Rattle.std.specs.Prelude.{ℕ, zero, suc, List, [], ◌∷◌, map, slice_index_or}
-use Rattle.eng_key.specs.Values.{value_key}
+use Rattle.eng_key.specs.Values.{value_keys}
 use Rattle.eng_value.specs.Applied.{unary_of, binary_of, member_of, or_else, function_by}
 use Rattle.eng_value.specs.Comparisons.{comparison_of, like_escaped_of}
-use Rattle.eng_value.specs.Environments.{Environment}
+use Rattle.eng_value.specs.Collations.{Keys, keys_of}
+use Rattle.eng_value.specs.Environments.{Environment, column_of, row_at}
 use Rattle.eng_value.specs.Operators.{made}
 use Rattle.eng_value.specs.Outs.{bad}
 use Rattle.eng_value.specs.Truths.{and_of, choice_of}
 use Rattle.eng_value.specs.declared.builtin.Builtin.{Builtin}
-use Rattle.eng_value.specs.declared.built.Built.{Built}
+use Rattle.eng_value.specs.declared.collation.Collation.{Collation}
 use Rattle.eng_value.specs.declared.compare_op.CompareOp.TheVariants as compare
 use Rattle.eng_value.specs.declared.operators.Sides.{Sides}
 use Rattle.eng_value.specs.declared.out.Out.{Out}
@@ -32,9 +33,9 @@ abbrev pub literal_out : Literal → Out
 literal_out (literal.Value v) = Good v
 literal_out (literal.Bad why) = bad why
 
--- a column of the row of an item; NULL where there is none
+-- a column of the row of an item, bad where the row is; NULL where there is none
 abbrev pub column_of_item : Environment → ℕ → ℕ → Out
-column_of_item env item place = Good (slice_index_or (slice_index_or env.rows item []) place value.Null)
+column_of_item env item place = column_of (row_at env item) place
 
 -- the parameter of this number, from 1 on: one that is missing is NULL, and one that is too long is bad
 abbrev pub parameter_of : List Value → ℕ → Out
@@ -65,15 +66,15 @@ pub record MatchArm : Type 0 where
 abbrev pub matched_in : Environment → Out → List MatchArm → Out → Out
 matched_in env a [] otherwise = otherwise
 matched_in env a (arm ∷ arms) otherwise =
-    choice_of (comparison_of compare.Eq arm.sides a (arm.operand env)) (arm.value env) (matched_in env a arms otherwise)
+    choice_of (comparison_of (keys_of env.hosts) compare.Eq arm.sides a (arm.operand env)) (arm.value env) (matched_in env a arms otherwise)
 
 -- ---- all of them
 
-abbrev pub between_of : Sides → Sides → Out → Out → Out → Out
-between_of above below a low high = and_of (comparison_of compare.Ge above a low) (comparison_of compare.Le below a high)
+abbrev pub between_of : Keys → Sides → Sides → Out → Out → Out → Out
+between_of keys above below a low high = and_of (comparison_of keys compare.Ge above a low) (comparison_of keys compare.Le below a high)
 
-abbrev pub function_of : Builtin → Built → List Out → Out
-function_of f collation args = function_by value_key f collation args
+abbrev pub function_of : Keys → Builtin → Collation → List Out → Out
+function_of keys f collation args = function_by (value_keys keys) f collation args
 
 abbrev pub in_all : List Meaning → Environment → List Out
 in_all es env = map (λ e. e env) es
@@ -83,14 +84,14 @@ value_step (BoundExpr-F.Literal l) env = literal_out l
 value_step (BoundExpr-F.Column item place) env = column_of_item env item place
 value_step (BoundExpr-F.Parameter number) env = parameter_of env.params number
 value_step (BoundExpr-F.Unary op a) env = unary_of op (a env)
-value_step (BoundExpr-F.Binary op a b) env = binary_of op (a env) (b env)
+value_step (BoundExpr-F.Binary op a b) env = binary_of (keys_of env.hosts) op (a env) (b env)
 value_step (BoundExpr-F.LikeEscaped a b c) env = like_escaped_of (a env) (b env) (c env)
-value_step (BoundExpr-F.Between above below a low high) env = between_of above below (a env) (low env) (high env)
-value_step (BoundExpr-F.In sides a others) env = member_of sides (a env) (in_all others env)
+value_step (BoundExpr-F.Between above below a low high) env = between_of (keys_of env.hosts) above below (a env) (low env) (high env)
+value_step (BoundExpr-F.In sides a others) env = member_of (keys_of env.hosts) sides (a env) (in_all others env)
 value_step (BoundExpr-F.Coalesce es) env = first_known (in_all es env)
 value_step (BoundExpr-F.Choose arms otherwise) env = chosen_in env arms (otherwise env)
 value_step (BoundExpr-F.Match a arms otherwise) env = matched_in env (a env) arms (otherwise env)
-value_step (BoundExpr-F.Call f collation args) env = function_of f collation (in_all args env)
+value_step (BoundExpr-F.Call f collation args) env = function_of (keys_of env.hosts) f collation (in_all args env)
 
 abbrev pub arm_step : BoundArm-F Meaning Arm MatchArm → Arm
 arm_step arm = record { condition = arm.condition; value = arm.value }

@@ -1,10 +1,10 @@
 -- in the order in which they are read
 pub mod Names
 pub mod Spelled
+pub mod BoundStatements
 pub mod World
 pub mod Valid
 pub mod Binding
-pub mod Shapes
 pub mod Built
 pub mod Expression
 pub mod Clauses
@@ -12,6 +12,7 @@ pub mod Statement
 pub mod Effects
 pub mod Work
 pub mod Sizes
+pub mod Named
 pub mod Parts
 pub mod Segments
 pub mod Script

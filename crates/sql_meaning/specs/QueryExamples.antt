@@ -1,5 +1,5 @@
 -- Queries with what they give, computed by the definitions.
-use Rattle.std.specs.Prelude.{◌≡◌, [], ◌∷◌, negsuc, Some, None, Ok, codes, refl}
+use Rattle.std.specs.Prelude.{◌≡◌, [], ◌∷◌, negsuc, true, None, Ok, codes, refl}
 use Rattle.std.proofs.Common.{rules}
 use Rattle.sql_tree.specs.declared.expr.Expr.{the_lemmas}
 use Rattle.sql_tree.specs.declared.query.Query.{roll-Query}
@@ -8,7 +8,7 @@ use Rattle.sql_tree.specs.declared.statement.Command.TheVariants as command
 use Rattle.sql_tree.specs.declared.statement.ConflictChoice.TheVariants as choice
 use Rattle.sql_tree.specs.declared.statement.InsertSource.TheVariants as source
 use Rattle.sql_tree.specs.declared.statement.RowCommand.TheVariants as rows_by
-use Rattle.sql_meaning.specs.Shapes.{Inserts, shape_of}
+use Rattle.sql_meaning.specs.Built.{is_built}
 use Rattle.sql_tree.specs.declared.expr.Expr.TheVariants as e
 use Rattle.sql_tree.specs.declared.expr.UnaryOp.TheVariants as sign
 use Rattle.sql_tree.specs.declared.token.Token.{Token}
@@ -29,6 +29,6 @@ the_least_integer : bound_of (e.Unary sign.Negative (e.Literal number_at)) witho
 the_least_integer = rw (bound_of-Unary, bound_of-Literal) refl
 
 -- INSERT INTO t VALUES(a)
-an_insert : (t a : Token) → shape_of (record { explain = None; command = command.Rows (rows_by.Insert (record { choice = choice.Abort; table = t; columns = []; source = source.Query (roll-Query (record { with = []; first = part.Values ((e.Literal a ∷ []) ∷ []); others = []; order_by = []; limit = None })) })) })
-    ≡ Some (Inserts (record { table = t; rows = (e.Literal a ∷ []) ∷ [] }))
+an_insert : (t a : Token) → is_built [] (record { explain = None; command = command.Rows (rows_by.Insert (record { choice = choice.Abort; table = t; columns = []; source = source.Query (roll-Query (record { with = []; first = part.Values ((e.Literal a ∷ []) ∷ []); others = []; order_by = []; limit = None })) })) })
+    ≡ true
 an_insert t a = search (rules, the_lemmas)

@@ -1,5 +1,5 @@
 -- What a script writes, and its status.
-use Rattle.std.specs.Prelude.{◌≡◌, ◌≤◌, ◌<◌, ℕ, List, [], ◌∷◌, ◌++◌, Bool, true, false, ◌&&◌, ◌||◌, if◌then◌else◌, map, sum_by, is_some, Some, None, codes}
+use Rattle.std.specs.Prelude.{◌≡◌, ◌≤◌, ◌<◌, ◌+◌, ℕ, List, [], ◌∷◌, ◌++◌, Bool, true, false, ◌&&◌, ◌||◌, if◌then◌else◌, map, sum_by, is_some, Some, None, codes}
 use Rattle.std.specs.List.{flat_map, list_any, join_with_byte}
 use Rattle.std.specs.Fmt.{decimal, signed_decimal}
 use Rattle.std.specs.declared.option.Option.{Option}
@@ -15,9 +15,10 @@ use Rattle.sql_meaning.specs.declared.script.Failure.{Failure}
 use Rattle.sql_meaning.specs.declared.script.Failure.TheVariants.{Refused, UnknownDotLine, NotUtf8}
 use Rattle.sql_meaning.specs.declared.script.Options.{Options}
 use Rattle.sql_meaning.specs.Parts.{Part, Statement, DotLine, BadCharacter, parts_of}
-use Rattle.sql_meaning.specs.Statement.{IsNamed, Outcome, text_outcome}
+use Rattle.sql_meaning.specs.Named.{TextIsTold}
+use Rattle.sql_meaning.specs.Statement.{IsNamed, MayGive, Outcome, text_outcome}
 use Rattle.sql_meaning.specs.Work.{instruction_bound}
-use Rattle.sql_meaning.specs.World.{State, new_state}
+use Rattle.sql_meaning.specs.World.{Context, State, context, new_state}
 
 -- ---- what a part of a script comes to
 
@@ -28,28 +29,28 @@ pub record Came : Type 0 where
   pub ran : ℕ
   pub next : State
 
-abbrev pub as_named : Outcome → Option Cause → ℕ → Came
-as_named o None ran = record { failure = None; given = o.given; ran = ran; next = o.next }
-as_named o (Some why) ran = record { failure = Some (Refused why); given = o.given; ran = ran; next = o.next }
+abbrev pub as_named : Outcome → Option Cause → List (List Value) → ℕ → Came
+as_named o None rows ran = record { failure = None; given = rows; ran = ran; next = o.next }
+as_named o (Some why) rows ran = record { failure = Some (Refused why); given = rows; ran = ran; next = o.next }
 
 -- a statement that used its budget up gave a front of its rows, and changed nothing
-abbrev pub interrupted : State → ℕ → List (List Value) → Came
-interrupted state budget front = record { failure = Some (Refused (Interrupted budget)); given = front; ran = budget; next = state }
+abbrev pub interrupted : State → ℕ → List (List Value) → ℕ → Came
+interrupted state budget front ran = record { failure = Some (Refused (Interrupted budget)); given = front; ran = ran; next = state }
 
 -- nothing but an error line
 abbrev pub failed : State → Failure → Came
 failed state why = record { failure = Some why; given = []; ran = 0; next = state }
 
--- a statement comes to what it means, within its budget and within what its size and its work need; or the budget is reached, which is less than they need: then it is interrupted behind a front of its rows
-pub data Comes (hosts : HostMeanings) (budget : ℕ) (state : State) (text : List ℕ) : Came → Type 0 where
-  as_meant : (why : Option Cause) (ran : ℕ) → IsNamed (text_outcome hosts state [] text).refusal why → ran ≤ budget → ran ≤ instruction_bound state text
-      → Comes hosts budget state text (as_named (text_outcome hosts state [] text) why ran)
-  cut_off : (front rest : List (List Value)) → front ++ rest ≡ (text_outcome hosts state [] text).given → budget < instruction_bound state text
-      → Comes hosts budget state text (interrupted state budget front)
+-- a statement comes to what it means, within its budget and within what its size and its work need, counted from its opening, when `before` instructions had been run; or the budget is reached, which is less than they need: then it is interrupted behind a front of its rows
+pub data Comes (budget before : ℕ) (ctx : Context) (text : List ℕ) : Came → Type 0 where
+  as_meant : (why : Option Cause) (rows : List (List Value)) (ran : ℕ) → IsNamed (text_outcome ctx text).refusal why → MayGive (text_outcome ctx text) rows
+      → before + ran ≤ budget → before + ran ≤ instruction_bound ctx text → Comes budget before ctx text (as_named (text_outcome ctx text) why rows ran)
+  cut_off : (rows front rest : List (List Value)) (ran : ℕ) → MayGive (text_outcome ctx text) rows → front ++ rest ≡ rows
+      → before + ran ≡ budget → budget < instruction_bound ctx text → Comes budget before ctx text (interrupted ctx.state budget front ran)
 
--- so far each dot line is unknown
+-- a statement that names only hosts that tell comes to something; so far each dot line is unknown
 abbrev pub PartComes : HostMeanings → ℕ → State → Part → Came → Type 0
-PartComes hosts budget state (Statement text) o = Comes hosts budget state text o
+PartComes hosts budget state (Statement text) o = TextIsTold (context hosts state []) text → Comes budget 0 (context hosts state []) text o
 PartComes hosts budget state (DotLine line) o = o ≡ failed state UnknownDotLine
 PartComes hosts budget state (BadCharacter place) o = o ≡ failed state (NotUtf8 place)
 

@@ -7,8 +7,7 @@ use Rattle.eng_number.specs.Numbers.{fits_integer}
 use Rattle.eng_value.specs.Applied.{merged}
 use Rattle.eng_value.specs.Casts.{store_as}
 use Rattle.eng_value.specs.Causes.{CauseSet, has_cause, only}
-use Rattle.eng_value.specs.Environments.{Environment}
-use Rattle.eng_value.specs.HostMeanings.{HostMeanings}
+use Rattle.eng_value.specs.Environments.{Environment, ItemRow, carried, ignoring, no_causes, table_row, with_causes}
 use Rattle.eng_value.specs.StoredRows.{StoredRow, next_rowid}
 use Rattle.eng_value.specs.Truths.{truth_in, truth_of}
 use Rattle.eng_value.specs.declared.affinity.Affinity.{Affinity}
@@ -19,6 +18,7 @@ use Rattle.eng_value.specs.declared.cause.LimitKind.{LimitKind}
 use Rattle.eng_value.specs.declared.cause.LimitKind.TheVariants as limit
 use Rattle.eng_value.specs.declared.cause.NameKind.TheVariants as named
 use Rattle.eng_value.specs.declared.limits.TheConstants.{MAX_COLUMNS}
+use Rattle.eng_value.specs.declared.modules.RowOp.{RowOp}
 use Rattle.eng_value.specs.declared.out.Out.{Out}
 use Rattle.eng_value.specs.declared.out.Out.TheVariants.{Good, Bad}
 use Rattle.eng_value.specs.declared.truth.Truth.{Truth}
@@ -34,11 +34,21 @@ use Rattle.sql_lex.specs.Tokens.{slice_of, tokens_of}
 use Rattle.sql_tree.specs.declared.expr.Expr.{Expr}
 use Rattle.sql_tree.specs.declared.expr.TypeName.{TypeName}
 use Rattle.sql_tree.specs.declared.statement.ColumnDefinition.{ColumnDefinition}
-use Rattle.sql_tree.specs.declared.expr.Expr.TheOpen.{ResultColumn-F}
+use Rattle.sql_tree.specs.declared.statement.Command.{Command}
+use Rattle.sql_tree.specs.declared.statement.Command.TheVariants as command
+use Rattle.sql_tree.specs.declared.statement.Definition.{Definition}
+use Rattle.sql_tree.specs.declared.statement.Definition.TheVariants as definition
+use Rattle.sql_tree.specs.declared.statement.Insert.{Insert}
+use Rattle.sql_tree.specs.declared.statement.InsertSource.{InsertSource}
+use Rattle.sql_tree.specs.declared.statement.InsertSource.TheVariants as source
+use Rattle.sql_tree.specs.declared.statement.RowCommand.{RowCommand}
+use Rattle.sql_tree.specs.declared.statement.RowCommand.TheVariants as rows_by
+use Rattle.sql_tree.specs.declared.expr.Expr.TheOpen.{QueryPart-F, ResultColumn-F, Source-F}
+use Rattle.sql_tree.specs.declared.query.FromItem.{FromItem as SyntaxItem}
 use Rattle.sql_tree.specs.declared.query.ResultColumn.{ResultColumn}
 use Rattle.sql_tree.specs.declared.statement.Statement.{Statement}
 use Rattle.sql_tree.specs.Kinds.{same_kind}
-use Rattle.sql_tree.specs.Layers.{ResultLayer, of_result}
+use Rattle.sql_tree.specs.Layers.{PartLayer, QueryLayer, ResultLayer, SelectLayer, SourceLayer, of_item, of_part, of_query, of_result, of_select, of_source}
 use Rattle.sql_tree.specs.declared.token.Token.{Token}
 use Rattle.sql_tree.specs.declared.token.TokenKind.TheVariants as kind
 use Rattle.sql_meaning.specs.declared.bound.BoundExpr.{BoundExpr}
@@ -48,33 +58,40 @@ use Rattle.sql_meaning.specs.declared.bound.Literal.TheVariants as literal
 use Rattle.sql_meaning.specs.declared.column.Column.{Column}
 use Rattle.sql_meaning.specs.declared.column.TableEntry.{TableEntry}
 use Rattle.sql_meaning.specs.Binding.{◌>>=◌, in_turn, Scope, bound_of, affinity_of_type}
-use Rattle.sql_meaning.specs.Built.{built_of, signed_of}
-use Rattle.sql_meaning.specs.Shapes.{Built, Creates, Inserts, Selects, CreateTable, Insert, Select}
+use Rattle.sql_meaning.specs.BoundStatements.{BoundStatement, Creates, FromItem, Put, Puts, Queries, Query}
+use Rattle.sql_meaning.specs.Built.{is_built, signed_of}
 use Rattle.sql_meaning.specs.declared.bound.SignedLiteral.{SignedLiteral}
 use Rattle.sql_meaning.specs.Expression.{value_of, literal_out}
 use Rattle.sql_meaning.specs.Names.{is_same_name, is_reserved_name}
 use Rattle.sql_meaning.specs.Spelled.{name_at, literal_at, is_least_magnitude}
-use Rattle.sql_meaning.specs.World.{State, entry_named, rows_of, with_rows}
+use Rattle.sql_meaning.specs.World.{Context, State, entry_named, environment_at, rows_of, with_rows}
 
--- what a statement means: the causes why it is refused, if it is, any of which may be named; the rows that it gives, how many rows it changes, and what the connection then holds
+-- a row that the update hook is told of
+pub record Told : Type 0 where
+  pub change : RowOp
+  pub table : List ℕ
+  pub rowid : ℤ
+
+-- what a statement means: the causes why it is refused, if it is, any of which may be named; the rows that it gives, unless these are those of its plan, which are no part of the meaning; what the update hook is told; how many rows it changes, and what the connection then holds
 pub record Outcome : Type 0 where
   pub refusal : Option CauseSet
   pub given : List (List Value)
+  pub shows_plan : Bool
+  pub told : List Told
   pub changed : ℕ
   pub next : State
 
+-- a statement that does nothing
+abbrev pub nothing : State → Outcome
+nothing state = record { refusal = None; given = []; shows_plan = false; told = []; changed = 0; next = state }
+
 -- a refused statement gives nothing and changes nothing
 abbrev pub refused : State → CauseSet → Outcome
-refused state causes = record { refusal = Some causes; given = []; changed = 0; next = state }
+refused state causes = record (nothing state) { refusal = Some causes }
 
 -- a query, or a change of the catalog
 abbrev pub done : List (List Value) → State → Outcome
-done given next = record { refusal = None; given = given; changed = 0; next = next }
-
--- what was bound leads to an outcome
-abbrev pub carried_out : {B : Type 0} → State → (B → Outcome) → Result B Cause → Outcome
-carried_out state outcome (Ok b) = outcome b
-carried_out state outcome (Err why) = refused state (only why)
+done given next = record (nothing next) { given = given }
 
 -- ---- tables
 
@@ -128,11 +145,16 @@ is_new_table (Some t) = Err (cause.Exists named.Table t.name)
 abbrev pub is_free_name : List TableEntry → List ℕ → Result (Unit {0}) Cause
 is_free_name catalog name = if is_reserved_name name then Err (cause.Reserved name) else is_new_table (entry_named catalog name)
 
--- the entry of the new table, whose CREATE TABLE has so many tokens
-abbrev pub created_entry : List TableEntry → List ℕ → ℕ → CreateTable → Result TableEntry Cause
-created_entry catalog text tokens c =
-    is_free_name catalog (name_at text c.name) >>= λ u. columns_behind text [] c.columns >>= λ columns.
-    Ok (record { name = name_at text c.name; columns = columns; tokens = tokens })
+-- the entry of a new table of these columns, whose CREATE TABLE has so many tokens
+abbrev pub entry_with : List TableEntry → List ℕ → ℕ → Token → List ColumnDefinition → Result TableEntry Cause
+entry_with catalog text tokens name definitions =
+    is_free_name catalog (name_at text name) >>= λ u. columns_behind text [] definitions >>= λ columns.
+    Ok (record { name = name_at text name; columns = columns; tokens = tokens })
+
+-- of what else CREATE makes nothing is built
+abbrev pub created_entry : List TableEntry → List ℕ → ℕ → Token → Definition → Result TableEntry Cause
+created_entry catalog text tokens name (definition.Table t) = entry_with catalog text tokens name t.columns
+created_entry catalog text tokens name other = Err cause.NotYet
 
 -- the state with one more table, which has no row
 abbrev pub with_created : State → TableEntry → State
@@ -156,15 +178,9 @@ abbrev pub item_by : List Out → Out → Item
 item_by outs (Good v) = Row (map good_or_null outs)
 item_by outs (Bad causes) = Failed causes
 
-abbrev pub with_causes : Out → Out → Out
-with_causes causes out = merged out causes
-
 -- bad for the causes that are there already, and for those of all columns
 abbrev pub item_of : Out → List Out → Item
 item_of causes outs = item_by outs (fold with_causes causes outs)
-
-abbrev pub no_causes : Out
-no_causes = Good value.Null
 
 -- the good items in front of the first bad one
 abbrev pub given_of : List Item → List (List Value)
@@ -180,15 +196,17 @@ refusal_of (Failed causes ∷ items) = Some causes
 
 -- ---- SELECT: FROM, WHERE, and then the result columns in turn
 
--- a query whose names are bound: the table of its FROM, the conjuncts of its WHERE, and what is shown
-pub record Query : Type 0 where
-  pub table : Option TableEntry
-  pub conjuncts : List BoundExpr
-  pub results : List BoundExpr
+-- a table by its name alone
+abbrev pub source_table : List TableEntry → List ℕ → SourceLayer → Result TableEntry Cause
+source_table catalog text (Source-F.Table t None) = table_named catalog (name_at text t)
+source_table catalog text (Source-F.Table t (Some arguments)) = Err cause.NotYet
+source_table catalog text (Source-F.Derived q) = Err cause.NotYet
 
-abbrev pub from_table : List TableEntry → List ℕ → Option Token → Result (Option TableEntry) Cause
-from_table catalog text None = Ok None
-from_table catalog text (Some t) = table_named catalog (name_at text t) >>= λ entry. Ok (Some entry)
+-- the table of a FROM; no second item is built
+abbrev pub from_table : List TableEntry → List ℕ → List SyntaxItem → Result (Option TableEntry) Cause
+from_table catalog text [] = Ok None
+from_table catalog text (item ∷ []) = source_table catalog text (of_source (of_item item).source) >>= λ t. Ok (Some t)
+from_table catalog text (item ∷ other ∷ items) = Err cause.NotYet
 
 abbrev pub conjuncts_of : Scope → Option Expr → Result (List BoundExpr) Cause
 conjuncts_of s None = Ok []
@@ -215,11 +233,25 @@ abbrev pub results_behind : Scope → List BoundExpr → List ResultColumn → R
 results_behind s found [] = Ok found
 results_behind s found (r ∷ rs) = result_of s r >>= λ more. within_columns (found ++ more) >>= λ all. results_behind s all rs
 
-abbrev pub query_in : Scope → Select → Result Query Cause
-query_in s q = conjuncts_of s q.filter >>= λ conjuncts. results_behind s [] q.results >>= λ results. Ok (record { table = s.table; conjuncts = conjuncts; results = results })
+-- an item of the FROM, of which nothing is ignored
+abbrev pub items_from : Option TableEntry → List FromItem
+items_from None = []
+items_from (Some t) = record { table = t; ignored = [] } ∷ []
 
-abbrev pub query_of : List TableEntry → List ℕ → Select → Result Query Cause
-query_of catalog text q = from_table catalog text q.from >>= λ table. query_in (record { text = text; table = table }) q
+abbrev pub query_in : Scope → SelectLayer → Result Query Cause
+query_in s q =
+    conjuncts_of s q.filter >>= λ conjuncts. results_behind s [] q.results >>= λ results.
+    Ok (record { from = items_from s.table; conjuncts = conjuncts; results = results })
+
+abbrev pub select_bound : List TableEntry → List ℕ → SelectLayer → Result Query Cause
+select_bound catalog text q = from_table catalog text q.from >>= λ table. query_in (record { text = text; table = table }) q
+
+abbrev pub part_bound : List TableEntry → List ℕ → PartLayer → Result Query Cause
+part_bound catalog text (QueryPart-F.Select s) = select_bound catalog text (of_select s)
+part_bound catalog text (QueryPart-F.Values rows) = Err cause.NotYet
+
+abbrev pub query_bound : List TableEntry → List ℕ → QueryLayer → Result Query Cause
+query_bound catalog text q = part_bound catalog text (of_part q.first)
 
 -- the causes so far with those of a conjunct; none where it is false or NULL
 abbrev pub after_conjunct : Out → Truth → Option Out
@@ -240,27 +272,25 @@ sifted (c ∷ cs) env causes = if_some (after_conjunct causes (truth_in (truth_o
 abbrev pub shown : List BoundExpr → Environment → Out → Item
 shown results env causes = item_of causes (map (λ r. value_of r env) results)
 
--- the item of a row, unless it is rejected
+-- the item of some rows, unless they are rejected; it is bad for the causes that they carry, too
 abbrev pub items_at : List BoundExpr → List BoundExpr → Environment → List Item
-items_at conjuncts results env = option_to_list (option_map (shown results env) (sifted conjuncts env no_causes))
+items_at conjuncts results env = option_to_list (option_map (shown results env) (sifted conjuncts env (carried env.rows)))
 
--- what expressions see at a row of the one table, and where there is no FROM
-abbrev pub at_row : List Value → StoredRow → Environment
-at_row params r = record { rows = r.values ∷ []; arguments = []; params = params }
+-- the rows of an item
+abbrev pub item_rows : Context → FromItem → List ItemRow
+item_rows ctx i = map (λ r. ignoring i.ignored (table_row r)) (rows_of ctx.state.world.tables i.table.name)
 
-abbrev pub at_none : List Value → Environment
-at_none params = record { rows = []; arguments = []; params = params }
+-- the rows of a FROM, a row for each of its items, behind these: in nested order, leftmost item outermost
+abbrev pub product : Context → List FromItem → List ItemRow → List (List ItemRow)
+product ctx [] rows = rows ∷ []
+product ctx (i ∷ items) rows = flat_map (λ r. product ctx items (rows ++ r ∷ [])) (item_rows ctx i)
 
-abbrev pub environments : State → List Value → Option TableEntry → List Environment
-environments state params None = at_none params ∷ []
-environments state params (Some t) = map (at_row params) (rows_of state.world.tables t.name)
-
-abbrev pub items_of : State → List Value → Query → List Item
-items_of state params q = flat_map (items_at q.conjuncts q.results) (environments state params q.table)
+abbrev pub items_of : Context → Query → List Item
+items_of ctx q = flat_map (λ rows. items_at q.conjuncts q.results (environment_at ctx rows)) (product ctx q.from [])
 
 -- a query changes nothing; it gives its good items up to the first bad one
 abbrev pub query_outcome : State → List Item → Outcome
-query_outcome state items = record { refusal = refusal_of items; given = given_of items; changed = 0; next = state }
+query_outcome state items = record (nothing state) { refusal = refusal_of items; given = given_of items }
 
 -- ---- INSERT: the table, and then each row in turn
 
@@ -302,14 +332,18 @@ rows_in text rows = in_turn (row_of text (width_of rows)) rows
 abbrev pub fitting : TableEntry → List (List Literal) → Result (List (List Literal)) Cause
 fitting t rows = if nat_eq (width_of rows) (length t.columns) then Ok rows else Err (cause.Arity t.name)
 
--- rows for a table
-pub record Put : Type 0 where
-  pub table : TableEntry
-  pub rows : List (List Literal)
+abbrev pub part_rows : List ℕ → PartLayer → Result (List (List Literal)) Cause
+part_rows text (QueryPart-F.Values rows) = rows_in text rows
+part_rows text (QueryPart-F.Select s) = Err cause.NotYet
 
-abbrev pub put_of : List TableEntry → List ℕ → Insert → Result Put Cause
-put_of catalog text i =
-    table_named catalog (name_at text i.table) >>= λ t. rows_in text i.rows >>= λ rows. fitting t rows >>= λ rows.
+-- the rows of VALUES; no other source is built
+abbrev pub source_rows : List ℕ → InsertSource → Result (List (List Literal)) Cause
+source_rows text (source.Query q) = part_rows text (of_part (of_query q).first)
+source_rows text source.Defaults = Err cause.NotYet
+
+abbrev pub put_bound : List TableEntry → List ℕ → Insert → Result Put Cause
+put_bound catalog text i =
+    table_named catalog (name_at text i.table) >>= λ t. source_rows text i.source >>= λ rows. fitting t rows >>= λ rows.
     Ok (record { table = t; rows = rows })
 
 -- a value for each column, as its affinity stores it
@@ -343,9 +377,7 @@ last_rowid_of rowid (r ∷ rows) = last_rowid_of r.rowid rows
 -- a write counts the rows that it changes and keeps the last rowid that it put
 abbrev pub written : State → TableEntry → ℕ → List StoredRow → Outcome
 written state t changed rows =
-    record {
-      refusal = None;
-      given = [];
+    record (nothing state) {
       changed = changed;
       next = record (with_table state t.name rows) { changes = changed; last_rowid = last_rowid_of state.last_rowid (drop (length (rows_of state.world.tables t.name)) rows) };
     }
@@ -378,12 +410,31 @@ put_outcome state p = put_source state p (causes_of (source_of p)) (given_of (so
 
 -- ---- any statement
 
--- by what the statement is, in a text of so many tokens
-abbrev pub outcome_of : HostMeanings → State → List Value → List ℕ → ℕ → Built → Outcome
-outcome_of hosts state params text tokens (Creates c) = carried_out state (create_outcome state) (created_entry state.world.catalog text tokens c)
-outcome_of hosts state params text tokens (Inserts i) = carried_out state (put_outcome state) (put_of state.world.catalog text i)
-outcome_of hosts state params text tokens (Selects q) =
-    carried_out state (λ query. query_outcome state (items_of state params query)) (query_of state.world.catalog text q)
+-- what was bound leads to an outcome
+abbrev pub outcome_of : Context → BoundStatement → Outcome
+outcome_of ctx (Creates t) = create_outcome ctx.state t
+outcome_of ctx (Puts p) = put_outcome ctx.state p
+outcome_of ctx (Queries q) = query_outcome ctx.state (items_of ctx q)
+
+abbrev pub rows_bound : List TableEntry → List ℕ → RowCommand → Result BoundStatement Cause
+rows_bound catalog text (rows_by.Query q) = query_bound catalog text (of_query q) >>= λ query. Ok (Queries query)
+rows_bound catalog text (rows_by.Insert i) = put_bound catalog text i >>= λ put. Ok (Puts put)
+rows_bound catalog text other = Err cause.NotYet
+
+-- of a text of so many tokens
+abbrev pub command_bound : List TableEntry → List ℕ → ℕ → Command → Result BoundStatement Cause
+command_bound catalog text tokens (command.Rows r) = rows_bound catalog text r
+command_bound catalog text tokens (command.Create c) = created_entry catalog text tokens c.name c.definition >>= λ entry. Ok (Creates entry)
+command_bound catalog text tokens other = Err cause.NotYet
+
+-- what is not built is refused as such, before any name is looked up
+abbrev pub where_built : {B : Type 0} → Bool → Result B Cause → Result B Cause
+where_built true bound = bound
+where_built false bound = Err cause.NotYet
+
+-- a statement whose names are bound, or the first refusal
+abbrev pub statement_bound : List TableEntry → List ℕ → ℕ → Statement → Result BoundStatement Cause
+statement_bound catalog text tokens s = where_built (is_built text s) (command_bound catalog text tokens s.command)
 
 abbrev pub limit_kind : Limit → LimitKind
 limit_kind grammar_limit.Nestings = limit.Nestings
@@ -402,19 +453,30 @@ count_of tokens = if is_semicolon (slice_get tokens (length tokens - 1)) then le
 abbrev pub answer_of : List ℕ → Answer Statement
 answer_of text = whole (read_statement start (tokens_of text))
 
-abbrev pub built_outcome : HostMeanings → State → List Value → List ℕ → Option Built → Outcome
-built_outcome hosts state params text None = refused state (only cause.NotYet)
-built_outcome hosts state params text (Some b) = outcome_of hosts state params text (count_of (tokens_of text)) b
+-- what a text is bound to; where the grammar derives nothing, or not within its limits, that is why
+abbrev pub answer_bound : List TableEntry → List ℕ → Answer Statement → Result BoundStatement Cause
+answer_bound catalog text (Tree s) = statement_bound catalog text (count_of (tokens_of text)) s
+answer_bound catalog text (Syntax rest) = Err (cause.Syntax (place (length text) rest))
+answer_bound catalog text (TooMuch l rest) = Err (cause.Limit (limit_kind l))
 
--- refused where it has no tree, or where the statement is not built
-abbrev pub answer_outcome : HostMeanings → State → List Value → List ℕ → Answer Statement → Outcome
-answer_outcome hosts state params text (Tree s) = built_outcome hosts state params text (built_of text s)
-answer_outcome hosts state params text (Syntax rest) = refused state (only (cause.Syntax (place (length text) rest)))
-answer_outcome hosts state params text (TooMuch l rest) = refused state (only (cause.Limit (limit_kind l)))
+abbrev pub text_bound : List TableEntry → List ℕ → Result BoundStatement Cause
+text_bound catalog text = answer_bound catalog text (answer_of text)
 
--- the outcome of a statement's text with these parameters
-abbrev pub text_outcome : HostMeanings → State → List Value → List ℕ → Outcome
-text_outcome hosts state params text = answer_outcome hosts state params text (answer_of text)
+abbrev pub bound_outcome : Context → Result BoundStatement Cause → Outcome
+bound_outcome ctx (Ok b) = outcome_of ctx b
+bound_outcome ctx (Err why) = refused ctx.state (only why)
+
+-- the outcome of a statement's text
+abbrev pub text_outcome : Context → List ℕ → Outcome
+text_outcome ctx text = bound_outcome ctx (text_bound ctx.state.world.catalog text)
+
+-- the rows that it may give: its own, or any that show a plan
+abbrev pub UnlessPlan : Bool → Type 0 → Type 0
+UnlessPlan true P = ⊤
+UnlessPlan false P = P
+
+abbrev pub MayGive : Outcome → List (List Value) → Type 0
+MayGive o rows = UnlessPlan o.shows_plan (rows ≡ o.given)
 
 -- one of the causes is named, where there are any
 abbrev pub IsNamed : Option CauseSet → Option Cause → Type 0

@@ -37,5 +37,5 @@ pub record IsWorld (w : World) : Type 0 where
 -- so are the world and those of all marks
 pub record IsValid (s : State) : Type 0 where
   pub world : IsWorld s.world
-  pub marks : All (λ (m : Savepoint). IsWorld m.world) s.stack
+  pub marks : All (λ (m : Savepoint). IsWorld m.world) s.transaction.marks
   pub last_rowid : fits_integer s.last_rowid ≡ true

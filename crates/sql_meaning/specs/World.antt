@@ -1,12 +1,15 @@
 -- Tables and what they hold.
-use Rattle.std.specs.Prelude.{ℕ, List, [], ◌∷◌, Bool, ℤ, pos, nat_lt, if◌then◌else◌, length, map}
+use Rattle.std.specs.Prelude.{ℕ, List, [], ◌∷◌, Bool, false, ℤ, pos, nat_lt, if◌then◌else◌, length, map}
 use Rattle.std.specs.List.{find}
 use Rattle.std.specs.Option.{option_map}
 use Rattle.std.specs.declared.option.Option.{Option}
+use Rattle.eng_value.specs.Environments.{Environment, ItemRow, Lists, Surroundings, environment}
+use Rattle.eng_value.specs.HostMeanings.{HostMeanings, Oracle, nobody}
 use Rattle.eng_value.specs.StoredRows.{StoredRow}
 use Rattle.eng_value.specs.declared.value.Value.{Value}
 use Rattle.eng_value.specs.declared.value.Value.TheVariants.{Integer}
 use Rattle.sql_meaning.specs.declared.column.TableEntry.{TableEntry}
+use Rattle.sql_meaning.specs.BoundStatements.{Query}
 use Rattle.sql_meaning.specs.Names.{is_same_name}
 
 -- a world: the catalog, oldest entry first, and a finite map from the tables' names to their rows by ascending rowid
@@ -14,21 +17,44 @@ pub record World : Type 0 where
   pub catalog : List TableEntry
   pub tables : List (List ℕ × List StoredRow)
 
--- a mark in an open transaction: its name, and the world that going back to it gives
-pub record Savepoint : Type 0 where
-  pub name : List ℕ
-  pub world : World
+-- names of tables: some, or all that there may be
+pub data TableNames : Type 0 where
+  Every : TableNames
+  Only : List (List ℕ) → TableNames
 
--- what a connection holds between two statements: the world, the marks of the open transaction, oldest first (none where no transaction is open), how many rows the last INSERT that was not refused put, and the rowid of the last row that an INSERT put
+-- a mark in an open transaction: its name, unless it is the transaction's own; the world that going back to it gives; and the names that were touched since by what ended well and was not undone
+pub record Savepoint : Type 0 where
+  pub name : Option (List ℕ)
+  pub world : World
+  pub touched : List (List ℕ)
+
+-- the open transaction: its marks, oldest first, none where no transaction is open; and whether some write in it ended well, also one that was undone since
+pub record Transaction : Type 0 where
+  pub marks : List Savepoint
+  pub has_written : Bool
+
+-- a statement in flight: its number, its query with the parameters, the names that it reads, how many items it has given, and how many instructions it ran
+pub record Flight : Type 0 where
+  pub number : ℕ
+  pub query : Query
+  pub params : List Value
+  pub reads : TableNames
+  pub given : ℕ
+  pub ran : ℕ
+
+-- what a connection holds between two statements: the world, the open transaction, the statements in flight, what the commit hook will answer, whether triggers may fire themselves, how many rows the last write changed that was not refused, and the rowid of the last row that was put
 pub record State : Type 0 where
   pub world : World
-  pub stack : List Savepoint
+  pub transaction : Transaction
+  pub in_flight : List Flight
+  pub commit_answers : List Bool
+  pub recursive_triggers : Bool
   pub changes : ℕ
   pub last_rowid : ℤ
 
 -- a transaction is open where there is a mark
 abbrev pub is_in_transaction : State → Bool
-is_in_transaction state = nat_lt 0 (length state.stack)
+is_in_transaction state = nat_lt 0 (length state.transaction.marks)
 
 -- the entry of a table
 abbrev pub entry_named : List TableEntry → List ℕ → Option TableEntry
@@ -52,6 +78,41 @@ with_rowid r = Integer r.rowid ∷ r.values
 abbrev pub table_rows : State → List ℕ → Option (List (List Value))
 table_rows state name = option_map (λ (e : TableEntry). map with_rowid (rows_of state.world.tables e.name)) (entry_named state.world.catalog name)
 
+abbrev pub no_transaction : Transaction
+no_transaction = record { marks = []; has_written = false }
+
 -- no table yet
 abbrev pub new_state : State
-new_state = record { world = record { catalog = []; tables = [] }; stack = []; changes = 0; last_rowid = pos 0 }
+new_state = record {
+  world = record { catalog = []; tables = [] };
+  transaction = no_transaction;
+  in_flight = [];
+  commit_answers = [];
+  recursive_triggers = false;
+  changes = 0;
+  last_rowid = pos 0;
+}
+
+-- ---- what a statement goes by
+
+-- what the hosts mean, who answers what their functions ask, the state, and the parameters
+pub record Context : Type 0 where
+  pub hosts : HostMeanings
+  pub ask : Oracle
+  pub state : State
+  pub params : List Value
+
+-- of a statement that is run for itself: no function of a host asks yet, so that nobody answers
+abbrev pub context : HostMeanings → State → List Value → Context
+context hosts state params = record { hosts = hosts; ask = nobody; state = state; params = params }
+
+-- the rows of each table, by its place in the catalog
+abbrev pub lists_of : World → Lists
+lists_of world = map (λ (t : List ℕ × List StoredRow). t.1) world.tables
+
+abbrev pub surroundings_of : Context → Surroundings
+surroundings_of ctx = record { params = ctx.params; hosts = ctx.hosts; world = lists_of ctx.state.world; ask = ctx.ask }
+
+-- what an expression of a statement sees at these rows: a statement that stands in no other has no arguments
+abbrev pub environment_at : Context → List ItemRow → Environment
+environment_at ctx rows = environment (surroundings_of ctx) [] [] rows

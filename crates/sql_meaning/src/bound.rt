@@ -1,6 +1,6 @@
 // Expressions and statements whose names are bound.
 use eng_value::{
-    Affinity, BinaryOperator, Built, Builtin, Cause, Sides, Text, UnaryOperator, Value,
+    Affinity, BinaryOperator, Builtin, Cause, Collation, Sides, Text, UnaryOperator, Value,
 };
 use sql_tree::Token;
 use sqlite_items::{Boxed, Items};
@@ -35,7 +35,7 @@ pub enum BoundExpr {
     /// The value of the first arm whose operand is equal to the first expression, else the last one.
     Match(Boxed<BoundExpr>, Items<BoundMatch>, Boxed<BoundExpr>),
     /// A built-in function, which compares texts under the collation.
-    Call(Builtin, Built, Items<BoundExpr>),
+    Call(Builtin, Collation, Items<BoundExpr>),
 }
 
 impl Drop for BoundExpr {

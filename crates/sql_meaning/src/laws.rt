@@ -1,8 +1,8 @@
 // What the definitions promise, in the subject's own words. Nothing here runs: each contract is a law.
-ghost use Rattle.std.specs.Prelude.{◌≡◌, ◌↔◌, ◌⊎◌, ℕ, List, ◌++◌, Any, Bool, Option, Some, None, take, true, false};
+ghost use Rattle.std.specs.Prelude.{◌≡◌, ◌↔◌, ◌⊎◌, ℕ, List, [], ◌++◌, Any, Bool, Option, Some, None, take, true, false};
 ghost use Rattle.std.specs.List.{flat_map};
 ghost use Rattle.eng_value.specs.Causes.{CauseSet};
-ghost use Rattle.eng_value.specs.HostMeanings.{HostMeanings};
+ghost use Rattle.eng_value.specs.HostMeanings.{HostMeanings, no_hosts};
 ghost use Rattle.eng_value.specs.declared.cause.Cause.{Cause};
 ghost use Rattle.eng_value.specs.declared.value.Value.{Value};
 ghost use Rattle.sql_meaning.specs.declared.script.Ending.{Ending};
@@ -12,25 +12,24 @@ ghost use Rattle.sql_meaning.specs.Runs.{AreAsMeant, IsEnough, IsFrontOf};
 ghost use Rattle.sql_meaning.specs.Segments.{AreSegments, Segment, bytes_of, parts_in};
 ghost use Rattle.sql_meaning.specs.Script.{AreOutcomes, Came, ends, is_failed, status_by};
 ghost use Rattle.sql_meaning.specs.Statement.{IsNamed, text_outcome};
-ghost use Rattle.sql_meaning.specs.World.{State, new_state};
+ghost use Rattle.sql_meaning.specs.Named.{TextIsTold};
+ghost use Rattle.sql_meaning.specs.World.{Context, State, context, new_state};
 
 use eng_value::MAX_SCRIPT_BYTES;
 
-/// A refused statement changes no row, and what the connection holds stays as it was.
+/// A refused statement changes no row, tells the update hook nothing, and what the connection holds stays as it was.
 pub fn a_refusal_keeps_the_state()
-    ensures { (hosts : HostMeanings) (state : State) (params : List Value) (text : List ℕ) (causes : CauseSet)
-        → (text_outcome hosts state params text).refusal ≡ Some causes
-        → ((text_outcome hosts state params text).next ≡ state) × ((text_outcome hosts state params text).changed ≡ 0) }
+    ensures { (ctx : Context) (text : List ℕ) (causes : CauseSet) → (text_outcome ctx text).refusal ≡ Some causes
+        → ((text_outcome ctx text).next ≡ ctx.state) × ((text_outcome ctx text).changed ≡ 0) × ((text_outcome ctx text).told ≡ []) }
 {}
 
 /// Each refusal has a cause that can be named.
 pub fn each_refusal_has_a_cause()
-    ensures { (hosts : HostMeanings) (state : State) (params : List Value) (text : List ℕ)
-        → (why : Option Cause) × IsNamed (text_outcome hosts state params text).refusal why }
+    ensures { (ctx : Context) (text : List ℕ) → (why : Option Cause) × IsNamed (text_outcome ctx text).refusal why }
 {}
 
-/// A script always comes to something, be it what its statements mean. Where the budget is enough for each of them, it comes to
-/// nothing else.
+/// A script always comes to something, be it what its statements mean. Where the budget is enough for each of them, and each names only
+/// hosts that tell, it comes to nothing else.
 pub fn enough_budget_leaves_the_meaning()
     ensures some { (hosts : HostMeanings) (options : Options) (bytes : List ℕ) (ending : Ending)
         → (came : List Came) × AreOutcomes hosts options bytes ending came }
@@ -39,6 +38,11 @@ pub fn enough_budget_leaves_the_meaning()
     ensures only { (hosts : HostMeanings) (options : Options) (bytes : List ℕ) (ending : Ending) (came : List Came)
         → IsEnough hosts options.budget new_state (parts_of bytes ending) → AreOutcomes hosts options bytes ending came
         → AreAsMeant hosts options new_state (parts_of bytes ending) came }
+{}
+
+/// Where there is no host, each statement names only hosts that tell: whatever a host's place or name, nothing stands there.
+pub fn without_hosts_all_is_told()
+    ensures { (state : State) (params : List Value) (text : List ℕ) → TextIsTold (context no_hosts state params) text }
 {}
 
 /// A part that has its end stays a part, whatever the script goes on with.

@@ -21,6 +21,7 @@ pub use column::{Column, TableEntry};
 pub use laws::{
     a_refusal_keeps_the_state, each_refusal_has_a_cause, enough_budget_leaves_the_meaning,
     parts_stay, scripts_are_put_together, scripts_keep_their_outcomes, statuses_tell_of_failures,
+    without_hosts_all_is_told,
 };
 pub use script::{Ending, Failure, Options};
 pub use states::{

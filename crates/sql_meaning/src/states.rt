@@ -1,8 +1,7 @@
 // What the definitions promise of states and of what statements do to them. Nothing here runs: each contract is a law.
 ghost use Rattle.std.specs.Prelude.{◌≡◌, ◌↔◌, ◌⊎◌, ◌∷◌, ◌++◌, ℕ, List, Some, None, Ok, Err, [], length};
 ghost use Rattle.eng_value.specs.Causes.{only};
-ghost use Rattle.eng_value.specs.Environments.{Environment};
-ghost use Rattle.eng_value.specs.HostMeanings.{HostMeanings};
+ghost use Rattle.eng_value.specs.Environments.{Environment, no_causes};
 ghost use Rattle.eng_value.specs.StoredRows.{StoredRow};
 ghost use Rattle.eng_value.specs.Truths.{truth_in, truth_of};
 ghost use Rattle.eng_value.specs.declared.cause.Cause.TheVariants.{Full};
@@ -12,31 +11,27 @@ ghost use Rattle.sql_meaning.specs.declared.bound.BoundExpr.{BoundExpr};
 ghost use Rattle.sql_meaning.specs.declared.column.TableEntry.{TableEntry};
 ghost use Rattle.sql_meaning.specs.Effects.{AddsRows, AddsTable, IsFull};
 ghost use Rattle.sql_meaning.specs.Expression.{value_of};
-ghost use Rattle.sql_meaning.specs.Shapes.{CreateTable, Creates, Insert, Inserts, Select, Selects};
-ghost use Rattle.sql_meaning.specs.Spelled.{name_at};
-ghost use Rattle.sql_meaning.specs.Statement.{Row, answer_of, item_of, items_at, no_causes, row_put, stored, text_outcome};
+ghost use Rattle.sql_meaning.specs.BoundStatements.{Creates, Put, Puts, Queries, Query};
+ghost use Rattle.sql_meaning.specs.Statement.{Row, item_of, items_at, row_put, stored, text_bound, text_outcome};
 ghost use Rattle.sql_meaning.specs.Valid.{AreRowsOf, IsValid};
-ghost use Rattle.sql_meaning.specs.Work.{built_in};
-ghost use Rattle.sql_meaning.specs.World.{State, new_state};
+ghost use Rattle.sql_meaning.specs.World.{Context, new_state};
 
 /// The state of a new connection is valid, and every statement leaves a valid state valid.
 pub fn states_stay_valid()
     ensures first { IsValid new_state }
-    ensures next { (hosts : HostMeanings) (state : State) (params : List Value) (text : List ℕ)
-        → IsValid state → IsValid (text_outcome hosts state params text).next }
+    ensures next { (ctx : Context) (text : List ℕ) → IsValid ctx.state → IsValid (text_outcome ctx text).next }
 {}
 
 /// What a statement that is not refused does: an INSERT adds its rows to its table, behind the others, each under the rowid that
 /// is one more than the largest; a CREATE TABLE adds a table without rows; a SELECT changes nothing.
 pub fn statements_do_what_they_say()
-    ensures inserts { (hosts : HostMeanings) (state : State) (params : List Value) (text : List ℕ) (i : Insert)
-        → IsValid state → built_in text (answer_of text) ≡ Some (Inserts i) → (text_outcome hosts state params text).refusal ≡ None
-        → AddsRows state (name_at text i.table) (length i.rows) (text_outcome hosts state params text) }
-    ensures creates { (hosts : HostMeanings) (state : State) (params : List Value) (text : List ℕ) (c : CreateTable)
-        → IsValid state → built_in text (answer_of text) ≡ Some (Creates c) → (text_outcome hosts state params text).refusal ≡ None
-        → AddsTable state (name_at text c.name) (text_outcome hosts state params text) }
-    ensures selects { (hosts : HostMeanings) (state : State) (params : List Value) (text : List ℕ) (q : Select)
-        → built_in text (answer_of text) ≡ Some (Selects q) → (text_outcome hosts state params text).next ≡ state }
+    ensures inserts { (ctx : Context) (text : List ℕ) (p : Put)
+        → IsValid ctx.state → text_bound ctx.state.world.catalog text ≡ Ok (Puts p) → (text_outcome ctx text).refusal ≡ None
+        → AddsRows ctx.state p.table.name (length p.rows) (text_outcome ctx text) }
+    ensures creates { (ctx : Context) (text : List ℕ) (t : TableEntry)
+        → IsValid ctx.state → text_bound ctx.state.world.catalog text ≡ Ok (Creates t) → AddsTable ctx.state t.name (text_outcome ctx text) }
+    ensures selects { (ctx : Context) (text : List ℕ) (q : Query)
+        → text_bound ctx.state.world.catalog text ≡ Ok (Queries q) → (text_outcome ctx text).next ≡ ctx.state }
 {}
 
 /// A row whose values can be stored is refused exactly where the largest rowid is taken, as a full table and for nothing else.

@@ -7,21 +7,23 @@ use Rattle.std.proofs.lemmas.Grind.{flat_map-append}
 use Rattle.std.specs.Io.KnownBytes.{Appends}
 use Rattle.eng_value.specs.HostMeanings.{HostMeanings}
 use Rattle.eng_value.specs.declared.cause.Cause.{Cause}
+use Rattle.eng_value.specs.declared.value.Value.{Value}
 use Rattle.sql_meaning.specs.declared.script.Failure.{Failure}
 use Rattle.sql_meaning.specs.declared.script.Failure.TheVariants.{UnknownDotLine, NotUtf8}
 use Rattle.sql_meaning.specs.declared.script.Options.{Options}
 use Rattle.sql_meaning.specs.Due.{Along, CutShort}
 use Rattle.sql_meaning.specs.Parts.{Part, Statement, DotLine, BadCharacter, parts_from}
 use Rattle.sql_meaning.specs.Runs.{last_state}
-use Rattle.sql_meaning.specs.Script.{Came, Come, Comes, Follow, PartComes, as_meant, as_named, came_lines, cut_off, ends, error_line, failed, is_bad_character, is_failed, lines_of}
+use Rattle.sql_meaning.specs.Script.{Came, Come, Follow, PartComes, as_meant, as_named, came_lines, ends, error_line, failed, is_bad_character, is_failed, lines_of}
 use Rattle.sql_meaning.specs.Statement.{Outcome, text_outcome}
 use Rattle.sql_meaning.specs.Work.{instruction_bound}
-use Rattle.sql_meaning.specs.World.{State, new_state}
+use Rattle.sql_meaning.specs.Named.{TextIsTold}
+use Rattle.sql_meaning.specs.World.{State, context, new_state}
 use Rattle.sql_shell.specs.declared.course.Course.{Course}
 use Rattle.sql_shell.specs.Courses.{at_end, ended_in, failed_in}
 use Rattle.sql_shell.specs.Running.{Ran, RanPartly}
 use Rattle.sql_meaning.proofs.CausedLaws.{text_outcome-named}
-use Rattle.sql_meaning.proofs.OutcomeLaws.{Come-append, Come-ended, Come-more, instructions-append, last_state-append}
+use Rattle.sql_meaning.proofs.OutcomeLaws.{Come-append, Come-ended, Come-more, gives_meant, instructions-append, last_state-append}
 use Rattle.sql_shell.proofs.Due.{along_start, along_more, cut_at_start, cut_more, cut_short}
 
 -- ---- lines
@@ -118,32 +120,24 @@ module _ (h : HostMeanings) (options : Options) (s : State) (part : Part) (o : C
     ran = omega arith;
   }
 
--- a statement's failure is no bad character
-named-good : (m : Outcome) (why : Option Cause) (ran : ℕ) → is_bad_character (as_named m why ran).failure ≡ false
-named-good m None ran = refl
-named-good m (Some why) ran = refl
-
-came-good : (h : HostMeanings) (budget : ℕ) (s : State) (text : List ℕ) (o : Came) → Comes h budget s text o → is_bad_character o.failure ≡ false
-came-good h budget s text o (as_meant why ran named within few) = named-good (text_outcome h s [] text) why ran
-came-good h budget s text o (cut_off front rest whole below) = refl
-
--- so it ends the script where each error line does
-pub came-ends : (h : HostMeanings) (options : Options) (s : State) (text : List ℕ) (o : Came) → Comes h options.budget s text o → (options.bail && is_failed o) ≡ ends options o
-came-ends h options s text o comes = sym (ap (λ b. (options.bail && is_failed o) || b) (came-good h options.budget s text o comes) ∙ or-false (options.bail && is_failed o))
+-- a failure that is no bad character ends the script where each error line does
+pub came-ends : (options : Options) (o : Came) → is_bad_character o.failure ≡ false → (options.bail && is_failed o) ≡ ends options o
+came-ends options o good = sym (ap (λ b. (options.bail && is_failed o) || b) good ∙ or-false (options.bail && is_failed o))
 
 -- nothing of its lines was written
-unwritten : (m : Outcome) (why : Option Cause) (ran : ℕ) → (as_named m why ran).ran ≡ ran
-unwritten m None ran = refl
-unwritten m (Some why) ran = refl
+unwritten : (m : Outcome) (why : Option Cause) (rows : List (List Value)) (ran : ℕ) → (as_named m why rows ran).ran ≡ ran
+unwritten m None rows ran = refl
+unwritten m (Some why) rows ran = refl
 
-pub ran_unwritten : (h : HostMeanings) (options : Options) (s : State) (text : List ℕ) (u : Option (List ℕ)) (before after : ℕ) → before ≤ after → after ≤ before + options.budget → after ≤ before + instruction_bound s text
+pub ran_unwritten : (h : HostMeanings) (options : Options) (s : State) (text : List ℕ) (u : Option (List ℕ)) (before after : ℕ) → before ≤ after → after ≤ before + options.budget → (TextIsTold (context h s []) text → after ≤ before + instruction_bound (context h s []) text)
     → RanPartly h options s (Statement text ∷ []) u u before after
 ran_unwritten h options s text u before after later within few =
-    let m = text_outcome h s [] text in
-    let n = text_outcome-named h s [] text in
-    let o : Came = as_named m n.0 (after - before) in
-    let ran_is = unwritten m n.0 (after - before) in
-    ran_one_partly h options s (Statement text) o (as_meant n.0 (after - before) n.1 (omega arith) (omega arith)) u u before after (came_lines o) refl (cut_at_start u (came_lines o)) (omega (arith, ran_is, later))
+    let ctx = context h s [] in
+    let m = text_outcome ctx text in
+    let n = text_outcome-named ctx text in
+    let o : Came = as_named m n.0 m.given (after - before) in
+    let ran_is = unwritten m n.0 m.given (after - before) in
+    ran_one_partly h options s (Statement text) o (λ told. let most = few told in as_meant n.0 m.given (after - before) n.1 (gives_meant m m.given refl) (omega arith) (omega arith)) u u before after (came_lines o) refl (cut_at_start u (came_lines o)) (omega (arith, ran_is, later))
 
 -- a part that is an error line alone
 error_alone : (why : Failure) (s : State) → error_line why ≡ came_lines (failed s why)

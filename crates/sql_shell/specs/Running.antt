@@ -8,15 +8,15 @@ use Rattle.eng_value.specs.declared.value.Value.{Value}
 use Rattle.sql_meaning.specs.declared.script.Failure.{Failure}
 use Rattle.sql_meaning.specs.declared.script.Options.{Options}
 use Rattle.sql_meaning.specs.Due.{CutShort}
-use Rattle.sql_meaning.specs.Parts.{Part}
+use Rattle.sql_meaning.specs.Parts.{Part, Statement}
 use Rattle.sql_meaning.specs.Runs.{last_state}
-use Rattle.sql_meaning.specs.Script.{Came, Come, Comes, ends, instructions, is_failed, lines_of}
+use Rattle.sql_meaning.specs.Script.{Came, Come, PartComes, ends, instructions, is_failed, lines_of}
 use Rattle.sql_meaning.specs.World.{State}
 
 -- a statement came to these rows, this failure, so many instructions and this state
 abbrev pub CameTo : HostMeanings → ℕ → State → List ℕ → List (List Value) → Option Failure → ℕ → State → Type 0
 CameTo hosts budget state text rows failure ran next =
-    Comes hosts budget state text (record { failure = failure; given = rows; ran = ran; next = next })
+    PartComes hosts budget state (Statement text) (record { failure = failure; given = rows; ran = ran; next = next })
 
 -- parts ran from `state` to `next` and came to something: what was written, how many instructions were run, whether one has an error
 -- line, and whether the script ended at one

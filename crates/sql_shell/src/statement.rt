@@ -1,6 +1,9 @@
 // Running one statement over a connection.
-ghost use Rattle.std.specs.Prelude.{◌≡◌, ◌≤◌, ◌+◌, ◌-◌, IfOk, IfErr};
+ghost use Rattle.std.specs.Prelude.{◌≡◌, ◌≤◌, ◌+◌, ◌-◌, [], false, IfOk, IfErr};
+ghost use Rattle.sql_meaning.specs.Named.{TextIsTold};
+ghost use Rattle.sql_meaning.specs.Script.{is_bad_character};
 ghost use Rattle.sql_meaning.specs.Work.{instruction_bound};
+ghost use Rattle.sql_meaning.specs.World.{context};
 ghost use Rattle.sql_shell.specs.Running.{CameTo};
 ghost use Rattle.vm_core.specs.Meant.{meant};
 
@@ -12,7 +15,7 @@ use engine::{Connection, Hosts};
 use std::alloc::Global;
 use std::sync::ledger::Ledger;
 
-/// Runs the statement of a text. One that is refused changes nothing.
+/// Runs the statement of a text.
 pub(crate) fn run_text<M: Meanings, L: Ledger>(
     alloc: Global,
     hosts: &mut Hosts,
@@ -23,11 +26,13 @@ pub(crate) fn run_text<M: Meanings, L: Ledger>(
     requires told { meant hosts.old ≡ M.hosts }
     ensures came { IfOk result (λ g. CameTo M.hosts connection.old.budget connection.old.state text.now
         g.rows g.failure (steps.new - steps.old) connection.new.state) }
+    ensures characters { IfOk result (λ g. is_bad_character g.failure ≡ false) }
     ensures memory { IfErr result (λ stop. stop ≡ Stop.Memory) }
     ensures budget { connection.new.budget ≡ connection.old.budget }
     ensures ticks { steps.old ≤ steps.new }
     ensures within { steps.new ≤ steps.old + connection.old.budget }
-    ensures bound { steps.new ≤ steps.old + instruction_bound connection.old.state text.now }
+    ensures bound { TextIsTold (context M.hosts connection.old.state []) text.now
+        → steps.new ≤ steps.old + instruction_bound (context M.hosts connection.old.state []) text.now }
     ensures hosts { meant hosts.new ≡ M.hosts }
 {
     let mut rows = CollectedRows::new(alloc);

@@ -39,7 +39,7 @@ fn run_uncounted<S: Source, K: Sink, L: Ledger>(
         Rose (S.fault_count src.old) (S.fault_count src.new) ⊎ Rose (K.fault_count out.old) (K.fault_count out.new) }
     ensures statuses { result ≤ 5 }
 {
-    let mut hosts = Hosts {};
+    let mut hosts = Hosts::new();
     let mut steps = Steps::<L>::new(blank);
     run(alloc, words, &mut hosts, src, out, &mut steps)
 }

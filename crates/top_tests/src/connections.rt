@@ -63,7 +63,7 @@ fn run_counted<L: Ledger>(
     outcome_of(
         session.connection.run(
             alloc,
-            &mut Hosts {},
+            &mut Hosts::new(),
             sql.as_str(),
             params,
             &mut session.rows,

@@ -23,7 +23,7 @@ fn run_uncounted<S: Source, K: Sink, L: Ledger>(
     requires some { 0 < blank.parts }
 {
     let mut steps = Steps::<L>::new(blank);
-    run(alloc, words, &mut Hosts {}, src, out, &mut steps)
+    run(alloc, words, &mut Hosts::new(), src, out, &mut steps)
 }
 
 #[test]

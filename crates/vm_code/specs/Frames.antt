@@ -2,9 +2,9 @@
 use Rattle.std.specs.Prelude.{◌≡◌, ◌≢◌, ℕ, suc, ◌+◌, ◌≤◌, ◌<◌, List, [], ◌∷◌, ◌++◌, map, take, length, Some, None, slice_get}
 use Rattle.std.specs.declared.option.Option.{Option}
 use Rattle.eng_value.specs.Causes.{CauseSet}
-use Rattle.eng_value.specs.Environments.{Environment}
+use Rattle.eng_value.specs.Environments.{Environment, Surroundings, environment}
+use Rattle.eng_value.specs.HostMeanings.{HostMeanings, Oracle}
 use Rattle.eng_value.specs.declared.out.Out.{Out}
-use Rattle.eng_value.specs.declared.value.Value.{Value}
 use Rattle.vm_code.specs.declared.op.Op.{Op}
 use Rattle.vm_code.specs.declared.op.Op.TheVariants.{Goto, If, IfNot, IsNull, NotNull, IsBad, Rewind, Next}
 use Rattle.vm_code.specs.declared.program.Program.{Program}
@@ -106,9 +106,13 @@ pub record Ready (b : Draft) (u : ℕ) (s : State) : Type 0 where
 abbrev pub Shut : ℕ → List Cursor → Type 0
 Shut from cursors = (c : ℕ) → from ≤ c → cursor_at cursors c ≡ Closed
 
--- what expressions see: the rows under the cursors, the unit's arguments, and the parameters
-abbrev pub environment_of : Here → Environment
-environment_of h = record { rows = map (current h.shared.world) h.cursors; arguments = h.args; params = h.shared.params }
+-- what all expressions see alike
+abbrev pub surroundings_of : Setting → Shared → Surroundings
+surroundings_of m x = record { params = x.params; hosts = m.hosts; world = x.world; ask = m.ask }
+
+-- what expressions see: the rows under the cursors and the unit's arguments; there are no slots yet
+abbrev pub environment_of : Setting → Here → Environment
+environment_of m h = environment (surroundings_of m h.shared) h.args [] (map (current h.shared.world) h.cursors)
 
 -- ---- code that leaves a value
 
@@ -120,12 +124,12 @@ pub record Left (m : Setting) (most : ℕ) (s : State) (place mark to : ℕ) (v 
   pub has : read regs to ≡ v
   pub keeps : (k : ℕ) → k < mark → k ≢ to → read regs k ≡ read s.regs k
 
--- code that leaves a function of the tables and of the environment in a register
-pub record Leaves (a b : Draft) (to : ℕ) (f : World → Environment → Out) (cost : World → ℕ) : Type 0 where
+-- code that leaves a function of the environment in a register
+pub record Leaves (a b : Draft) (to : ℕ) (f : Environment → Out) (cost : World → ℕ) : Type 0 where
   pub grows : Grows a b
   pub next : b.next ≡ a.next
   pub leaves : (m : Setting) (u : ℕ) (at : ℕ → ℕ) → Holds b m.prog u at → (s : State) → Ready b u s → s.pc ≡ length a.code
-      → Left m (cost s.shared.world) s (length b.code) a.next to (f s.shared.world (environment_of (here s)))
+      → Left m (cost s.shared.world) s (length b.code) a.next to (f (environment_of m (here s)))
 
 -- the machine comes to a place with these values in registers one after another, from the mark on, and those below it as they were
 pub record Filled (m : Setting) (most : ℕ) (s : State) (place mark : ℕ) (xs : List Out) : Type 0 where
@@ -135,14 +139,14 @@ pub record Filled (m : Setting) (most : ℕ) (s : State) (place mark : ℕ) (xs 
   pub has : outs_from regs mark (length xs) ≡ xs
   pub keeps : (k : ℕ) → k < mark → read regs k ≡ read s.regs k
 
--- code that leaves so many functions of the tables and of the environment in the registers that it takes
-pub record Fills (a b : Draft) (count : ℕ) (f : World → Environment → List Out) (cost : World → ℕ) : Type 0 where
+-- code that leaves so many functions of the environment in the registers that it takes
+pub record Fills (a b : Draft) (count : ℕ) (f : Environment → List Out) (cost : World → ℕ) : Type 0 where
   pub grows : Grows a b
   pub next : b.next ≡ a.next + count
   pub counted : b.next ≤ b.most
-  pub many : (w : World) (env : Environment) → length (f w env) ≡ count
+  pub many : (env : Environment) → length (f env) ≡ count
   pub fills : (m : Setting) (u : ℕ) (at : ℕ → ℕ) → Holds b m.prog u at → (s : State) → Ready b u s → s.pc ≡ length a.code
-      → Filled m (cost s.shared.world) s (length b.code) a.next (f s.shared.world (environment_of (here s)))
+      → Filled m (cost s.shared.world) s (length b.code) a.next (f (environment_of m (here s)))
 
 -- ---- code that tests
 
@@ -152,11 +156,11 @@ Sifted m most s place out mark to (Some v) = Left m most s place mark to v
 Sifted m most s place out mark to None = (v : Out) × Left m most s out mark to v
 
 -- code that gathers causes in a register, or goes to a label
-pub record Sifts (a b : Draft) (causes label : ℕ) (f : World → Environment → Out → Option Out) (cost : World → ℕ) : Type 0 where
+pub record Sifts (a b : Draft) (causes label : ℕ) (f : Environment → Out → Option Out) (cost : World → ℕ) : Type 0 where
   pub grows : Grows a b
   pub next : b.next ≡ a.next
   pub sifts : (m : Setting) (u : ℕ) (at : ℕ → ℕ) → Holds b m.prog u at → (s : State) → Ready b u s → s.pc ≡ length a.code
-      → Sifted m (cost s.shared.world) s (length b.code) (at label) a.next causes (f s.shared.world (environment_of (here s)) (read s.regs causes))
+      → Sifted m (cost s.shared.world) s (length b.code) (at label) a.next causes (f (environment_of m (here s)) (read s.regs causes))
 
 -- ---- code with an effect
 
@@ -211,16 +215,16 @@ pub record Does (a b : Draft) (lo causes exit : ℕ) (f : Effect) (cost : World 
   pub grows : Grows a b
   pub next : b.next ≡ a.next
   pub does : (m : Setting) (u : ℕ) (at : ℕ → ℕ) → Holds b m.prog u at → (s : State) → Ready b u s → s.pc ≡ length a.code → Shut a.cursors s.cursors
-      → Did m (cost s.shared.world) s (length b.code) (at exit) lo a.next (f (environment_of (here s)) (read s.regs causes) (memory_of lo (here s)))
+      → Did m (cost s.shared.world) s (length b.code) (at exit) lo a.next (f (environment_of m (here s)) (read s.regs causes) (memory_of lo (here s)))
 
 -- ---- units that are called
 
--- a ready unit that answers a function of the tables, the parameters and its arguments, in every program that begins with the units
-abbrev pub Serves : List Unit → ℕ → (World → List Value → List Out → Out) → (World → ℕ) → Type 0
+-- a ready unit that answers a function of what surrounds it and of its arguments, in every program that begins with the units
+abbrev pub Serves : List Unit → ℕ → (Surroundings → List Out → Out) → (World → ℕ) → Type 0
 Serves units k f cost =
     (x : Unit) × (slice_get units k ≡ Some x)
     × ((m : Setting) → Begins units m.prog → (args : List Out) (g : Frame) (gs : List Frame) (shared : Shared) → IsOrdered shared.world
-    → Reaches m (cost shared.world) (entered x (suc k) args g gs shared) (resumed g gs shared (f shared.world shared.params args)))
+    → Reaches m (cost shared.world) (entered x (suc k) args g gs shared) (resumed g gs shared (f (surroundings_of m shared) args)))
 
 -- what a unit that changes the tables comes to: a value, or the end of the run
 pub data Answer : Type 0 where
@@ -231,9 +235,9 @@ abbrev pub Answered : Setting → ℕ → State → Frame → List Frame → Ans
 Answered m most s g gs (Back v shared) = Reaches m most s (resumed g gs shared v)
 Answered m most s g gs (Stops c shared) = Ends m most s (Failed c) shared
 
--- a ready unit that changes what is shared by a function of it and of its arguments
-abbrev pub Works : List Unit → ℕ → (Shared → List Out → Answer) → (World → ℕ) → Type 0
+-- a ready unit that changes what is shared by a function of the hosts, of who answers them, of what is shared and of its arguments
+abbrev pub Works : List Unit → ℕ → (HostMeanings → Oracle → Shared → List Out → Answer) → (World → ℕ) → Type 0
 Works units k f cost =
     (x : Unit) × (slice_get units k ≡ Some x)
     × ((m : Setting) → Begins units m.prog → (args : List Out) (g : Frame) (gs : List Frame) (shared : Shared) → IsOrdered shared.world
-    → Answered m (cost shared.world) (entered x (suc k) args g gs shared) g gs (f shared args))
+    → Answered m (cost shared.world) (entered x (suc k) args g gs shared) g gs (f m.hosts m.ask shared args))

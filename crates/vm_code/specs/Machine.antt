@@ -3,11 +3,14 @@ use Rattle.std.specs.Prelude.{◌≡◌, ℕ, zero, suc, ◌+◌, ◌≤◌, len
 use Rattle.std.specs.List.{find}
 use Rattle.std.specs.Ordering.{int_eq}
 use Rattle.std.specs.declared.option.Option.{Option}
-use Rattle.eng_key.specs.Values.{value_key}
+use Rattle.eng_key.specs.Values.{value_keys}
 use Rattle.eng_value.specs.Applied.{unary_of, binary_of, function_by, merged}
 use Rattle.eng_value.specs.Casts.{store_as}
 use Rattle.eng_value.specs.Causes.{CauseSet, only}
+use Rattle.eng_value.specs.Collations.{keys_of}
 use Rattle.eng_value.specs.Comparisons.{like_escaped_of}
+use Rattle.eng_value.specs.Environments.{ItemRow, Lists, Surroundings, column_of, null_row, table_row}
+use Rattle.eng_value.specs.HostMeanings.{HostMeanings, Oracle}
 use Rattle.eng_value.specs.Operators.{made}
 use Rattle.eng_value.specs.Outs.{bad, turned}
 use Rattle.eng_value.specs.Truths.{truth_in, truth_of}
@@ -33,7 +36,7 @@ Row = List Value
 
 -- the rows of each table; tables go by their numbers
 abbrev pub World : Type 0
-World = List (List StoredRow)
+World = Lists
 
 -- the rows of each table ascend by their rowids
 abbrev pub IsOrdered : World → Type 0
@@ -67,16 +70,16 @@ pub data Cursor : Type 0 where
   Closed : Cursor
   Open : ℕ → Option ℤ → Cursor
 
--- the values of a row; none where there is no row
-abbrev pub values_of : Option StoredRow → Row
-values_of None = []
-values_of (Some r) = r.values
+-- the row that is there, and NULL where there is none
+abbrev pub row_read : Option StoredRow → ItemRow
+row_read None = null_row
+row_read (Some r) = table_row r
 
 -- what a cursor reads
-abbrev pub current : World → Cursor → Row
-current w Closed = []
-current w (Open table None) = []
-current w (Open table (Some rowid)) = values_of (row_under (rows_of w table) rowid)
+abbrev pub current : World → Cursor → ItemRow
+current w Closed = null_row
+current w (Open table None) = null_row
+current w (Open table (Some rowid)) = row_read (row_under (rows_of w table) rowid)
 
 -- the rows of a cursor's table
 abbrev pub cursor_rows : World → Cursor → List StoredRow
@@ -85,10 +88,6 @@ cursor_rows w (Open table place) = rows_of w table
 
 abbrev pub cursor_at : List Cursor → ℕ → Cursor
 cursor_at cursors c = slice_index_or cursors c Closed
-
--- a row's column; NULL where there is none
-abbrev pub column : Row → ℕ → Out
-column row k = Good (slice_index_or row k Null)
 
 -- ---- states
 
@@ -127,9 +126,14 @@ pub data Next : Type 0 where
   On : State → Next
   End : Ending → Shared → Next
 
--- what a run goes by: the program
+-- what a run goes by: what the hosts mean, who answers what their functions ask, and the program
 pub record Setting : Type 0 where
+  pub hosts : HostMeanings
+  pub ask : Oracle
   pub prog : Program
+
+abbrev pub setting : HostMeanings → Oracle → Program → Setting
+setting hosts ask prog = record { hosts = hosts; ask = ask; prog = prog }
 
 -- the main unit is number 0, and the units that are called come behind it
 abbrev pub unit_at : Program → ℕ → Option Unit
@@ -330,16 +334,16 @@ act m (Some (op.Variable k to)) s = put s to (parameter_at s.shared.params k)
 act m (Some (op.Copy from to)) s = put s to (read s.regs from)
 act m (Some (op.Affinity r affinity)) s = put s r (turned (store_as affinity) (read s.regs r))
 act m (Some (op.Unary o from to)) s = put s to (unary_of o (read s.regs from))
-act m (Some (op.Binary o a b to)) s = put s to (binary_of o (read s.regs a) (read s.regs b))
+act m (Some (op.Binary o a b to)) s = put s to (binary_of (keys_of m.hosts) o (read s.regs a) (read s.regs b))
 act m (Some (op.LikeEscaped a b c to)) s = put s to (like_escaped_of (read s.regs a) (read s.regs b) (read s.regs c))
-act m (Some (op.Function f collation first n to)) s = put s to (function_by value_key f collation (outs_from s.regs first n))
+act m (Some (op.Function f collation first n to)) s = put s to (function_by (value_keys (keys_of m.hosts)) f collation (outs_from s.regs first n))
 act m (Some (op.Merge from to)) s = put s to (merged (read s.regs from) (read s.regs to))
 act m (Some (op.OpenRead c table)) s = skip (with_cursor s c (Open table None))
 act m (Some (op.OpenWrite c table)) s = skip (with_cursor s c (Open table None))
 act m (Some (op.Close c)) s = skip (with_cursor s c Closed)
 act m (Some (op.Rewind c target)) s = rewound (cursor_at s.cursors c) s c target
 act m (Some (op.Next c target)) s = advanced (cursor_at s.cursors c) s c target
-act m (Some (op.Column c k to)) s = put s to (column (current s.shared.world (cursor_at s.cursors c)) k)
+act m (Some (op.Column c k to)) s = put s to (column_of (current s.shared.world (cursor_at s.cursors c)) k)
 act m (Some (op.NewRowid c to table)) s = drawn s to table (next_rowid (cursor_rows s.shared.world (cursor_at s.cursors c)))
 act m (Some (op.Insert c rowid first n)) s = skip (record s { shared = inserted (cursor_at s.cursors c) s.shared (record { rowid = integer_in s.regs rowid; values = values_from s.regs first n }) })
 act m (Some op.Schema) s = skip (record s { shared = with_table s.shared })
@@ -387,7 +391,7 @@ pub record Run : Type 0 where
   pub ending : Ending
   pub shared : Shared
 
--- with these parameters, and from each world whose tables are in order, the program's run ends so, in at most so many instructions
-abbrev pub Performs : Program → (List Value → World → Run) → (World → ℕ) → Type 0
+-- whatever surrounds the program: its run from a world whose tables are in order ends so, in at most so many instructions
+abbrev pub Performs : Program → (Surroundings → Run) → (World → ℕ) → Type 0
 Performs p run most =
-    (params : List Value) (w : World) → IsOrdered w → Ends (record { prog = p }) (most w) (start p params w) (run params w).ending (run params w).shared
+    (x : Surroundings) → IsOrdered x.world → Ends (setting x.hosts x.ask p) (most x.world) (start p x.params x.world) (run x).ending (run x).shared

@@ -1,5 +1,5 @@
 // The instructions.
-use eng_value::{Affinity, BinaryOperator, Blob, Built, Builtin, Cause, Text, UnaryOperator};
+use eng_value::{Affinity, BinaryOperator, Blob, Builtin, Cause, Collation, Text, UnaryOperator};
 
 /// An instruction (The SQLite Bytecode Engine). Its operands are numbers of registers, cursors, columns, tables and units,
 /// and places in the unit's code; `r` is the registers of the frame, each of which holds a value or is bad. A register, a
@@ -137,7 +137,7 @@ pub enum Op {
     /// the collation.
     Function {
         function: Builtin,
-        collation: Built,
+        collation: Collation,
         first: u32,
         count: u32,
         to: u32,

@@ -2,3 +2,4 @@ mod Stored
 mod Puts
 mod Steps
 mod RegisterLaws
+mod Columns

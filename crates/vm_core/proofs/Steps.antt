@@ -1,10 +1,11 @@
 -- One instruction more.
 use Rattle.std.proofs.Common.{◌≡◌, ℕ, zero, suc, ◌+◌, List, [], Ok, Err, Result, Option, IfOk, OnErr, refl, sym, ap, ◌∙◌, subst, arith, rules}
 use Rattle.std.specs.declared.alloc.AllocError.{AllocError}
+use Rattle.eng_value.specs.HostMeanings.{HostMeanings, Oracle, no_hosts}
 use Rattle.vm_code.specs.declared.op.Op.{Op}
 use Rattle.vm_code.specs.declared.program.Program.{Program}
 use Rattle.vm_code.specs.Changes.{before}
-use Rattle.vm_code.specs.Machine.{Row, World, Setting, State, Next, On, End, act, step, go_on, after}
+use Rattle.vm_code.specs.Machine.{Row, World, Setting, State, Next, On, End, act, step, go_on, after, setting}
 use Rattle.vm_code.proofs.Kept.{shared_of, from_act}
 use Rattle.vm_core.specs.declared.event.Event.{Event}
 use Rattle.vm_core.specs.declared.event.Event.TheVariants as event
@@ -76,12 +77,18 @@ module _ (m : Setting) (o : Option Op) (p q : Progress) (w v : World) where
   undo_either (Ok f) e leads log tables = undo_leads f e leads
   undo_either (Err x) e leads log tables = ap (λ cs. before cs v) log ∙ ap (before p.changes) tables
 
--- the same from a machine that is seen as another
-pub seen_as : (p : Program) (r : Progress) (q : Paused) → paused p r ≡ q → (n : ℕ) (w : World) (x : Next) → after (record { prog = p }) n (state_at r w []) ≡ x → after (record { prog = q.prog }) n (state_of q w []) ≡ x
-seen_as p r q e n w x h = subst (λ (y : Paused). after (record { prog = y.prog }) n (state_of y w []) ≡ x) e h
+-- one instruction, where the hosts that tell these meanings are none
+pub same_step : (hosts : HostMeanings) → no_hosts ≡ hosts → (ask : Oracle) (p q : Program) → q ≡ p → (s : State) → step (setting hosts ask p) s ≡ step (setting no_hosts ask q) s
+same_step hosts told ask p q same s =
+    ap (λ h. step (setting h ask p) s) (sym told) ∙ ap (λ y. step (setting no_hosts ask y) s) (sym same)
 
-pub needed_as : (p : Program) (r : Progress) (q : Paused) → paused p r ≡ q → (n : ℕ) (w : World) → NoneInVain (record { prog = p }) n (state_at r w []) → NoneInVain (record { prog = q.prog }) n (state_of q w [])
-needed_as p r q e n w h = subst (λ (y : Paused). NoneInVain (record { prog = y.prog }) n (state_of y w [])) e h
+-- the same from a machine that is seen as another
+pub seen_as : (hosts : HostMeanings) (ask : Oracle) (p : Program) (r : Progress) (q : Paused) → paused p r ≡ q → (n : ℕ) (w : World) (x : Next) → after (setting hosts ask p) n (state_at r w []) ≡ x → after (setting hosts ask q.prog) n (state_of q w []) ≡ x
+seen_as hosts ask p r q e n w x h =
+    subst (λ (y : Paused). after (setting hosts ask y.prog) n (state_of y w []) ≡ x) e h
+
+pub needed_as : (hosts : HostMeanings) (ask : Oracle) (p : Program) (r : Progress) (q : Paused) → paused p r ≡ q → (n : ℕ) (w : World) → NoneInVain (setting hosts ask p) n (state_at r w []) → NoneInVain (setting hosts ask q.prog) n (state_of q w [])
+needed_as hosts ask p r q e n w h = subst (λ (y : Paused). NoneInVain (setting hosts ask y.prog) n (state_of y w [])) e h
 
 -- what is the same stays so where memory is wanting
 pub same_err : {A : Type 0} (r : Result Pace AllocError) (x : A) → OnErr r (x ≡ x)

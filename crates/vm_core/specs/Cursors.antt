@@ -1,9 +1,9 @@
--- Where a cursor comes to.
-use Rattle.std.specs.Prelude.{ℕ, ℤ, Bool, true, false, Some, None, slice_get}
+-- Where a cursor comes to, and what stands in its row.
+use Rattle.std.specs.Prelude.{ℕ, ℤ, Bool, true, false, [], Some, None, slice_get}
 use Rattle.std.specs.Option.{option_map}
 use Rattle.std.specs.declared.option.Option.{Option}
 use Rattle.eng_value.specs.StoredRows.{StoredRow}
-use Rattle.vm_code.specs.Machine.{World, Cursor, Closed, Open, rows_of, row_behind}
+use Rattle.vm_code.specs.Machine.{Row, World, Cursor, Closed, Open, rows_of, row_behind, row_under}
 
 abbrev pub is_on_row : Cursor → Bool
 is_on_row Closed = false
@@ -27,3 +27,14 @@ abbrev pub on_next : World → Cursor → Cursor
 on_next w Closed = Closed
 on_next w (Open table None) = Open table None
 on_next w (Open table (Some rowid)) = Open table (on_row (row_behind (rows_of w table) rowid))
+
+-- the values of a row; none where there is no row
+abbrev pub values_of : Option StoredRow → Row
+values_of None = []
+values_of (Some r) = r.values
+
+-- the values of a cursor's row; none where it is on none
+abbrev pub values_at : World → Cursor → Row
+values_at w Closed = []
+values_at w (Open table None) = []
+values_at w (Open table (Some rowid)) = values_of (row_under (rows_of w table) rowid)

@@ -3,8 +3,8 @@ ghost use Rattle.std.specs.Prelude.{◌≡◌, IfOk, slice_index_or};
 ghost use Rattle.eng_record.specs.Lent.{Lends};
 ghost use Rattle.eng_value.specs.StoredRows.{next_rowid};
 ghost use Rattle.eng_value.specs.declared.value.Value.TheVariants.{Null};
-ghost use Rattle.vm_code.specs.Machine.{cursor_rows, current};
-ghost use Rattle.vm_core.specs.Cursors.{is_on_row, on_first, on_next, table_of};
+ghost use Rattle.vm_code.specs.Machine.{cursor_rows};
+ghost use Rattle.vm_core.specs.Cursors.{is_on_row, on_first, on_next, table_of, values_at};
 
 use crate::Tables;
 use eng_record::Lent;
@@ -39,7 +39,7 @@ pub(crate) fn column(
     tables: &Tables,
     number: usize,
 ) -> Result<Value, AllocError>
-    ensures { IfOk result (λ v. v ≡ slice_index_or (current tables.now cursor.now) number Null) }
+    ensures { IfOk result (λ v. v ≡ slice_index_or (values_at tables.now cursor.now) number Null) }
 {
     match cursor.spot() {
         Spot::Open {
@@ -52,7 +52,7 @@ pub(crate) fn column(
 
 /// The integer or the text in a column of a cursor's row, where there is one.
 pub(crate) fn lent<'t>(cursor: &Cursor, tables: &'t Tables, number: usize) -> Lent<'t>
-    ensures { Lends result (slice_index_or (current tables.now cursor.now) number Null) }
+    ensures { Lends result (slice_index_or (values_at tables.now cursor.now) number Null) }
 {
     match cursor.spot() {
         Spot::Open {

@@ -1,7 +1,8 @@
 // One instruction.
 ghost use Rattle.std.specs.Prelude.{◌≡◌, ◌+◌, ◌^◌, ◌<◌, [], Some, IfOk, OnErr};
 ghost use Rattle.vm_code.specs.Changes.{before};
-ghost use Rattle.vm_code.specs.Machine.{act, cursor_at, cursor_rows, drawn, step};
+ghost use Rattle.vm_code.specs.Machine.{act, cursor_at, cursor_rows, drawn, setting, step};
+ghost use Rattle.eng_value.specs.HostMeanings.{Oracle, no_hosts};
 ghost use Rattle.eng_value.specs.StoredRows.{next_rowid};
 ghost use Rattle.vm_core.specs.Events.{ActsOver, Leads};
 ghost use Rattle.vm_core.specs.Paused.{state_at};
@@ -23,8 +24,8 @@ pub(crate) fn instruction(
     tables: &mut Tables,
     event: &mut Event,
 ) -> Result<Pace, AllocError>
-    ensures leads { IfOk result (λ pace. Leads pace event.new (state_at running.new tables.new)
-        (step (record { prog = program.now }) (state_at running.old tables.old []))) }
+    ensures leads { (ask : Oracle) → IfOk result (λ pace. Leads pace event.new (state_at running.new tables.new)
+        (step (setting no_hosts ask program.now) (state_at running.old tables.old []))) }
     ensures undo { before running.new.changes tables.new ≡ before running.old.changes tables.old }
 {
     match running.op(program) {
@@ -44,8 +45,8 @@ fn execute(
     event: &mut Event,
 ) -> Result<Pace, AllocError>
     requires { running.old.pc + 1 < 2 ^ 64 }
-    ensures leads { IfOk result (λ pace. Leads pace event.new (state_at running.new tables.new)
-        (act (record { prog = program.now }) (Some op.now) (state_at running.old tables.old []))) }
+    ensures leads { (ask : Oracle) → IfOk result (λ pace. Leads pace event.new (state_at running.new tables.new)
+        (act (setting no_hosts ask program.now) (Some op.now) (state_at running.old tables.old []))) }
     ensures log { OnErr result (running.new.changes ≡ running.old.changes) }
     ensures tables { OnErr result (tables.new ≡ tables.old) }
 {

@@ -1,14 +1,18 @@
 // The machine.
 ghost use Rattle.std.specs.Prelude.{◌≡◌, ◌+◌, ◌-◌, ◌≤◌, [], IfOk};
+ghost use Rattle.eng_value.specs.HostMeanings.{Oracle};
 ghost use Rattle.vm_code.specs.Changes.{before};
+ghost use Rattle.vm_code.specs.Honesty.{ProgramIsTold};
+ghost use Rattle.vm_code.specs.Machine.{setting};
 ghost use Rattle.vm_core.specs.Events.{EventIs, NamesBudget, NoneInVain};
+ghost use Rattle.vm_core.specs.Meant.{meant};
 ghost use Rattle.vm_core.specs.Paused.{at_start, state_of};
 
 use crate::execute::instruction;
 use crate::pace::Pace;
 use crate::running::Running;
-use crate::{Budget, Event, Tables};
-use eng_value::{Row, Steps};
+use crate::{Budget, Event, Hosts, Tables};
+use eng_value::{Meanings, Row, Steps};
 use std::alloc::{AllocError, Global};
 use std::marker::Model;
 use std::sync::ledger::Ledger;
@@ -44,26 +48,31 @@ impl Machine {
     }
 
     /// Runs to the next event. Each instruction counts once against the budget and ticks once; where the budget is used up
-    /// none is run.
-    pub fn step<L: Ledger>(
+    /// none is run. Where each host that the program names tells what it means, the event is the one of the machine over lists,
+    /// whoever answers what the hosts ask.
+    pub fn step<M: Meanings, L: Ledger>(
         &mut self,
         alloc: Global,
         tables: &mut Tables,
+        hosts: &mut Hosts,
         budget: &mut Budget,
         steps: &mut Steps<L>,
     ) -> Event
-        requires { budget.old.ran ≤ budget.old.whole }
+        requires ran { budget.old.ran ≤ budget.old.whole }
+        requires told { meant hosts.old ≡ M.hosts }
         ensures ran { budget.old.ran ≤ budget.new.ran }
         ensures within { budget.new.ran ≤ budget.old.whole }
         ensures whole { budget.new.whole ≡ budget.old.whole }
         ensures counted { steps.new ≡ steps.old + (budget.new.ran - budget.old.ran) }
         ensures program { self.new.prog ≡ self.old.prog }
-        ensures event { EventIs (record { prog = self.old.prog }) (budget.new.ran - budget.old.ran)
+        ensures event { ProgramIsTold M.hosts self.old.prog → (ask : Oracle) →
+            EventIs (setting M.hosts ask self.old.prog) (budget.new.ran - budget.old.ran)
             (state_of self.old tables.old []) (state_of self.new tables.new) (budget.new.ran ≡ budget.old.whole) result }
-        ensures needed { NoneInVain (record { prog = self.old.prog }) (budget.new.ran - budget.old.ran)
-            (state_of self.old tables.old []) }
+        ensures needed { ProgramIsTold M.hosts self.old.prog → (ask : Oracle) →
+            NoneInVain (setting M.hosts ask self.old.prog) (budget.new.ran - budget.old.ran) (state_of self.old tables.old []) }
         ensures interrupted { NamesBudget budget.old.whole result }
         ensures undo { before self.new.changes tables.new ≡ before self.old.changes tables.old }
+        ensures told { meant hosts.new ≡ M.hosts }
     {
         let mut event = Event::Done;
         while budget.ran < budget.whole {

@@ -3,14 +3,15 @@ ghost use Rattle.std.specs.Prelude.{◌≡◌, ◌+◌, ◌^◌, ◌<◌, if◌t
 ghost use Rattle.std.specs.Option.{option_copied};
 ghost use Rattle.eng_record.specs.Lent.{Lends};
 ghost use Rattle.eng_value.specs.Casts.{store_as};
+ghost use Rattle.eng_value.specs.Environments.{column_of};
 ghost use Rattle.eng_value.specs.Outs.{turned};
 ghost use Rattle.eng_value.specs.StoredRows.{next_rowid};
 ghost use Rattle.eng_value.specs.declared.out.Out.{Out as MeantOut};
 ghost use Rattle.eng_value.specs.declared.out.Out.TheVariants.{Good};
 ghost use Rattle.eng_value.specs.declared.value.Value.TheVariants as sql;
 ghost use Rattle.eng_value.specs.declared.value.Value.TheVariants.{Integer, Null};
-ghost use Rattle.vm_code.specs.Machine.{Closed, End, Finished, Open, called, code_of, column, current, cursor_at, cursor_rows, ending_of, inserted, integer_in, jump, outs_from, put, read as read_of, returned, skip, unit_at, values_from, with_cursor, with_table};
-ghost use Rattle.vm_core.specs.Cursors.{is_on_row, on_first, on_next, table_of};
+ghost use Rattle.vm_code.specs.Machine.{Closed, End, Finished, Open, called, code_of, current, cursor_at, cursor_rows, ending_of, inserted, integer_in, jump, outs_from, put, read as read_of, returned, skip, unit_at, values_from, with_cursor, with_table};
+ghost use Rattle.vm_core.specs.Cursors.{is_on_row, on_first, on_next, table_of, values_at};
 ghost use Rattle.vm_core.specs.Events.{Acts, ActsOn, StopsOrActs};
 ghost use Rattle.vm_core.specs.Paused.{shared_of, state_at};
 ghost use Rattle.vm_core.specs.Tests.{passes};
@@ -375,7 +376,7 @@ impl Running {
         place: u32,
     ) -> Result<Out, AllocError>
         ensures { IfOk result (λ out.
-            out ≡ column (current tables.now (cursor_at self.now.cursors number)) place) }
+            out ≡ column_of (current tables.now (cursor_at self.now.cursors number)) place) }
     {
         match self.cursors.get(number as usize) {
             None => Ok(Out::Good(Value::Null)),
@@ -385,7 +386,7 @@ impl Running {
 
     /// The integer or the text in a column of a cursor's row, where there is one.
     pub fn lent<'t>(&self, tables: &'t Tables, number: u32, place: u32) -> Lent<'t>
-        ensures { Lends result (slice_index_or (current tables.now (cursor_at self.now.cursors number)) place Null) }
+        ensures { Lends result (slice_index_or (values_at tables.now (cursor_at self.now.cursors number)) place Null) }
     {
         match self.cursors.get(number as usize) {
             None => Lent::Other,

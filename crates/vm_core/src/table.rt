@@ -5,8 +5,8 @@ ghost use Rattle.eng_record.specs.Reading.{reading};
 ghost use Rattle.eng_value.specs.StoredRows.{IsAscending, next_rowid};
 ghost use Rattle.eng_value.specs.declared.value.Value.TheVariants.{Null};
 ghost use Rattle.vm_code.specs.Changes.{drop_row};
-ghost use Rattle.vm_code.specs.Machine.{Row as MeantRow, put_row, row_behind, row_under, values_of};
-ghost use Rattle.vm_core.specs.Cursors.{on_row};
+ghost use Rattle.vm_code.specs.Machine.{Row as MeantRow, put_row, row_behind, row_under};
+ghost use Rattle.vm_core.specs.Cursors.{on_row, values_of};
 ghost use Rattle.vm_core.specs.Stored.{row_from};
 
 use eng_key::{rowid_key, rowid_of_key};

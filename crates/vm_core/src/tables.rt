@@ -5,8 +5,8 @@ ghost use Rattle.eng_value.specs.StoredRows.{next_rowid};
 ghost use Rattle.eng_value.specs.declared.value.Value.{Value as MeantValue};
 ghost use Rattle.eng_value.specs.declared.value.Value.TheVariants.{Null};
 ghost use Rattle.vm_code.specs.Changes.{undone};
-ghost use Rattle.vm_code.specs.Machine.{IsOrdered, row_behind, row_under, rows_of, values_of, with_row, with_table};
-ghost use Rattle.vm_core.specs.Cursors.{on_row};
+ghost use Rattle.vm_code.specs.Machine.{IsOrdered, row_behind, row_under, rows_of, with_row, with_table};
+ghost use Rattle.vm_core.specs.Cursors.{on_row, values_of};
 ghost use Rattle.vm_core.specs.Paused.{shared_of};
 
 use crate::table::Table;

@@ -1,8 +1,9 @@
 // What instructions make of registers.
 ghost use Rattle.std.specs.Prelude.{◌≡◌, IfOk, IfSome, slice_index_or};
-ghost use Rattle.eng_key.specs.Values.{value_key};
+ghost use Rattle.eng_key.specs.Values.{value_keys};
 ghost use Rattle.eng_value.specs.Applied.{binary_of, function_by, merged, unary_of};
 ghost use Rattle.eng_value.specs.Casts.{store_as};
+ghost use Rattle.eng_value.specs.Collations.{own_keys};
 ghost use Rattle.eng_value.specs.Comparisons.{like_escaped_of};
 ghost use Rattle.eng_value.specs.Operators.{length_of, made};
 ghost use Rattle.eng_value.specs.Outs.{turned};
@@ -13,8 +14,8 @@ ghost use Rattle.vm_code.specs.Machine.{outs_from, parameter_at, read as read_of
 use eng_operator as operator;
 use eng_scalar as scalar;
 use eng_value::{
-    Affinity, BinaryOperator, Built, Builtin, Cause, MAX_VALUE_BYTES, Out, UnaryOperator, Value,
-    store_as,
+    Affinity, BinaryOperator, Builtin, Cause, Collation, MAX_VALUE_BYTES, Out, UnaryOperator,
+    Value, store_as,
 };
 use std::alloc::{AllocError, Global};
 use vm_store::Registers;
@@ -41,7 +42,7 @@ pub(crate) fn binary(
     right: u32,
 ) -> Result<Out, AllocError>
     ensures { IfOk result (λ out.
-        out ≡ binary_of operator (read_of registers.now left) (read_of registers.now right)) }
+        out ≡ binary_of own_keys operator (read_of registers.now left) (read_of registers.now right)) }
 {
     let null = Out::Good(Value::Null);
     operator::binary(
@@ -60,7 +61,7 @@ pub(crate) fn integers(
     right: u32,
 ) -> Option<i64>
     ensures { IfSome result (λ n.
-        binary_of operator.now (read_of registers.now left) (read_of registers.now right) ≡ Good (Integer n)) }
+        binary_of own_keys operator.now (read_of registers.now left) (read_of registers.now right) ≡ Good (Integer n)) }
 {
     match (registers.integer_at(left), registers.integer_at(right)) {
         (Some(a), Some(b)) => operator::binary_of_integers(operator, a, b),
@@ -76,7 +77,7 @@ pub(crate) fn texts(
     right: u32,
 ) -> Option<i64>
     ensures { IfSome result (λ n.
-        binary_of operator.now (read_of registers.now left) (read_of registers.now right) ≡ Good (Integer n)) }
+        binary_of own_keys operator.now (read_of registers.now left) (read_of registers.now right) ≡ Good (Integer n)) }
 {
     match (registers.text_at(left), registers.text_at(right)) {
         (Some(a), Some(b)) => operator::binary_of_texts(operator, a, b),
@@ -109,12 +110,12 @@ pub(crate) fn function(
     registers: &Registers,
     alloc: Global,
     function: Builtin,
-    collation: Built,
+    collation: Collation,
     first: u32,
     count: u32,
 ) -> Result<Out, AllocError>
     ensures { IfOk result (λ out.
-        out ≡ function_by value_key function collation (outs_from registers.now first count)) }
+        out ≡ function_by (value_keys own_keys) function collation (outs_from registers.now first count)) }
 {
     let mut args = registers.outs(alloc, first, count)?;
     scalar::function(alloc, function, collation, &mut args)

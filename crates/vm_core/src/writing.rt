@@ -1,14 +1,16 @@
 // The instructions that write into registers, and `Insert`, which reads them. Each has a method of its own that is not inlined, so
 // that it alone pays for the locals that it needs.
 ghost use Rattle.std.specs.Prelude.{◌≡◌, ◌+◌, ◌^◌, ◌<◌, OnErr};
-ghost use Rattle.eng_key.specs.Values.{value_key};
+ghost use Rattle.eng_key.specs.Values.{value_keys};
 ghost use Rattle.eng_value.specs.Applied.{binary_of, function_by, merged, unary_of};
+ghost use Rattle.eng_value.specs.Collations.{own_keys};
 ghost use Rattle.eng_value.specs.Comparisons.{like_escaped_of};
+ghost use Rattle.eng_value.specs.Environments.{column_of};
 ghost use Rattle.eng_value.specs.Outs.{bad};
 ghost use Rattle.eng_value.specs.StoredRows.{StoredRow as MeantRow};
 ghost use Rattle.eng_value.specs.declared.out.Out.TheVariants.{Good};
 ghost use Rattle.eng_value.specs.declared.value.Value.TheVariants as value;
-ghost use Rattle.vm_code.specs.Machine.{column, current, cursor_at, inserted, integer_in, outs_from, parameter_at, put, read as read_of, skip, values_from};
+ghost use Rattle.vm_code.specs.Machine.{current, cursor_at, inserted, integer_in, outs_from, parameter_at, put, read as read_of, skip, values_from};
 ghost use Rattle.vm_core.specs.Events.{Acts, ActsOn};
 
 use crate::Tables;
@@ -17,7 +19,7 @@ use crate::running::Running;
 use crate::values::{binary, function, integers, like_escaped, merge, parameter, texts, unary};
 use eng_record::Lent;
 use eng_value::{
-    BinaryOperator, Blob, Built, Builtin, Cause, Out, StoredRow, Text, UnaryOperator, Value,
+    BinaryOperator, Blob, Builtin, Cause, Collation, Out, StoredRow, Text, UnaryOperator, Value,
 };
 use std::alloc::{AllocError, Global};
 
@@ -139,7 +141,7 @@ impl Running {
         to: u32,
     ) -> Result<Pace, AllocError>
         requires { self.old.pc + 1 < 2 ^ 64 }
-        ensures leads { Acts result self.old self.new (λ s. put s to (binary_of operator.now (read_of s.regs left) (read_of s.regs right))) }
+        ensures leads { Acts result self.old self.new (λ s. put s to (binary_of own_keys operator.now (read_of s.regs left) (read_of s.regs right))) }
         ensures log { OnErr result (self.new.changes ≡ self.old.changes) }
     {
         match integers(self.registers(), operator, left, right) {
@@ -159,7 +161,7 @@ impl Running {
         to: u32,
     ) -> Result<Pace, AllocError>
         requires { self.old.pc + 1 < 2 ^ 64 }
-        ensures leads { Acts result self.old self.new (λ s. put s to (binary_of operator.now (read_of s.regs left) (read_of s.regs right))) }
+        ensures leads { Acts result self.old self.new (λ s. put s to (binary_of own_keys operator.now (read_of s.regs left) (read_of s.regs right))) }
         ensures log { OnErr result (self.new.changes ≡ self.old.changes) }
     {
         match texts(self.registers(), operator, left, right) {
@@ -179,7 +181,7 @@ impl Running {
         to: u32,
     ) -> Result<Pace, AllocError>
         requires { self.old.pc + 1 < 2 ^ 64 }
-        ensures leads { Acts result self.old self.new (λ s. put s to (binary_of operator.now (read_of s.regs left) (read_of s.regs right))) }
+        ensures leads { Acts result self.old self.new (λ s. put s to (binary_of own_keys operator.now (read_of s.regs left) (read_of s.regs right))) }
         ensures log { OnErr result (self.new.changes ≡ self.old.changes) }
     {
         let made = binary(self.registers(), alloc, *operator, left, right);
@@ -210,13 +212,13 @@ impl Running {
         &mut self,
         alloc: Global,
         name: Builtin,
-        collation: Built,
+        collation: Collation,
         first: u32,
         count: u32,
         to: u32,
     ) -> Result<Pace, AllocError>
         requires { self.old.pc + 1 < 2 ^ 64 }
-        ensures leads { Acts result self.old self.new (λ s. put s to (function_by value_key name collation (outs_from s.regs first count))) }
+        ensures leads { Acts result self.old self.new (λ s. put s to (function_by (value_keys own_keys) name collation (outs_from s.regs first count))) }
         ensures log { OnErr result (self.new.changes ≡ self.old.changes) }
     {
         let made = function(self.registers(), alloc, name, collation, first, count);
@@ -245,7 +247,7 @@ impl Running {
         to: u32,
     ) -> Result<Pace, AllocError>
         requires { self.old.pc + 1 < 2 ^ 64 }
-        ensures leads { ActsOn result self.old tables.now self.new tables.now (λ s. put s to (column (current s.shared.world (cursor_at s.cursors cursor)) place)) }
+        ensures leads { ActsOn result self.old tables.now self.new tables.now (λ s. put s to (column_of (current s.shared.world (cursor_at s.cursors cursor)) place)) }
         ensures log { OnErr result (self.new.changes ≡ self.old.changes) }
     {
         match self.lent(tables, cursor, place) {
@@ -266,7 +268,7 @@ impl Running {
         to: u32,
     ) -> Result<Pace, AllocError>
         requires { self.old.pc + 1 < 2 ^ 64 }
-        ensures leads { ActsOn result self.old tables.now self.new tables.now (λ s. put s to (column (current s.shared.world (cursor_at s.cursors cursor)) place)) }
+        ensures leads { ActsOn result self.old tables.now self.new tables.now (λ s. put s to (column_of (current s.shared.world (cursor_at s.cursors cursor)) place)) }
         ensures log { OnErr result (self.new.changes ≡ self.old.changes) }
     {
         let made = self.column(alloc, tables, cursor, place);

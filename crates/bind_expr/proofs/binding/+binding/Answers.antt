@@ -197,7 +197,7 @@ bind_all-returns-in_err-push t c =
 pub bind_all-loop-e-preserved : goal.bind_all-loop-e-preserved
 bind_all-loop-e-preserved t c =
     let is = next_is (part_of c.args.scope.now) operand _ c.loop-e.found c.args.es.now c.loop-e.e-index c.e-item.result c.loop-e-test.true c.e-item.is c.loop-e.invariant in
-    rw c.in_ok-push.ensures (goes_on _ _ _ _ is c.in_ok-part.ensures)
+    rw (c.in_ok-push.ensures, c.collation-first.ensures) (goes_on _ _ _ _ is c.in_ok-part.ensures)
 
 pub bind_all-returns : goal.bind_all-returns
 bind_all-returns t c =
@@ -217,7 +217,7 @@ bind_choices-returns-in_err-push t c =
 pub bind_choices-loop-arm-preserved : goal.bind_choices-loop-arm-preserved
 bind_choices-loop-arm-preserved t c =
     let is = next_is (λ arm. arm_in (arm_bound arm c.args.scope.now)) choice _ c.loop-arm.found c.args.arms.now c.loop-arm.arm-index c.arm-item.result c.loop-arm-test.true c.arm-item.is c.loop-arm.invariant in
-    rw (c.in_ok-push.ensures, c.chosen.ensures, c.collation-collation.ensures) (goes_on _ _ _ _ is c.in_ok-part.ensures)
+    rw (c.in_ok-push.ensures, c.chosen.ensures, c.explicit-explicit.ensures) (goes_on _ _ _ _ is c.in_ok-part.ensures)
 
 pub bind_choices-returns : goal.bind_choices-returns
 bind_choices-returns t c =
@@ -237,7 +237,7 @@ bind_matches-returns-in_err-push t c =
 pub bind_matches-loop-arm-preserved : goal.bind_matches-loop-arm-preserved
 bind_matches-loop-arm-preserved t c =
     let is = next_is (λ arm. arm_in (arm_bound arm c.args.scope.now)) (matching (whole c.args.operand.now)) _ c.loop-arm.found c.args.arms.now c.loop-arm.arm-index c.arm-item.result c.loop-arm-test.true c.arm-item.is c.loop-arm.invariant in
-    rw (c.in_ok-push.ensures, c.matched.ensures, c.collation-collation.ensures) (goes_on _ _ _ _ is c.in_ok-part.ensures)
+    rw (c.in_ok-push.ensures, c.matched.ensures, c.explicit-explicit.ensures) (goes_on _ _ _ _ is c.in_ok-part.ensures)
 
 pub bind_matches-returns : goal.bind_matches-returns
 bind_matches-returns t c =

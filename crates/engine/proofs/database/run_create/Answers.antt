@@ -1,23 +1,29 @@
-use Rattle.std.proofs.Common.{◌-◌, [], ◌∷◌, length, ap, sym, ◌∙◌, refl, arith}
+use Rattle.std.proofs.Common.{◌≡◌, ◌-◌, [], ◌∷◌, length, ap, sym, ◌∙◌, refl, arith}
 use Rattle.std.proofs.lemmas.List.{length-append}
+use Rattle.eng_value.specs.HostMeanings.{nobody}
 use Rattle.gen_write.specs.Writes.{create_run, create_steps}
 use Rattle.host_traits.specs.Faults.{Rose}
+use Rattle.vm_code.specs.Machine.{Failed, Finished}
 use Rattle.engine.specs.Held.{state_of}
-use Rattle.engine.specs.Outcomes.{create_outcome_in}
+use Rattle.engine.specs.Outcomes.{create_outcome_in, surroundings_in}
 use Rattle.engine.proofs.Writing.{popped_option}
 use Rattle.engine.proofs.CarryingOut.{carries_Ok, carries_Err, carries_Mem}
+use Rattle.engine.proofs.Telling.{all_told}
 use Rattle.engine.proofs.database.run_create.Goals as goal
 
 pub returns-in_default-clause-carried : goal.returns-in_default-clause-carried
 returns-in_default-clause-carried g c =
     let db = c.args.database.now in
-    carries_Mem (create_outcome_in db.catalog db.tables db.changes db.last_rowid c.args.entry) (state_of db.catalog db.tables db.changes db.last_rowid) c.args.budget (create_steps db.tables) c.args.steps.now (g.R.RowSink.taken c.args.rows.now) (Rose (g.R.RowSink.fault_count c.args.rows.now) (g.R.RowSink.fault_count c.args.rows.now))
+    let old = state_of db.catalog db.tables db.changes db.last_rowid in
+    carries_Mem (create_outcome_in db.catalog db.tables db.changes db.last_rowid c.args.entry) old c.args.budget (create_steps db.tables) c.args.steps.now (g.R.RowSink.taken c.args.rows.now) (Rose (g.R.RowSink.fault_count c.args.rows.now) (g.R.RowSink.fault_count c.args.rows.now))
 
 pub returns-in-Ok-execute-clause-in_line : goal.returns-in-Ok-execute-clause-in_line
 returns-in-Ok-execute-clause-in_line g c =
     let db = c.args.database.now in
+    let around = surroundings_in g.M.Meanings.hosts [] db.tables in
     let run = create_run [] db.tables in
-    let a = c.in-Ok-execute.ensures.runs (create_steps db.tables) run.ending run.shared (c.in-Ok.ensures [] db.tables c.requires.ordered) in
+    let told = all_told c.args.hosts.now g.M.Meanings.hosts c.in-Ok.program c.requires.told in
+    let a = c.in-Ok-execute.ensures.runs told nobody (create_steps db.tables) run.ending run.shared (c.in-Ok.ensures around c.requires.ordered) in
     let tables = ap length a.answer.1 ∙ length-append db.tables ([] ∷ []) in
     let catalog = ap length c.in-Ok-push.ensures.ok ∙ length-append db.catalog (c.args.entry ∷ []) in
     omega (arith, tables, catalog, c.requires.in_line)
@@ -25,30 +31,43 @@ returns-in-Ok-execute-clause-in_line g c =
 pub returns-in-Ok-execute-clause-carried : goal.returns-in-Ok-execute-clause-carried
 returns-in-Ok-execute-clause-carried g c =
     let db = c.args.database.now in
+    let old = state_of db.catalog db.tables db.changes db.last_rowid in
+    let around = surroundings_in g.M.Meanings.hosts [] db.tables in
     let run = create_run [] db.tables in
     let most = create_steps db.tables in
-    let a = c.in-Ok-execute.ensures.runs most run.ending run.shared (c.in-Ok.ensures [] db.tables c.requires.ordered) in
-    carries_Ok (create_outcome_in db.catalog db.tables db.changes db.last_rowid c.args.entry) run.ending run.shared (record { ended = refl; given = refl }) most most c.args.budget (c.execute.new.steps - c.args.steps.now) db.tables c.execute.new.tables (g.R.RowSink.taken c.args.rows.now) (g.R.RowSink.taken c.execute.new.rows) (Rose (g.R.RowSink.fault_count c.args.rows.now) (g.R.RowSink.fault_count c.execute.new.rows)) (omega arith) (state_of db.catalog db.tables db.changes db.last_rowid) (state_of c.push.new.self c.execute.new.tables db.changes db.last_rowid) c.in-Ok-execute.completed c.done.result (rw (a.answer.1, c.in-Ok-push.ensures.ok) refl) c.done.ensures.given c.done.ensures.changed a
+    let told = all_told c.args.hosts.now g.M.Meanings.hosts c.in-Ok.program c.requires.told in
+    let a = c.in-Ok-execute.ensures.runs told nobody most run.ending run.shared (c.in-Ok.ensures around c.requires.ordered) in
+    carries_Ok old (create_outcome_in db.catalog db.tables db.changes db.last_rowid c.args.entry) run.ending run.shared (record { ended = refl; given = refl; kept = λ causes is. absurd (let bad : Finished ≡ Failed causes = is in cc) }) most most c.args.budget (c.execute.new.steps - c.args.steps.now) c.execute.new.tables (g.R.RowSink.taken c.args.rows.now) (g.R.RowSink.taken c.execute.new.rows) (Rose (g.R.RowSink.fault_count c.args.rows.now) (g.R.RowSink.fault_count c.execute.new.rows)) (omega arith) (state_of c.push.new.self c.execute.new.tables db.changes db.last_rowid) c.in-Ok-execute.completed c.done.result (rw (a.answer.1, c.in-Ok-push.ensures.ok) refl) c.done.ensures.given c.done.ensures.changed a
 
 pub returns-in-Err-clause-in_line : goal.returns-in-Err-clause-in_line
 returns-in-Err-clause-in_line g c =
     let db = c.args.database.now in
-    let run = create_run [] db.tables in
-    let a = c.in-Err.ensures.runs (create_steps db.tables) run.ending run.shared (c.in-Ok.ensures [] db.tables c.requires.ordered) in
     let back = popped_option db.catalog c.push.new.self c.pop.new.self c.args.entry c.pop.result c.pop.ensures c.in-Ok-push.ensures.ok in
-    ap length a.answer.0 ∙ c.requires.in_line ∙ ap length (sym back)
+    ap length c.in-Err.ensures.kept ∙ c.requires.in_line ∙ ap length (sym back)
+
+pub returns-in-Err-clause-kept : goal.returns-in-Err-clause-kept
+returns-in-Err-clause-kept g c =
+    let db = c.args.database.now in
+    let back = popped_option db.catalog c.push.new.self c.pop.new.self c.args.entry c.pop.result c.pop.ensures c.in-Ok-push.ensures.ok in
+    rw (c.in-Err.ensures.kept, back) refl
 
 pub returns-in-Err-clause-carried : goal.returns-in-Err-clause-carried
 returns-in-Err-clause-carried g c =
     let db = c.args.database.now in
+    let old = state_of db.catalog db.tables db.changes db.last_rowid in
+    let around = surroundings_in g.M.Meanings.hosts [] db.tables in
     let run = create_run [] db.tables in
     let most = create_steps db.tables in
-    let a = c.in-Err.ensures.runs most run.ending run.shared (c.in-Ok.ensures [] db.tables c.requires.ordered) in
+    let told = all_told c.args.hosts.now g.M.Meanings.hosts c.in-Ok.program c.requires.told in
+    let a = c.in-Err.ensures.runs told nobody most run.ending run.shared (c.in-Ok.ensures around c.requires.ordered) in
     let back = popped_option db.catalog c.push.new.self c.pop.new.self c.args.entry c.pop.result c.pop.ensures c.in-Ok-push.ensures.ok in
-    carries_Err (create_outcome_in db.catalog db.tables db.changes db.last_rowid c.args.entry) run.ending run.shared (record { ended = refl; given = refl }) most most c.args.budget (c.execute.new.steps - c.args.steps.now) db.tables c.execute.new.tables (g.R.RowSink.taken c.args.rows.now) (g.R.RowSink.taken c.execute.new.rows) (Rose (g.R.RowSink.fault_count c.args.rows.now) (g.R.RowSink.fault_count c.execute.new.rows)) (omega arith) (state_of db.catalog db.tables db.changes db.last_rowid) (state_of c.pop.new.self c.execute.new.tables db.changes db.last_rowid) c.in-Err.cause (rw (a.answer.0, back) refl) a
+    carries_Err old (create_outcome_in db.catalog db.tables db.changes db.last_rowid c.args.entry) run.ending run.shared (record { ended = refl; given = refl; kept = λ causes is. absurd (let bad : Finished ≡ Failed causes = is in cc) }) most most c.args.budget (c.execute.new.steps - c.args.steps.now) c.execute.new.tables (g.R.RowSink.taken c.args.rows.now) (g.R.RowSink.taken c.execute.new.rows) (Rose (g.R.RowSink.fault_count c.args.rows.now) (g.R.RowSink.fault_count c.execute.new.rows)) (omega arith) (state_of c.pop.new.self c.execute.new.tables db.changes db.last_rowid) c.in-Err.cause (rw (c.in-Err.ensures.kept, back) refl) a
 
 pub returns-in_default-push-clause-carried : goal.returns-in_default-push-clause-carried
 returns-in_default-push-clause-carried g c =
     let db = c.args.database.now in
-    let state = state_of db.catalog db.tables db.changes db.last_rowid in
-    rw c.in_default-push.ensures.err (carries_Mem (create_outcome_in db.catalog db.tables db.changes db.last_rowid c.args.entry) state c.args.budget (create_steps db.tables) c.args.steps.now (g.R.RowSink.taken c.args.rows.now) (Rose (g.R.RowSink.fault_count c.args.rows.now) (g.R.RowSink.fault_count c.args.rows.now)))
+    let old = state_of db.catalog db.tables db.changes db.last_rowid in
+    rw c.in_default-push.ensures.err (carries_Mem (create_outcome_in db.catalog db.tables db.changes db.last_rowid c.args.entry) old c.args.budget (create_steps db.tables) c.args.steps.now (g.R.RowSink.taken c.args.rows.now) (Rose (g.R.RowSink.fault_count c.args.rows.now) (g.R.RowSink.fault_count c.args.rows.now)))
+
+pub returns-in_default-push-clause-kept : goal.returns-in_default-push-clause-kept
+returns-in_default-push-clause-kept g c = rw c.in_default-push.ensures.err refl

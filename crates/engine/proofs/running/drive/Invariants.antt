@@ -1,5 +1,8 @@
 use Rattle.std.proofs.Common.{◌≡◌, ◌≤◌, ◌+◌, ◌-◌}
+use Rattle.eng_value.specs.HostMeanings.{Oracle}
 use Rattle.vm_code.specs.Changes.{before}
+use Rattle.vm_code.specs.Honesty.{ProgramIsTold}
+use Rattle.vm_core.specs.Meant.{meant}
 use Rattle.engine.proofs.Stretches.{Along}
 use Rattle.engine.proofs.running.drive.Given as goal
 
@@ -12,7 +15,8 @@ invariant-loop-given g l = record {
   undo : before l.machine.changes l.tables ≡ before l.initial.machine.changes l.initial.tables;
   faults : g.R.RowSink.fault_count l.initial.rows ≤ g.R.RowSink.fault_count l.rows;
   few : l.given ≤ l.budget.ran;
-  along : Along l.initial.machine l.machine l.initial.tables l.tables (g.R.RowSink.taken l.initial.rows) (g.R.RowSink.taken l.rows) l.budget.ran l.given;
+  told : meant l.hosts ≡ g.M.Meanings.hosts;
+  along : ProgramIsTold g.M.Meanings.hosts l.initial.machine.prog → (ask : Oracle) → Along g.M.Meanings.hosts ask l.initial.machine l.machine l.initial.tables l.tables (g.R.RowSink.taken l.initial.rows) (g.R.RowSink.taken l.rows) l.budget.ran l.given;
 }
 
 abbrev pub decreases-loop-given : goal.decreases-loop-given

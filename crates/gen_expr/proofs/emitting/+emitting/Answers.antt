@@ -1,14 +1,11 @@
-use Rattle.std.proofs.Common.{rules, ◌≡◌, ◌∙◌, length, refl, sym, ap, subst, arith}
+use Rattle.std.proofs.Common.{◌≡◌, ◌∙◌, length, refl, ap, arith}
 use Rattle.std.specs.Prelude.{slice_get}
-use Rattle.std.proofs.lemmas.Grind.{common_steps}
 use Rattle.vm_code.specs.Draft.{Draft}
-use Rattle.vm_code.specs.Frames.{Leaves, Fills}
-use Rattle.gen_expr.proofs.Expressions.{of_literal, of_column, of_parameter, of_unary, of_binary, three_fill, of_like_escaped, of_between, all_more, of_call, member_more, member_leaves, of_in, known_more, known_leaves, of_coalesce, choice_more, choice_leaves, of_choose, match_more, match_leaves, of_match}
-use Rattle.gen_expr.proofs.Assembly.{taken_room, beside_of, beside_on, turns_at, decides_at, emits_from, all_filled, label_open, tested_open, arm_parts, arm_steps, match_parts, match_steps, member_all, known_all, choice_all, match_all}
+use Rattle.gen_expr.proofs.Expressions.{of_literal, of_column, of_parameter, of_unary, of_binary, three_fill, of_like_escaped, of_between, all_more, of_call, member_more, of_in, known_more, of_coalesce, choice_more, of_choose, match_more, of_match}
+use Rattle.gen_expr.proofs.Assembly.{beside_of, beside_on, turns_at, decides_at, emits_from, all_filled, label_open, tested_open, arm_parts, arm_steps, match_parts, match_steps, member_all, known_all, choice_all, match_all}
 use Rattle.gen_expr.proofs.Stretches.{decides_none}
 use Rattle.gen_expr.specs.Parts.{with_arm_tested}
 use Rattle.sql_meaning.specs.declared.bound.BoundArm.{out-BoundArm}
-use Rattle.sql_meaning.specs.declared.bound.BoundExpr.{the_lemmas}
 use Rattle.sql_meaning.specs.declared.bound.BoundMatch.{out-BoundMatch}
 use Rattle.gen_expr.proofs.emitting.+emitting.Goals as goal
 

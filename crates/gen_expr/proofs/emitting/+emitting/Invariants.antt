@@ -1,7 +1,8 @@
 use denote.Param.Weighed.{most}
-use Rattle.std.proofs.Common.{◌≡◌, ℕ, ◌+◌, ◌*◌, ◌≤◌, map, fold, max, take}
+use Rattle.std.proofs.Common.{◌≡◌, ◌+◌, ◌*◌, ◌≤◌, map, fold, max, take}
 use Rattle.std.specs.Prelude.{sum_by}
 use Rattle.eng_value.specs.Applied.{or_equal}
+use Rattle.eng_value.specs.Collations.{keys_of}
 use Rattle.gen_expr.specs.Parts.{Turns, Decides, decided_arm, decided_known, decided_match, first_in}
 use Rattle.gen_expr.specs.Steps.{steps_of, arm_steps_of, match_steps_of}
 use Rattle.sql_meaning.specs.Expression.{value_of, arm_of, match_of, in_all}
@@ -12,14 +13,14 @@ use Rattle.gen_expr.proofs.emitting.+emitting.Given as goal
 
 abbrev pub invariant-emit_all-loop-e : goal.invariant-emit_all-loop-e
 invariant-emit_all-loop-e l = record {
-  fills : Fills l.initial.b l.b l.e-index (λ w env. in_all (map value_of (take l.e-index l.all)) env) (λ w. sum_by steps_of (take l.e-index l.all));
+  fills : Fills l.initial.b l.b l.e-index (λ env. in_all (map value_of (take l.e-index l.all)) env) (λ w. sum_by steps_of (take l.e-index l.all));
   units : l.b.units ≡ l.initial.b.units;
   cursors : l.b.cursors ≡ l.initial.b.cursors;
 }
 
 abbrev pub invariant-emit_member-loop-e : goal.invariant-emit_member-loop-e
 invariant-emit_member-loop-e l = record {
-  turns : Turns l.initial.b l.b l.value l.to (λ env x y. fold (or_equal l.sides x) y (in_all (map value_of (take l.e-index l.others)) env)) (sum_by (λ e. steps_of e + 2) (take l.e-index l.others));
+  turns : Turns l.initial.b l.b l.value l.to (λ env x y. fold (or_equal (keys_of env.hosts) l.sides x) y (in_all (map value_of (take l.e-index l.others)) env)) (sum_by (λ e. steps_of e + 2) (take l.e-index l.others));
   next : l.b.next ≡ l.initial.b.next;
   most : l.initial.b.most ≤ l.b.most;
   units : l.b.units ≡ l.initial.b.units;

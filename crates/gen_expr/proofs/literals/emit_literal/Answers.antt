@@ -11,4 +11,4 @@ returns-in_ok-emit_value-in-Value-clause-leaves c =
 
 pub returns-in_ok-op-in-Bad-clause-leaves : goal.returns-in_ok-op-in-Bad-clause-leaves
 returns-in_ok-op-in-Bad-clause-leaves c =
-    rw (c.in-Bad.is, c.in_ok-op-in-Bad.ensures, c.in_ok-clone-in-Bad.ensures.cases) (leaves_op c.args.b.now (op.Bad c.in-Bad.cause c.args.to) c.args.to (λ w env. bad c.in-Bad.cause) c.requires.taken c.requires.counted (λ m at s. refl))
+    rw (c.in-Bad.is, c.in_ok-op-in-Bad.ensures, c.in_ok-clone-in-Bad.ensures.cases) (leaves_op c.args.b.now (op.Bad c.in-Bad.cause c.args.to) c.args.to (λ env. bad c.in-Bad.cause) c.requires.taken c.requires.counted (λ m at s. refl))

@@ -6,6 +6,6 @@ use Rattle.gen_query.proofs.scanning.emit_results.Given as goal
 
 abbrev pub invariant-loop-result : goal.invariant-loop-result
 invariant-loop-result l = record {
-  fills : Fills l.initial.b l.b (length (take l.result-index l.results)) (λ w env. values_in (take l.result-index l.results) env) (λ w. sum_by steps_of (take l.result-index l.results));
+  fills : Fills l.initial.b l.b (length (take l.result-index l.results)) (λ env. values_in (take l.result-index l.results) env) (λ w. sum_by steps_of (take l.result-index l.results));
   cursors : l.b.cursors ≡ l.initial.b.cursors;
 }

@@ -23,7 +23,7 @@ loop-conjunct-preserved c =
     let one = c.conjunct-item.result in
     let more : take (i + 1) all ≡ take i all ++ one ∷ [] = take_more all i one c.loop-conjunct-test.true ∙ ap (λ x. take i all ++ x ∷ []) (sym c.conjunct-item.is) in
     record {
-      sifts = subst (λ l. Sifts c.args.b.now c.emit_conjunct.new.b c.args.causes c.args.next (λ w env. sifted l env) (λ w. conjuncts_steps l)) (sym more) (sifts_more c.args.causes c.args.next (take i all) one c.loop-conjunct.invariant.sifts c.in_ok-emit_conjunct.ensures.sifts);
+      sifts = subst (λ l. Sifts c.args.b.now c.emit_conjunct.new.b c.args.causes c.args.next (λ env. sifted l env) (λ w. conjuncts_steps l)) (sym more) (sifts_more c.args.causes c.args.next (take i all) one c.loop-conjunct.invariant.sifts c.in_ok-emit_conjunct.ensures.sifts);
       cursors = c.in_ok-emit_conjunct.ensures.cursors ∙ c.loop-conjunct.invariant.cursors;
     }
 
@@ -31,4 +31,4 @@ pub returns-clause-sifts : goal.returns-clause-sifts
 returns-clause-sifts c =
     let all = c.args.conjuncts.now in
     let whole : take c.loop-conjunct.conjunct-index all ≡ all = take_all c.loop-conjunct.conjunct-index all (omega arith) in
-    subst (λ l. Sifts c.args.b.now c.loop-conjunct.b c.args.causes c.args.next (λ w env. sifted l env) (λ w. conjuncts_steps l)) whole c.loop-conjunct.invariant.sifts
+    subst (λ l. Sifts c.args.b.now c.loop-conjunct.b c.args.causes c.args.next (λ env. sifted l env) (λ w. conjuncts_steps l)) whole c.loop-conjunct.invariant.sifts

@@ -6,6 +6,6 @@ use Rattle.gen_query.proofs.sifting.emit_conjuncts.Given as goal
 
 abbrev pub invariant-loop-conjunct : goal.invariant-loop-conjunct
 invariant-loop-conjunct l = record {
-  sifts : Sifts l.initial.b l.b l.causes l.next (λ w env. sifted (take l.conjunct-index l.conjuncts) env) (λ w. conjuncts_steps (take l.conjunct-index l.conjuncts));
+  sifts : Sifts l.initial.b l.b l.causes l.next (λ env. sifted (take l.conjunct-index l.conjuncts) env) (λ w. conjuncts_steps (take l.conjunct-index l.conjuncts));
   cursors : l.b.cursors ≡ l.initial.b.cursors;
 }

@@ -15,4 +15,4 @@ returns-then-gives_truth-clause-leaves c =
 pub returns-clause-leaves : goal.returns-clause-leaves
 returns-clause-leaves c =
     let leaves = c.in_ok-emit.ensures.leaves in
-    rw c.in_ok-op.ensures (leaves_one c.args.b.now c.emit.new.b (op.Unary unary.Truth c.args.to c.args.to) c.args.to (λ w env. value_of c.args.e.now env) truth_of (λ w. steps_of c.args.e.now) leaves c.requires.taken c.requires.counted (λ m at s. refl))
+    rw c.in_ok-op.ensures (leaves_one c.args.b.now c.emit.new.b (op.Unary unary.Truth c.args.to c.args.to) c.args.to (λ env. value_of c.args.e.now env) truth_of (λ w. steps_of c.args.e.now) leaves c.requires.taken c.requires.counted (λ m at s. refl))

@@ -27,4 +27,4 @@ returns c =
     let i = c.loop-literal.literal-index in
     let end : i ≡ length all = omega (arith, c.loop-literal-test.false, c.loop-literal.auto.literal-index-end) in
     let whole : take i all ≡ all = take_all i all (omega (arith, end)) in
-    record { leaves = subst (λ n. Leaves c.args.b.now c.loop-literal.b c.args.causes (λ w env. causes_in all) (λ w. 2 * n + 1)) end (subst (λ l. Leaves c.args.b.now c.loop-literal.b c.args.causes (λ w env. causes_in l) (λ w. 2 * i + 1)) whole c.loop-literal.invariant) }
+    record { leaves = subst (λ n. Leaves c.args.b.now c.loop-literal.b c.args.causes (λ env. causes_in all) (λ w. 2 * n + 1)) end (subst (λ l. Leaves c.args.b.now c.loop-literal.b c.args.causes (λ env. causes_in l) (λ w. 2 * i + 1)) whole c.loop-literal.invariant) }

@@ -4,4 +4,4 @@ use Rattle.vm_code.specs.Frames.{Leaves}
 use Rattle.gen_write.proofs.refusing.emit_causes.Given as goal
 
 abbrev pub invariant-loop-literal : goal.invariant-loop-literal
-invariant-loop-literal l = Leaves l.fn.b l.b l.causes (λ w env. causes_in (take l.literal-index l.row)) (λ w. 2 * l.literal-index + 1)
+invariant-loop-literal l = Leaves l.fn.b l.b l.causes (λ env. causes_in (take l.literal-index l.row)) (λ w. 2 * l.literal-index + 1)

@@ -1,64 +1,55 @@
 use Rattle.std.proofs.Common.{ap, ◌∙◌, arith}
+use Rattle.sql_meaning.proofs.TellingLaws.{text_is_told}
 use Rattle.sql_meaning.proofs.ValidLaws.{text_outcome-valid}
+use Rattle.sql_meaning.specs.World.{context}
 use Rattle.vm_core.specs.Meant.{meant}
 use Rattle.engine.specs.Held.{state_of}
 use Rattle.engine.proofs.CarryingOut.{carries_valid}
 use Rattle.engine.proofs.connection.Connection.run.Goals as goal
 use Rattle.engine.proofs.connection.Connection.run.Goals.{in-Ok, in-Err}
 
--- src/connection.rt:65:5
-pub returns-clause-kept : goal.returns-clause-kept
-returns-clause-kept g c = elim c.match-run_text.branch [
-  | in-Ok w ↦ rw w.result-is tt
-  | in-Err w ↦ rw w.result-is (ap (λ s. record { state = s; budget = c.self.inside.budget }) (w.in-Err.ensures.carried (meant c.args.hosts.now)).answer.0 ∙ c.self.view_is)
-]
-
--- src/connection.rt:65:5
-pub returns-clause-cause : goal.returns-clause-cause
-returns-clause-cause g c = elim c.match-run_text.branch [
-  | in-Ok w ↦ rw w.result-is tt
-  | in-Err w ↦ rw (w.result-is, ← c.self.view_is) (w.in-Err.ensures.carried (meant c.args.hosts.now)).answer.1
-]
-
--- src/connection.rt:65:5
-pub returns-clause-front : goal.returns-clause-front
-returns-clause-front g c = rw (← c.self.view_is) (c.run_text.ensures.carried (meant c.args.hosts.now)).front
-
--- src/connection.rt:65:5
-pub returns-clause-bound : goal.returns-clause-bound
-returns-clause-bound g c =
-    let within = (c.run_text.ensures.carried (meant c.args.hosts.now)).within in
-    let ticks = c.run_text.ensures.ticks in
-    rw (← c.self.view_is) (omega arith)
-
 pub returns-clause-done : goal.returns-clause-done
 returns-clause-done g c = elim c.match-run_text.branch [
-  | in-Ok w ↦ rw (w.result-is, ← c.self.view_is) (w.in-Ok.ensures.carried (meant c.args.hosts.now)).answer.0
+  | in-Ok w ↦ rw (w.result-is, ← c.self.view_is) (λ told. (w.in-Ok.ensures.carried told).answer.0)
   | in-Err w ↦ rw w.result-is tt
 ]
 
 pub returns-clause-next : goal.returns-clause-next
 returns-clause-next g c = elim c.match-run_text.branch [
-  | in-Ok w ↦ rw (w.result-is, ← c.self.view_is) (w.in-Ok.ensures.carried (meant c.args.hosts.now)).answer.1
+  | in-Ok w ↦ rw (w.result-is, ← c.self.view_is) (λ told. (w.in-Ok.ensures.carried told).answer.1)
   | in-Err w ↦ rw w.result-is tt
 ]
 
 pub returns-clause-rows : goal.returns-clause-rows
 returns-clause-rows g c = elim c.match-run_text.branch [
-  | in-Ok w ↦ rw (w.result-is, ← c.self.view_is) (w.in-Ok.ensures.carried (meant c.args.hosts.now)).answer.2
-  | in-Err w ↦ rw w.result-is tt
-]
-
-pub returns-clause-given : goal.returns-clause-given
-returns-clause-given g c = elim c.match-run_text.branch [
-  | in-Ok w ↦ rw (w.result-is, ← c.self.view_is) (w.in-Ok.ensures.carried (meant c.args.hosts.now)).answer.3
+  | in-Ok w ↦ rw (w.result-is, ← c.self.view_is) (λ told. (w.in-Ok.ensures.carried told).answer.2)
   | in-Err w ↦ rw w.result-is tt
 ]
 
 pub returns-clause-changed : goal.returns-clause-changed
 returns-clause-changed g c = elim c.match-run_text.branch [
-  | in-Ok w ↦ rw (w.result-is, ← c.self.view_is) (w.in-Ok.ensures.carried (meant c.args.hosts.now)).answer.4
+  | in-Ok w ↦ rw (w.result-is, ← c.self.view_is) (λ told. (w.in-Ok.ensures.carried told).answer.3)
   | in-Err w ↦ rw w.result-is tt
+]
+
+pub returns-clause-cause : goal.returns-clause-cause
+returns-clause-cause g c = elim c.match-run_text.branch [
+  | in-Ok w ↦ rw w.result-is tt
+  | in-Err w ↦ rw (w.result-is, ← c.self.view_is) (λ told. (w.in-Err.ensures.carried told).answer)
+]
+
+pub returns-clause-front : goal.returns-clause-front
+returns-clause-front g c = rw (← c.self.view_is) (λ told. (c.run_text.ensures.carried told).front)
+
+pub returns-clause-bound : goal.returns-clause-bound
+returns-clause-bound g c =
+    let ticks = c.run_text.ensures.ticks in
+    rw (← c.self.view_is) (λ told. let within = (c.run_text.ensures.carried told).within in omega arith)
+
+pub returns-clause-kept : goal.returns-clause-kept
+returns-clause-kept g c = elim c.match-run_text.branch [
+  | in-Ok w ↦ rw w.result-is tt
+  | in-Err w ↦ rw w.result-is (λ accident. ap (λ s. record { state = s; budget = c.self.inside.budget }) w.in-Err.ensures.kept ∙ c.self.view_is)
 ]
 
 -- src/connection.rt:69:5
@@ -67,9 +58,10 @@ invariant_of-self g c =
     let hosts = meant c.args.hosts.now in
     let db = c.self.inside.database in
     let old = state_of db.catalog db.tables db.changes db.last_rowid in
+    let told = text_is_told old c.args.params.now c.args.sql.now in
     record {
       in_line = c.run_text.ensures.in_line;
-      valid = carries_valid _ old _ _ _ _ _ _ _ _ c.self.invariant.valid (text_outcome-valid hosts old c.args.params.now c.args.sql.now c.self.invariant.valid) (c.run_text.ensures.carried hosts);
+      valid = carries_valid _ old _ _ _ _ _ _ _ _ c.self.invariant.valid (text_outcome-valid (context hosts old c.args.params.now) c.args.sql.now c.self.invariant.valid) (c.run_text.ensures.carried told);
     }
 
 pub returns-clause-valid : goal.returns-clause-valid
@@ -77,4 +69,5 @@ returns-clause-valid g c =
     let hosts = meant c.args.hosts.now in
     let db = c.self.inside.database in
     let old = state_of db.catalog db.tables db.changes db.last_rowid in
-    carries_valid _ old _ _ _ _ _ _ _ _ c.self.invariant.valid (text_outcome-valid hosts old c.args.params.now c.args.sql.now c.self.invariant.valid) (c.run_text.ensures.carried hosts)
+    let told = text_is_told old c.args.params.now c.args.sql.now in
+    carries_valid _ old _ _ _ _ _ _ _ _ c.self.invariant.valid (text_outcome-valid (context hosts old c.args.params.now) c.args.sql.now c.self.invariant.valid) (c.run_text.ensures.carried told)

@@ -4,7 +4,8 @@ use Rattle.eng_key.specs.Rowids.{rowid_key}
 use Rattle.eng_record.specs.Lent.{IsOther, Lends}
 use Rattle.eng_tree.specs.Map.{find}
 use Rattle.eng_value.specs.declared.value.Value.TheVariants.{Null}
-use Rattle.vm_code.specs.Machine.{row_under, values_of}
+use Rattle.vm_code.specs.Machine.{row_under}
+use Rattle.vm_core.specs.Cursors.{values_of}
 use Rattle.vm_core.proofs.Stored.{found_none, found_row}
 use Rattle.vm_core.proofs.table.Table.lent.Goals as goal
 

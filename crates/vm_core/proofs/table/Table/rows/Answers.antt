@@ -1,6 +1,6 @@
 use Rattle.std.proofs.Common.{◌≡◌, ap, subst, sym, ◌∙◌, rules, w64, to_z, of_z}
-use Rattle.vm_code.specs.Machine.{row_behind, row_under, values_of}
-use Rattle.vm_core.specs.Cursors.{on_row}
+use Rattle.vm_code.specs.Machine.{row_behind, row_under}
+use Rattle.vm_core.specs.Cursors.{on_row, values_of}
 use Rattle.vm_core.proofs.Stored.{Remains, none_remain, one_more}
 use Rattle.vm_core.proofs.table.Table.rows.Goals as goal
 

@@ -1,7 +1,8 @@
 use Rattle.std.proofs.Common.{◌≡◌, ap, sym, subst, ◌∙◌, Some, None, IfOk, rules, w64, to_z, of_z}
 use Rattle.eng_key.specs.Rowids.{rowid_key}
 use Rattle.eng_tree.specs.Map.{find}
-use Rattle.vm_code.specs.Machine.{row_under, values_of}
+use Rattle.vm_code.specs.Machine.{row_under}
+use Rattle.vm_core.specs.Cursors.{values_of}
 use Rattle.vm_core.proofs.Stored.{found_none, found_row}
 use Rattle.vm_core.proofs.table.Table.values.Goals as goal
 
