@@ -13,7 +13,7 @@ ghost use Rattle.eng_value.specs.declared.value.Value.TheVariants as sql;
 ghost use Rattle.eng_value.specs.declared.value.Value.TheVariants.{Integer};
 
 use crate::bits::of_bits;
-use eng_value::{Affinity, ArithmeticOp, BinaryOperator, CompareOp, IntegerOp, Sides, Text, Value};
+use eng_value::{Affinity, ArithmeticOp, BinaryOperator, CompareOp, IntegerOp, Sides, Value};
 
 /// What an operator gives for two integers: Some exactly where it is one that looks at two integers as they are and an integer comes
 /// of it. Else `binary` answers.
@@ -34,13 +34,13 @@ pub fn binary_of_integers(op: &BinaryOperator, a: i64, b: i64) -> Option<i64>
 
 /// The same of two texts: 1 or 0 for LIKE and GLOB, and None exactly for the others.
 #[tactic(auto, unfolding(eng_value::specs::Comparisons::like_of, eng_value::specs::Comparisons::glob_of))]
-pub fn binary_of_texts(op: &BinaryOperator, a: &Text, b: &Text) -> Option<i64>
+pub fn binary_of_texts(op: &BinaryOperator, a: &str, b: &str) -> Option<i64>
     ensures some { IfSome result (λ n. binary_of own_keys op.now (Good (sql.Text a.now)) (Good (sql.Text b.now)) ≡ Good (Integer n)) }
     ensures exactly { is_some result ≡ is_of_texts op.now }
 {
     match op {
-        BinaryOperator::Like => Some(like(a.as_str(), b.as_str())),
-        BinaryOperator::Glob => Some(glob(a.as_str(), b.as_str())),
+        BinaryOperator::Like => Some(like(a, b)),
+        BinaryOperator::Glob => Some(glob(a, b)),
         _ => None,
     }
 }

@@ -1,5 +1,5 @@
 -- Laws of sets of causes.
-use Rattle.std.proofs.Common.{◌≡◌, ℕ, ◌+◌, cond, length-append, nat_eq, if◌then◌else◌, List, [], ◌∷◌, ◌++◌, map, ◌||◌, nat_cmp, Bool, true, false, refl, sym, ap, ◌∙◌, subst}
+use Rattle.std.proofs.Common.{◌≡◌, ℕ, ◌+◌, ◌≤◌, cond, length, length-append, le_of_eq, nat_eq, if◌then◌else◌, List, [], ◌∷◌, ◌++◌, map, not, ◌&&◌, ◌||◌, nat_cmp, Bool, true, false, refl, sym, ap, ◌∙◌, subst, arith}
 use Rattle.std.specs.Cmp.Lexicographic.{slice_cmp, nat_list_cmp_total, texts_ties}
 use Rattle.std.specs.FinSet as set
 use Rattle.std.specs.Ordering.{eq_by_cmp, is_eq}
@@ -9,13 +9,14 @@ use Rattle.std.specs.Cmp.{Equal-is}
 use Rattle.std.proofs.lemmas.List.{append_assoc, map-append}
 use Rattle.std.specs.declared.cmp.Ordering.TheVariants.{Equal}
 use Rattle.eng_value.specs.declared.cause.Cause.{Cause}
-use Rattle.eng_value.specs.declared.cause.Cause.TheVariants.{NotYet, Mem, Interrupted, SinkFault, Real, Overflow, NotText, Escape, TooBig, Full, Unknown, Exists, Reserved, Arity, Misuse, Limit, Syntax}
+use Rattle.eng_value.specs.declared.cause.Cause.TheVariants.{NotYet, Mem, Interrupted, SinkFault, Real, Overflow, NotText, Escape, TooBig, Full, Unknown, Exists, Reserved, Arity, Misuse, Limit, Syntax, Skip}
 use Rattle.eng_value.specs.declared.cause.LimitKind.{LimitKind}
 use Rattle.eng_value.specs.declared.cause.LimitKind.TheVariants as limit
 use Rattle.eng_value.specs.declared.cause.NameKind.{NameKind}
 use Rattle.eng_value.specs.declared.cause.NameKind.TheVariants as kind
-use Rattle.std.specs.List.{list_any}
-use Rattle.eng_value.specs.Causes.{CauseSet, StandOnce, cause_key, has_cause, is_same_cause, kind_key, limit_key, only}
+use Rattle.std.specs.List.{filter, list_any}
+use Rattle.std.proofs.lemmas.Bool.{and_from, and_left, and_parts, and_right, both_ways, cond-false, cond-true, cond_both, eq-eqb, false_from_ne_true, ne_eqb, not_from_false}
+use Rattle.eng_value.specs.Causes.{CauseSet, StandOnce, cause_key, has_cause, is_same_cause, is_skip, kind_key, limit_key, named, only}
 
 -- the set of a list of causes
 abbrev pub set_of : List Cause → CauseSet
@@ -76,7 +77,8 @@ cause_by n detail name =
     if nat_eq n 13 then Misuse name else
     if nat_eq n 14 then Unknown (kind_of detail) name else
     if nat_eq n 15 then Exists (kind_of detail) name else
-    if nat_eq n 16 then Syntax detail else NotYet
+    if nat_eq n 16 then Syntax detail else
+    if nat_eq n 17 then Skip else NotYet
 
 -- the cause of a key
 abbrev cause_of : List ℕ → Cause
@@ -108,6 +110,7 @@ cause_of-cause_key Escape = refl
 cause_of-cause_key TooBig = refl
 cause_of-cause_key (Limit k) = ap Limit (limit_of-limit_key k)
 cause_of-cause_key (Syntax at) = refl
+cause_of-cause_key Skip = refl
 cause_of-cause_key (Reserved name) = refl
 cause_of-cause_key (Arity name) = refl
 cause_of-cause_key (Misuse name) = refl
@@ -225,3 +228,165 @@ union-push s causes c = ap (λ (t : CauseSet). set.union s t) (set_of-push cause
 -- the first one was added before the others
 pub union-first : (s : CauseSet) (first : Cause) (others : List Cause) → set.union (set.insert s (cause_key first)) (set_of others) ≡ set.union s (set_of (first ∷ others))
 union-first s first others = insert-union s (set_of others) first
+
+-- ---- the causes that may be named
+
+-- any other cause than that the row is left
+abbrev pub is_other : Cause → Bool
+is_other c = not (is_same_cause c Skip)
+
+same_cause-true : (c d : Cause) → is_same_cause c d ≡ true → c ≡ d
+same_cause-true c d is = cause_key-injective c d (keys_tied (cause_key c) (cause_key d) ((Equal-is (slice_cmp nat_cmp (cause_key c) (cause_key d))).0 (same-tied c d ∙ is)))
+
+same_cause-itself : (c : Cause) → is_same_cause c c ≡ true
+same_cause-itself c = sym (same-tied c c) ∙ ap is_eq (tied_itself nat_list_cmp_total (cause_key c))
+
+same_cause-false : (c d : Cause) → is_same_cause c d ≡ false → eq_by_cmp (slice_cmp nat_cmp) (cause_key d) (cause_key c) ≡ false
+same_cause-false c d differs =
+    false_from_ne_true _ (λ is. both_ways (is_same_cause c d) differs (ap (λ x. is_same_cause c x) (same_cause-true d c (sym (same-tied d c) ∙ is)) ∙ same_cause-itself c))
+
+-- what a set does not hold is not removed
+remove-absent : (s : CauseSet) (c : Cause) → has_cause s c ≡ false → set.remove s (cause_key c) ≡ s
+remove-absent s c absent = same_causes _ _ (λ q. set.contains-remove nat_list_cmp_total s (cause_key c) q ∙ kept q (eq_by_cmp (slice_cmp nat_cmp) q (cause_key c)) refl)
+  where
+    kept : (q : List ℕ) (b : Bool) → eq_by_cmp (slice_cmp nat_cmp) q (cause_key c) ≡ b → (not (eq_by_cmp (slice_cmp nat_cmp) q (cause_key c)) && set.contains s q) ≡ set.contains s q
+    kept q true is = rw is (sym (ap (set.contains s) (keys_tied q (cause_key c) ((Equal-is (slice_cmp nat_cmp q (cause_key c))).0 is)) ∙ absent))
+    kept q false is = rw is refl
+
+not-and-or : (a b : Bool) → (not a && (a || b)) ≡ (not a && b)
+not-and-or true b = refl
+not-and-or false b = refl
+
+remove-insert : (s : CauseSet) (c : Cause) → set.remove (set.insert s (cause_key c)) (cause_key c) ≡ set.remove s (cause_key c)
+remove-insert s c = same_causes _ _ (λ q. simp (set.contains-remove nat_list_cmp_total, set.contains-insert nat_list_cmp_total) (not-and-or (eq_by_cmp (slice_cmp nat_cmp) q (cause_key c)) (set.contains s q)))
+
+remove-insert_other : (s : CauseSet) (c d : Cause) → is_same_cause c d ≡ false → set.remove (set.insert s (cause_key c)) (cause_key d) ≡ set.insert (set.remove s (cause_key d)) (cause_key c)
+remove-insert_other s c d differs = same_causes _ _ (λ q. simp (set.contains-remove nat_list_cmp_total, set.contains-insert nat_list_cmp_total) (held q (eq_by_cmp (slice_cmp nat_cmp) q (cause_key d)) refl))
+  where
+    held : (q : List ℕ) (b : Bool) → eq_by_cmp (slice_cmp nat_cmp) q (cause_key d) ≡ b
+        → (not (eq_by_cmp (slice_cmp nat_cmp) q (cause_key d)) && (eq_by_cmp (slice_cmp nat_cmp) q (cause_key c) || set.contains s q))
+        ≡ (eq_by_cmp (slice_cmp nat_cmp) q (cause_key c) || (not (eq_by_cmp (slice_cmp nat_cmp) q (cause_key d)) && set.contains s q))
+    held q true is =
+        let other : eq_by_cmp (slice_cmp nat_cmp) q (cause_key c) ≡ false = ap (λ k. eq_by_cmp (slice_cmp nat_cmp) k (cause_key c)) (keys_tied q (cause_key d) ((Equal-is (slice_cmp nat_cmp q (cause_key d))).0 is)) ∙ same_cause-false c d differs in
+        rw (is, other) refl
+    held q false is = rw is refl
+
+-- the set of the others
+set_of-filter_cons : (c : Cause) (causes : List Cause) (b : Bool) → is_same_cause c Skip ≡ b → set_of (filter is_other causes) ≡ set.remove (set_of causes) (cause_key Skip) → set_of (filter is_other (c ∷ causes)) ≡ set.remove (set_of (c ∷ causes)) (cause_key Skip)
+set_of-filter_cons c causes true is rest =
+    ap (λ b. set_of (cond (not b) (c ∷ filter is_other causes) (filter is_other causes))) is
+    ∙ rest
+    ∙ sym (remove-insert (set_of causes) Skip)
+    ∙ ap (λ d. set.remove (set.insert (set_of causes) (cause_key d)) (cause_key Skip)) (sym (same_cause-true c Skip is))
+set_of-filter_cons c causes false is rest =
+    ap (λ b. set_of (cond (not b) (c ∷ filter is_other causes) (filter is_other causes))) is
+    ∙ ap (λ (s : CauseSet). set.insert s (cause_key c)) rest
+    ∙ sym (remove-insert_other (set_of causes) c Skip is)
+
+pub set_of-filter : (causes : List Cause) → set_of (filter is_other causes) ≡ set.remove (set_of causes) (cause_key Skip)
+set_of-filter [] = sym (remove-absent set.empty Skip (set.contains-empty (slice_cmp nat_cmp) (cause_key Skip)))
+set_of-filter (c ∷ causes) = set_of-filter_cons c causes (is_same_cause c Skip) refl (set_of-filter causes)
+
+-- a list has no fewer than its set
+len-set_of : (causes : List Cause) → set.len (set_of causes) ≤ length causes
+len-set_of [] = le_of_eq (set.len-empty (slice_cmp nat_cmp))
+len-set_of (c ∷ causes) =
+    let rest = len-set_of causes in
+    subst (λ n. n ≤ length (c ∷ causes)) (sym (set.len-insert nat_list_cmp_total (set_of causes) (cause_key c)))
+    (cond_both (has_cause (set_of causes) c) (set.len (set_of causes)) (set.len (set_of causes) + 1) (λ n. n ≤ length (c ∷ causes)) (λ e. omega arith) (λ e. omega arith))
+
+-- what stands once stands in front of others
+StandOnce-new : (c : Cause) (causes : List Cause) → StandOnce (c ∷ causes) → has_cause (set_of causes) c ≡ false
+StandOnce-new c causes once = false_from_ne_true _ (λ has.
+    let same : set.len (set_of (c ∷ causes)) ≡ set.len (set_of causes) = set.len-insert nat_list_cmp_total (set_of causes) (cause_key c) ∙ ap (λ b. cond b (set.len (set_of causes)) (set.len (set_of causes) + 1)) has in
+    let most = len-set_of causes in
+    absurd (omega (arith, once)))
+
+StandOnce-rest : (c : Cause) (causes : List Cause) → StandOnce (c ∷ causes) → StandOnce causes
+StandOnce-rest c causes once =
+    let one_more = len-new (set_of causes) c (StandOnce-new c causes once) in
+    omega (arith, once)
+
+StandOnce-cons : (c : Cause) (causes : List Cause) → has_cause (set_of causes) c ≡ false → StandOnce causes → StandOnce (c ∷ causes)
+StandOnce-cons c causes new once =
+    let one_more = len-new (set_of causes) c new in
+    omega (arith, once)
+
+StandOnce-filter_cons : (c : Cause) (causes : List Cause) (b : Bool) → is_same_cause c Skip ≡ b → has_cause (set_of causes) c ≡ false → StandOnce (filter is_other causes) → StandOnce (filter is_other (c ∷ causes))
+StandOnce-filter_cons c causes true is new once = subst (λ b. StandOnce (cond (not b) (c ∷ filter is_other causes) (filter is_other causes))) (sym is) once
+StandOnce-filter_cons c causes false is new once =
+    subst (λ b. StandOnce (cond (not b) (c ∷ filter is_other causes) (filter is_other causes))) (sym is)
+    (StandOnce-cons c (filter is_other causes) (ap (λ s. has_cause s c) (set_of-filter causes) ∙ set.contains-remove nat_list_cmp_total (set_of causes) (cause_key Skip) (cause_key c) ∙ and_right _ _ new) once)
+
+StandOnce-filter : (causes : List Cause) → StandOnce causes → StandOnce (filter is_other causes)
+StandOnce-filter [] once = once
+StandOnce-filter (c ∷ causes) once = StandOnce-filter_cons c causes (is_same_cause c Skip) refl (StandOnce-new c causes once) (StandOnce-filter causes (StandOnce-rest c causes once))
+
+-- where that the row is left is no cause, all may be named
+pub named-no_skip : (causes : CauseSet) → has_cause causes Skip ≡ false → named causes ≡ causes
+named-no_skip causes none = cond-false (is_skip causes) causes _ (and_left (has_cause causes Skip) _ none) ∙ remove-absent causes Skip none
+
+-- of several, the others may be named
+named-several : (causes : CauseSet) → nat_eq (set.len causes) 1 ≡ false → named causes ≡ set.remove causes (cause_key Skip)
+named-several causes several = cond-false (is_skip causes) causes _ (and_right (has_cause causes Skip) _ several)
+
+-- one alone may be named
+pub named-only : (why : Cause) → named (only why) ≡ only why
+named-only why = by (has_cause (only why) Skip) refl
+  where
+    by : (b : Bool) → has_cause (only why) Skip ≡ b → named (only why) ≡ only why
+    by true is = cond-true (is_skip (only why)) (only why) _ (and_from (has_cause (only why) Skip) _ is (eq-eqb _ 1 (sym (StandOnce-one why))))
+    by false none = named-no_skip (only why) none
+
+-- what may be named is a cause
+pub named-has_cause : (causes : CauseSet) (why : Cause) → has_cause (named causes) why ≡ true → has_cause causes why ≡ true
+named-has_cause causes why = cond_both (is_skip causes) causes (set.remove causes (cause_key Skip)) (λ s. has_cause s why ≡ true → has_cause causes why ≡ true) (λ _ has. has) (λ _ has.
+    (and_parts _ _ (sym (set.contains-remove nat_list_cmp_total causes (cause_key Skip) (cause_key why)) ∙ has)).1)
+
+-- and a cause that is not Skip may be named
+pub named-other : (causes : CauseSet) (why : Cause) → is_same_cause why Skip ≡ false → has_cause causes why ≡ true → has_cause (named causes) why ≡ true
+named-other causes why other has = cond_both (is_skip causes) causes (set.remove causes (cause_key Skip)) (λ s. has_cause s why ≡ true) (λ _. has) (λ _.
+    set.contains-remove nat_list_cmp_total causes (cause_key Skip) (cause_key why) ∙ and_from _ _ (not_from_false _ (same-tied why Skip ∙ other)) has)
+
+-- as the code of `named` comes to them: another cause stands in front
+pub StandOnce-others : (first : Cause) (others kept : List Cause) → kept ≡ filter is_other others → is_same_cause first Skip ≡ false → StandOnce (first ∷ others) → StandOnce (first ∷ kept)
+StandOnce-others first others kept are other once =
+    subst (λ cs. StandOnce (first ∷ cs)) (sym are) (subst (λ b. StandOnce (cond (not b) (first ∷ filter is_other others) (filter is_other others))) other (StandOnce-filter (first ∷ others) once))
+
+pub named-others : (first : Cause) (others kept : List Cause) → kept ≡ filter is_other others → is_same_cause first Skip ≡ false → StandOnce (first ∷ others) → set_of (first ∷ kept) ≡ named (set_of (first ∷ others))
+named-others first others kept are other once = ap (λ cs. set_of (first ∷ cs)) are ∙ by others once
+  where
+    by : (others : List Cause) → StandOnce (first ∷ others) → set_of (first ∷ filter is_other others) ≡ named (set_of (first ∷ others))
+    by [] once = sym (named-no_skip (only first) (false_from_ne_true _ (λ has. both_ways (is_same_cause first Skip) other (ap (λ d. is_same_cause first d) (only-has_cause first Skip has) ∙ same_cause-itself first))))
+    by (d ∷ ds) once =
+        ap (λ b. set_of (cond (not b) (first ∷ filter is_other (d ∷ ds)) (filter is_other (d ∷ ds)))) (sym other)
+        ∙ set_of-filter (first ∷ d ∷ ds)
+        ∙ sym (named-several (set_of (first ∷ d ∷ ds)) (ne_eqb _ 1 (λ one. absurd (omega (arith, once)))))
+
+-- and else one of the others takes its place
+kept_are : (first : Cause) (others kept : List Cause) → kept ≡ filter is_other others → is_same_cause first Skip ≡ true → filter is_other (first ∷ others) ≡ kept
+kept_are first others kept are skip = ap (λ b. cond (not b) (first ∷ filter is_other others) (filter is_other others)) skip ∙ sym are
+
+pub StandOnce-another : (first other : Cause) (others kept rest : List Cause) → kept ≡ filter is_other others → kept ≡ rest ++ other ∷ [] → is_same_cause first Skip ≡ true → StandOnce (first ∷ others) → StandOnce (other ∷ rest)
+StandOnce-another first other others kept rest are popped skip once =
+    let kept_once : StandOnce (rest ++ other ∷ []) = subst StandOnce (kept_are first others kept are skip ∙ popped) (StandOnce-filter (first ∷ others) once) in
+    let same : set.len (set_of (rest ++ other ∷ [])) ≡ set.len (set_of (other ∷ rest)) = ap (λ (s : CauseSet). set.len s) (set_of-push rest other) in
+    omega (arith, length-append rest (other ∷ []))
+
+pub named-another : (first other : Cause) (others kept rest : List Cause) → kept ≡ filter is_other others → kept ≡ rest ++ other ∷ [] → is_same_cause first Skip ≡ true → StandOnce (first ∷ others) → set_of (other ∷ rest) ≡ named (set_of (first ∷ others))
+named-another first other others kept rest are popped skip once =
+    sym (set_of-push rest other)
+    ∙ ap set_of (sym (kept_are first others kept are skip ∙ popped))
+    ∙ set_of-filter (first ∷ others)
+    ∙ sym (named-several (set_of (first ∷ others)) (ne_eqb _ 1 (λ one. several others are (omega (arith, once)))))
+  where
+    several : (others : List Cause) → kept ≡ filter is_other others → length others ≡ 0 → ⊥
+    several [] are none = absurd (omega (arith, ap length (sym are ∙ popped), length-append rest (other ∷ [])))
+    several (d ∷ ds) are none = absurd (omega arith)
+
+-- if there is one
+pub named-alone : (first : Cause) (others kept : List Cause) → kept ≡ filter is_other others → kept ≡ [] → is_same_cause first Skip ≡ true → StandOnce (first ∷ others) → only first ≡ named (set_of (first ∷ others))
+named-alone first others kept are none skip once =
+    let absent : has_cause (set_of others) Skip ≡ false = ap (λ c. has_cause (set_of others) c) (sym (same_cause-true first Skip skip)) ∙ StandOnce-new first others once in
+    let no_other : set_of others ≡ set_of [] = sym (remove-absent (set_of others) Skip absent) ∙ sym (set_of-filter others) ∙ ap set_of (sym are ∙ none) in
+    sym (named-only first) ∙ ap (λ (s : CauseSet). named (set.insert s (cause_key first))) (sym no_other)

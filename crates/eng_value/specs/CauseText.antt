@@ -2,7 +2,7 @@
 use Rattle.std.specs.Prelude.{ℕ, List, [], ◌++◌, codes}
 use Rattle.std.specs.Fmt.{decimal}
 use Rattle.eng_value.specs.declared.cause.Cause.{Cause}
-use Rattle.eng_value.specs.declared.cause.Cause.TheVariants.{NotYet, Mem, Interrupted, SinkFault, Real, Overflow, NotText, Escape, TooBig, Full, Unknown, Exists, Reserved, Arity, Misuse, Limit, Syntax}
+use Rattle.eng_value.specs.declared.cause.Cause.TheVariants.{NotYet, Mem, Interrupted, SinkFault, Real, Overflow, NotText, Escape, TooBig, Full, Unknown, Exists, Reserved, Arity, Misuse, Limit, Syntax, Skip}
 use Rattle.eng_value.specs.declared.cause.LimitKind.{LimitKind}
 use Rattle.eng_value.specs.declared.cause.LimitKind.TheVariants as limit
 use Rattle.eng_value.specs.declared.cause.NameKind.{NameKind}
@@ -26,6 +26,7 @@ code_of (Arity name) = 1
 code_of (Misuse name) = 1
 code_of (Limit k) = 1
 code_of (Syntax at) = 1
+code_of Skip = 1
 
 abbrev pub kind_word : NameKind → List ℕ
 kind_word kind.Table = codes "table"
@@ -57,3 +58,4 @@ text_of (Arity name) = codes "wrong number of values: " ++ name
 text_of (Misuse name) = codes "misuse of: " ++ name
 text_of (Limit k) = codes "limit of " ++ limit_words k
 text_of (Syntax at) = codes "syntax error at byte " ++ decimal at
+text_of Skip = []

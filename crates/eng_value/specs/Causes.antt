@@ -1,10 +1,10 @@
 -- Sets of causes: an error names any one of them, so their order and number do not count.
-use Rattle.std.specs.Prelude.{◌≡◌, ℕ, List, [], ◌∷◌, Bool, length, map, nat_eq}
+use Rattle.std.specs.Prelude.{◌≡◌, ℕ, List, [], ◌∷◌, Bool, ◌&&◌, length, map, nat_eq, if◌then◌else◌}
 use Rattle.std.specs.Ordering.{nat_cmp}
 use Rattle.std.specs.Cmp.Lexicographic.{pointwise, slice_cmp}
 use Rattle.std.specs.FinSet as set
 use Rattle.eng_value.specs.declared.cause.Cause.{Cause}
-use Rattle.eng_value.specs.declared.cause.Cause.TheVariants.{NotYet, Mem, Interrupted, SinkFault, Real, Overflow, NotText, Escape, TooBig, Full, Unknown, Exists, Reserved, Arity, Misuse, Limit, Syntax}
+use Rattle.eng_value.specs.declared.cause.Cause.TheVariants.{NotYet, Mem, Interrupted, SinkFault, Real, Overflow, NotText, Escape, TooBig, Full, Unknown, Exists, Reserved, Arity, Misuse, Limit, Syntax, Skip}
 use Rattle.eng_value.specs.declared.cause.LimitKind.{LimitKind}
 use Rattle.eng_value.specs.declared.cause.LimitKind.TheVariants as limit
 use Rattle.eng_value.specs.declared.cause.NameKind.{NameKind}
@@ -41,6 +41,7 @@ number_of (Misuse name) = 13
 number_of (Unknown k name) = 14
 number_of (Exists k name) = 15
 number_of (Syntax at) = 16
+number_of Skip = 17
 
 -- the number that it tells, or the kind
 abbrev pub detail_of : Cause → ℕ
@@ -84,3 +85,11 @@ is_same_cause c d = pointwise nat_eq (cause_key c) (cause_key d)
 -- each of these stands once: they are as many as their set has
 abbrev pub StandOnce : List Cause → Type 0
 StandOnce causes = length causes ≡ set.len {R = slice_cmp nat_cmp} (set.from_list (map cause_key causes))
+
+-- there is no other cause than that the row is left
+abbrev pub is_skip : CauseSet → Bool
+is_skip causes = has_cause causes Skip && nat_eq (set.len causes) 1
+
+-- the causes that may be named: that a row is left is none, where there are others
+abbrev pub named : CauseSet → CauseSet
+named causes = if is_skip causes then causes else set.remove causes (cause_key Skip)

@@ -1,5 +1,5 @@
 -- What the hosts of a run mean, as plain data that no call changes.
-use Rattle.std.specs.Prelude.{◌≡◌, ⊤, ℕ, ℤ, Bool, false, List, [], ◌∷◌, Option, Some, None, Result, All, slice_get}
+use Rattle.std.specs.Prelude.{◌≡◌, ⊤, ℕ, ℤ, Bool, false, List, [], Option, Some, None, Result, All, slice_get}
 use Rattle.std.specs.List.{find}
 use Rattle.eng_text.specs.Texts.{folded}
 use Rattle.std.specs.Str.{bytes_eq}

@@ -12,5 +12,6 @@ pub mod Comparisons
 pub mod Functions
 pub mod Applied
 pub mod Environments
+pub mod Written
 pub mod Literals
 pub mod OperandTexts

@@ -95,6 +95,8 @@ pub enum Cause {
     Limit(LimitKind),
     /// The token at this byte of the statement's text cannot stand there; at the text's length, more is missing.
     Syntax(usize),
+    /// The row that is written is left as it is. It is named by none who may name another.
+    Skip,
 }
 
 impl Cause {
@@ -138,6 +140,7 @@ impl Cause {
                 b"syntax error at byte ",
                 Buffer::new().format(*at).as_bytes(),
             ),
+            Cause::Skip => Ok(()),
         }
     }
 }
@@ -203,6 +206,7 @@ impl Clone for Cause {
             Cause::Misuse(name) => Ok(Cause::Misuse(name.clone()?)),
             Cause::Limit(kind) => Ok(Cause::Limit(*kind)),
             Cause::Syntax(at) => Ok(Cause::Syntax(*at)),
+            Cause::Skip => Ok(Cause::Skip),
         }
     }
 }
@@ -228,6 +232,7 @@ impl Drop for Cause {
             Cause::Misuse(name) => drop(name),
             Cause::Limit(_) => {}
             Cause::Syntax(_) => {}
+            Cause::Skip => {}
         }
     }
 }

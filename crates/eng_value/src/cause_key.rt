@@ -36,6 +36,7 @@ impl Cause {
             Cause::Unknown(..) => 14,
             Cause::Exists(..) => 15,
             Cause::Syntax(_) => 16,
+            Cause::Skip => 17,
         }
     }
 

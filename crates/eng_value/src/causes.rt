@@ -1,7 +1,8 @@
 // Why something is bad.
 ghost use Rattle.std.specs.Prelude.{◌≡◌, true, IfOk, OnOk};
 ghost use Rattle.std.specs.FinSet as set;
-ghost use Rattle.eng_value.specs.Causes.{cause_key, only, has_cause};
+ghost use Rattle.eng_value.specs.Causes.{cause_key, is_same_cause, only, has_cause, named};
+ghost use Rattle.eng_value.specs.declared.cause.Cause.TheVariants.{Skip};
 
 use crate::Cause;
 use std::alloc::{AllocError, Global};
@@ -79,6 +80,24 @@ impl Causes {
         Ok(())
     }
 
+    /// Those that may be named: that a row is left is one of them only where there is no other. Takes no memory.
+    pub fn named(self) -> Causes
+        ensures { result ≡ named self }
+    {
+        let Causes { first, mut others } = self;
+        others.retain(|cause| !is_skip(cause));
+        if !is_skip(&first) {
+            return Causes { first, others };
+        }
+        if let Some(other) = others.pop() {
+            return Causes {
+                first: other,
+                others,
+            };
+        }
+        Causes { first, others }
+    }
+
     /// One of them.
     pub fn into_first(self) -> Cause
         ensures { has_cause self result ≡ true }
@@ -87,6 +106,13 @@ impl Causes {
         causes.others.clear();
         mem::replace(&mut causes.first, Cause::NotYet)
     }
+}
+
+/// Whether it says that the row is left.
+fn is_skip(cause: &Cause) -> bool
+    ensures { result ≡ is_same_cause cause.now Skip }
+{
+    matches!(cause, Cause::Skip)
 }
 
 impl Clone for Causes {

@@ -1,11 +1,10 @@
 -- What a statement's run says, from what its program's run says.
-use Rattle.std.proofs.Common.{◌≡◌, ℕ, ◌-◌, ◌≤◌, [], List, Bool, true, false, Result, Option, Some, None, Ok, Err, refl, sym, ap, ◌∙◌, subst, arith, length}
+use Rattle.std.proofs.Common.{◌≡◌, ℕ, ◌-◌, ◌≤◌, [], List, true, Result, Option, Some, None, Ok, Err, refl, sym, ap, ◌∙◌, subst, arith, length}
 use Rattle.eng_value.specs.Causes.{CauseSet, has_cause, only}
 use Rattle.eng_value.specs.declared.cause.Cause.{Cause}
 use Rattle.eng_value.specs.declared.cause.Cause.TheVariants as cause
 use Rattle.eng_value.specs.declared.value.Value.{Value}
 use Rattle.eng_value.proofs.CauseLaws.{has_cause-only}
-use Rattle.gen_query.specs.Queries.{ending_by}
 use Rattle.sql_meaning.specs.Statement.{IsNamed, MayGive, Outcome, UnlessPlan, refused}
 use Rattle.sql_meaning.specs.Valid.{IsValid}
 use Rattle.sql_meaning.specs.World.{State}
@@ -13,7 +12,7 @@ use Rattle.sql_meaning.proofs.OutcomeLaws.{gives_meant}
 use Rattle.vm_code.specs.Machine.{World, Shared, Ending, Finished, Failed}
 use Rattle.engine.specs.declared.answers.Done.{Done}
 use Rattle.engine.specs.declared.running.Completed.{Completed}
-use Rattle.engine.specs.Causes.{GivesAll, GivesCounted, GivesFront, IsCause, no_memory, used_up, sink_failed, meant}
+use Rattle.engine.specs.Causes.{GivesAll, GivesFront, IsCause, no_memory, used_up, sink_failed, meant}
 use Rattle.engine.specs.Connected.{Carries, CarriesOut}
 use Rattle.engine.specs.Executing.{Refuses, no_memory as free, used_up as spent, sink_failed as sunk, failed, ExecutesAs}
 use Rattle.engine.specs.Taking.{Rows, Adds, AddsFront}
@@ -29,17 +28,22 @@ given_front o t0 t adds = (o.given, gives_meant o o.given refl, adds)
 
 -- ---- a program that does what a statement means
 
+-- how the run of a program ends whose statement is refused so
+abbrev pub ended_by : Option CauseSet → Ending
+ended_by None = Finished
+ended_by (Some causes) = Failed causes
+
 -- its run ends as the statement does, and gives the statement's rows; where it fails, the state is as before
 pub record Shows (old : State) (o : Outcome) (e : Ending) (x : Shared) : Type 0 where
-  pub ended : e ≡ ending_by o.refusal
+  pub ended : e ≡ ended_by o.refusal
   pub given : x.given ≡ o.given
   pub kept : (causes : CauseSet) → e ≡ Failed causes → o.next ≡ old
 
-named_by : (refusal : Option CauseSet) (e : Ending) (causes : CauseSet) (k : Cause) → e ≡ ending_by refusal → e ≡ Failed causes → has_cause causes k ≡ true → IsNamed refusal (Some k)
+named_by : (refusal : Option CauseSet) (e : Ending) (causes : CauseSet) (k : Cause) → e ≡ ended_by refusal → e ≡ Failed causes → has_cause causes k ≡ true → IsNamed refusal (Some k)
 named_by None e causes k is fails has = absurd (let both : Finished ≡ Failed causes = sym is ∙ fails in cc)
 named_by (Some others) e causes k is fails has = let both : Failed others ≡ Failed causes = sym is ∙ fails in let same : others ≡ causes = cc in rw same has
 
-refusal_none : (refusal : Option CauseSet) (e : Ending) → e ≡ ending_by refusal → e ≡ Finished → refusal ≡ None
+refusal_none : (refusal : Option CauseSet) (e : Ending) → e ≡ ended_by refusal → e ≡ Finished → refusal ≡ None
 refusal_none None e is ends = refl
 refusal_none (Some causes) e is ends = absurd (let both : Failed causes ≡ Finished = sym is ∙ ends in cc)
 

@@ -7,7 +7,7 @@ use Rattle.bind_stmt.specs.declared.statement.Bound.{Bound}
 use Rattle.bind_stmt.specs.declared.statement.Bound.TheVariants as bound
 use Rattle.bind_stmt.specs.Binds.{IsBound, IsFromAt}
 use Rattle.bind_stmt.specs.Small.{IsSmall, IsSmallQuery, columns_at, from_size as table_size, row_size}
-use Rattle.eng_value.specs.Environments.{ignoring, table_row}
+use Rattle.eng_value.specs.Environments.{Surroundings, ignoring, table_row}
 use Rattle.eng_value.specs.HostMeanings.{HostMeanings}
 use Rattle.eng_value.specs.StoredRows.{StoredRow}
 use Rattle.eng_value.specs.declared.value.Value.{Value}
@@ -18,15 +18,15 @@ use Rattle.sql_lex.specs.Tokens.{tokens_of}
 use Rattle.sql_meaning.specs.declared.bound.BoundSelect.{BoundSelect}
 use Rattle.sql_meaning.specs.declared.bound.Literal.{Literal}
 use Rattle.sql_meaning.specs.declared.column.TableEntry.{TableEntry}
-use Rattle.sql_meaning.specs.BoundStatements.{BoundStatement, Creates, FromItem, Puts, Queries, Query}
+use Rattle.sql_meaning.specs.BoundStatements.{BoundStatement, Creates, FromItem, Puts, Queries}
 use Rattle.sql_meaning.specs.Sizes.{all_nodes}
-use Rattle.sql_meaning.specs.Statement.{item_rows, text_bound}
+use Rattle.sql_meaning.specs.Statement.{text_bound}
 use Rattle.sql_meaning.specs.Work.{bound_within, from_size, from_work, instruction_bound, opened_size, work_of}
-use Rattle.sql_meaning.specs.World.{Context, State, context, rows_of as rows_under}
+use Rattle.sql_meaning.specs.World.{Context, context, rows_of as rows_under}
 use Rattle.sql_tree.specs.Sizes.{total}
 use Rattle.vm_code.specs.Machine.{World as Lists}
 use Rattle.engine.specs.Held.{state_of}
-use Rattle.engine.specs.Outcomes.{steps_in}
+use Rattle.engine.specs.Outcomes.{steps_in, surroundings_in}
 use Rattle.engine.proofs.Places.{place_named-rows}
 
 -- ---- numbers
@@ -55,6 +55,9 @@ module _ (hosts : HostMeanings) (catalog : List TableEntry) (lists : Lists) (cha
   abbrev ctx : Context
   ctx = context hosts (state_of catalog lists changes last) params
 
+  abbrev around : Surroundings
+  around = surroundings_in hosts params lists
+
   abbrev tokens : ℕ
   tokens = length (tokens_of text)
 
@@ -67,17 +70,17 @@ module _ (hosts : HostMeanings) (catalog : List TableEntry) (lists : Lists) (cha
       let rows = ap length (place_named-rows catalog i.table.name place i.table at.0.first at.0.entry lists long) in
       omega (arith, many, rows)
 
-  query_few : (from : List FromItem) (b : BoundSelect) (place : Option ℕ) → b.table ≡ place → IsFromAt catalog from place → IsSmallQuery catalog tokens b → query_steps b lists ≤ 256 * (tokens + from_size from) * (from_work ctx from + 1)
+  query_few : (from : List FromItem) (b : BoundSelect) (place : Option ℕ) → b.table ≡ place → IsFromAt catalog from place → IsSmallQuery catalog tokens b → query_steps b around ≤ 256 * (tokens + from_size from) * (from_work ctx from + 1)
   query_few [] b None none at small =
       let stars : small.stars ≤ 0 = subst (λ t. small.stars ≤ 100 * columns_at catalog t) none small.of_table in
       let within : 1 + small.shown + 0 + small.filter ≤ tokens = subst (λ t. 1 + small.shown + table_size t + small.filter ≤ tokens) none small.within in
       let rows : rows_seen b.table lists ≡ 0 = ap (λ t. rows_seen t lists) none in
-      let few : query_steps b lists ≤ 16 + (1 + 0) * (4 * (all_nodes b.conjuncts + all_nodes b.results) + 6) = subst (λ r. query_steps b lists ≤ 16 + (1 + r) * (4 * (all_nodes b.conjuncts + all_nodes b.results) + 6)) rows (steps-few b lists) in
-      within_size (query_steps b lists) tokens (from_size []) (from_work ctx []) (omega (arith, few, stars, within, small.conjuncts, small.results))
+      let few : query_steps b around ≤ 16 + (1 + 0) * (4 * (all_nodes b.conjuncts + all_nodes b.results) + 6) = subst (λ r. query_steps b around ≤ 16 + (1 + r) * (4 * (all_nodes b.conjuncts + all_nodes b.results) + 6)) rows (steps-few b around) in
+      within_size (query_steps b around) tokens (from_size []) (from_work ctx []) (omega (arith, few, stars, within, small.conjuncts, small.results))
   query_few (i ∷ []) b (Some place) some at small =
       let each = 4 * (all_nodes b.conjuncts + all_nodes b.results) + 6 in
       let within : 1 + small.shown + 2 + small.filter ≤ tokens = subst (λ t. 1 + small.shown + table_size t + small.filter ≤ tokens) some small.within in
-      let few : query_steps b lists ≤ 16 + (1 + rows_seen (Some place) lists) * each = subst (λ t. query_steps b lists ≤ 16 + (1 + rows_seen t lists) * each) some (steps-few b lists) in
+      let few : query_steps b around ≤ 16 + (1 + rows_seen (Some place) lists) * each = subst (λ t. query_steps b around ≤ 16 + (1 + rows_seen t lists) * each) some (steps-few b around) in
       let enough = within_rows each tokens (from_size (i ∷ [])) (rows_seen (Some place) lists) (from_work ctx (i ∷ [])) (rows_same i place at) (omega (arith, within, small.hundred, small.conjuncts, small.results)) in
       omega (arith, few, enough)
   query_few [] b (Some place) some at small = absurd at
@@ -87,10 +90,10 @@ module _ (hosts : HostMeanings) (catalog : List TableEntry) (lists : Lists) (cha
 
   -- ---- any statement
 
-  few_for : (x : BoundStatement) (b : Bound) → IsBound catalog x b → IsSmall catalog tokens b → steps_in lists b ≤ 256 * (tokens + opened_size x) * (work_of ctx x + 1)
+  few_for : (x : BoundStatement) (b : Bound) → IsBound catalog x b → IsSmall catalog tokens b → steps_in around b ≤ 256 * (tokens + opened_size x) * (work_of ctx x + 1)
   few_for (Creates t) (bound.CreateTable e) at small = within_size 2 tokens 0 0 (omega (arith, small))
   few_for (Puts p) (bound.Insert b) at small =
-      within_size (put_steps b lists) tokens (opened_size (Puts p)) (work_of ctx (Puts p)) (omega (arith, small, rows_few b.rows))
+      within_size (put_steps b around) tokens (opened_size (Puts p)) (work_of ctx (Puts p)) (omega (arith, small, rows_few b.rows))
   few_for (Queries q) (bound.Select b) at small = query_few q.from b b.table refl at.from small
   few_for (Creates t) (bound.Insert b) at small = absurd at
   few_for (Creates t) (bound.Select b) at small = absurd at
@@ -100,5 +103,5 @@ module _ (hosts : HostMeanings) (catalog : List TableEntry) (lists : Lists) (cha
   few_for (Queries q) (bound.Insert b) at small = absurd at
 
   -- a bound statement runs within what its text may run
-  pub runs_within : (x : BoundStatement) (b : Bound) → text_bound catalog text ≡ Ok x → IsBound catalog x b → IsSmall catalog tokens b → steps_in lists b ≤ instruction_bound ctx text
+  pub runs_within : (x : BoundStatement) (b : Bound) → text_bound catalog text ≡ Ok x → IsBound catalog x b → IsSmall catalog tokens b → steps_in around b ≤ instruction_bound ctx text
   runs_within x b is at small = rw (ap (bound_within ctx tokens) is) (few_for x b at small)

@@ -1,5 +1,6 @@
 pub mod Takings
 pub mod Telling
+pub mod Starting
 pub mod Stretches
 pub mod Answering
 pub mod Places

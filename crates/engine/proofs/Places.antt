@@ -91,6 +91,22 @@ pub with_rows-free : (catalog : List TableEntry) (lists : Lists) (n : TableEntry
 with_rows-free catalog lists n rows long free =
     with_rows-past catalog lists n rows long (past_from_none (λ (e : TableEntry). is_same_name e.name n.name) catalog free)
 
+-- ---- the number of a table
+
+at_step : (b : Bool) (k n : ℕ) → k ≡ n → cond (not b) (1 + k) 0 ≡ cond (not b) (1 + n) 0
+at_step b k n same = ap (λ i. cond (not b) (1 + i) 0) same
+
+number-first : (catalog : List TableEntry) (lists : Lists) (name : List ℕ) → length lists ≡ length catalog → position_or_len (λ (t : List ℕ × List StoredRow). is_same_name t.0 name) (named_rows catalog lists) ≡ first_place catalog name
+number-first [] [] name long = refl
+number-first [] (l ∷ ls) name long = absurd (omega arith)
+number-first (e ∷ es) [] name long = absurd (omega arith)
+number-first (e ∷ es) (l ∷ ls) name long = at_step (is_same_name e.name name) _ _ (number-first es ls name (omega arith))
+
+-- it is the table's place in the catalog
+pub number-place : (catalog : List TableEntry) (lists : Lists) (name : List ℕ) (i : ℕ) → length lists ≡ length catalog → place_named catalog name ≡ Some i → position_or_len (λ (t : List ℕ × List StoredRow). is_same_name t.0 name) (named_rows catalog lists) ≡ i
+number-place catalog lists name i long found =
+    number-first catalog lists name long ∙ (position-Some (λ (e : TableEntry). is_same_name e.name name) catalog i found).1
+
 -- ---- the table in the place of a name
 
 module _ (catalog : List TableEntry) (name : List ℕ) (i : ℕ) (t : TableEntry) (found : place_named catalog name ≡ Some i) (at : slice_get catalog i ≡ Some t) where

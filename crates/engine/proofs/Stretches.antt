@@ -1,19 +1,20 @@
 -- One stretch of a run and the next, and what a run comes to whose stretches are known.
-use Rattle.std.proofs.Common.{◌≡◌, ℕ, zero, suc, ◌+◌, ◌-◌, ◌<◌, ◌≤◌, Bool, true, false, List, [], ◌∷◌, ◌++◌, length, None, Ok, Err, Option, Result, refl, sym, ap, ◌∙◌, subst, arith, append_assoc, append-nil, length-append, ⊎_elim}
+use Rattle.std.proofs.Common.{◌≡◌, ℕ, zero, suc, ◌+◌, ◌-◌, ◌<◌, ◌≤◌, Bool, true, false, List, [], ◌∷◌, ◌++◌, length, ℤ, Ok, Err, Option, Result, refl, sym, ap, ◌∙◌, subst, arith, append_assoc, append-nil, length-append, ⊎_elim}
 use Rattle.std.proofs.lemmas.Bool.{cases_lt}
 use Rattle.eng_value.specs.HostMeanings.{HostMeanings, Oracle}
 use Rattle.eng_value.specs.declared.value.Value.{Value}
 use Rattle.vm_code.specs.declared.program.Program.{Program}
-use Rattle.vm_code.specs.Machine.{Row, World, Setting, Shared, State, Ending, Finished, Failed, Next, On, End, Ends, after, setting, start}
-use Rattle.vm_code.proofs.Given.{over, one_end, still_on, next_stretch, under}
-use Rattle.vm_code.proofs.Kept.{shared_of, after_keeps, with_row_by}
+use Rattle.vm_code.specs.Machine.{Row, World, Setting, Shared, State, Ending, Finished, Failed, Next, On, End, Ends, after, setting, start, with_given, world_of}
+use Rattle.vm_code.specs.Reading.{under}
+use Rattle.vm_code.proofs.Given.{over, one_end, still_on, next_stretch}
+use Rattle.vm_code.proofs.Kept.{shared_of, after_keeps}
 use Rattle.vm_code.proofs.Runs.{after_add}
 use Rattle.vm_core.specs.Events.{NoneInVain}
 use Rattle.vm_core.specs.Paused.{Paused, state_of, at_start}
 use Rattle.engine.specs.declared.running.Completed.{Completed}
 use Rattle.engine.specs.declared.running.Stop.{Stop}
 use Rattle.engine.specs.declared.running.Stop.TheVariants as stop
-use Rattle.engine.specs.Running.{RunsAs, put_count, last_put}
+use Rattle.engine.specs.Running.{RunsAs}
 use Rattle.engine.specs.Stretches.{Gives, StopsAt, TakesOne, NextIs, DriveIs}
 use Rattle.engine.specs.Taking.{Rows, Adds, AddsFront}
 use Rattle.engine.proofs.Takings.{adds_none, adds_then}
@@ -22,7 +23,7 @@ use Rattle.engine.proofs.Takings.{adds_none, adds_then}
 abbrev BeginsWith : Rows → Shared → Type 0
 BeginsWith rows x = (rest : Rows) × (rows ++ rest ≡ x.given)
 
-begins_given : (rows : Rows) (x : Shared) (r : Row) → BeginsWith rows x → BeginsWith rows (record x { given = x.given ++ r ∷ [] })
+begins_given : (rows : Rows) (x : Shared) (r : Row) → BeginsWith rows x → BeginsWith rows (with_given x r)
 begins_given rows x r p = (p.0 ++ r ∷ [], sym (append_assoc rows p.0 (r ∷ [])) ∙ ap (λ l. l ++ r ∷ []) p.1)
 
 module _ (m : Setting) where
@@ -48,7 +49,7 @@ module _ (m : Setting) where
   given_grows k n s t e x is ends =
       let fewer : k < n = still_on m n k s t e x ends is in
       let rows = t.shared.given in
-      let kept = after_keeps (BeginsWith rows) (begins_given rows) (λ y at r p. with_row_by (BeginsWith rows) y at r p (λ free. p)) (λ y p. p) m (n - k) t ([], append-nil rows) in
+      let kept = after_keeps (BeginsWith rows) (begins_given rows) (λ y at r p. p) (λ y p. p) m (n - k) t ([], append-nil rows) in
       subst (λ y. BeginsWith rows (shared_of y)) (rest_is k n s t (End e x) (omega arith) is ends) kept
 
   -- ---- the whole run
@@ -92,7 +93,7 @@ module _ (m : Setting) where
         let at = run.1 in
         record { answer = tt; front = front_on most at.steps s at.state e x run.0 old new ends at.is at.given run.2; within = enough most n s e x ends needed }
 
-    pub finished : (c : Completed) (given : ℕ) → w ≡ v → DriveIs m n s (state_of q v) whole rose old new (Ok given) → c.given ≡ given → c.changed ≡ put_count q.changes → c.last_rowid ≡ last_put None q.changes → RunsAs e x most whole n w old new rose (Ok c)
+    pub finished : (c : Completed) (given : ℕ) → w ≡ v → DriveIs m n s (state_of q v) whole rose old new (Ok given) → c.given ≡ given → c.changed ≡ q.changes → c.last_rowid ≡ q.last_rowid → RunsAs e x most whole n w old new rose (Ok c)
     finished c given world run given_is changed last =
         let rows = run.0 in
         let same = end_is most n s e Finished x (state_of q v rows).shared ends run.1 in
@@ -100,7 +101,7 @@ module _ (m : Setting) where
         let rows_are : rows ≡ x.given = ap (λ (y : Shared). y.given) back in
         let adds : Adds old new x.given = subst (Adds old new) rows_are run.2 in
         record {
-          answer = (same.0, world ∙ ap (λ (y : Shared). y.world) back, adds, given_is ∙ run.3 ∙ ap length rows_are, changed ∙ ap (λ (y : Shared). put_count y.changes) back, last ∙ ap (λ (y : Shared). last_put None y.changes) back);
+          answer = (same.0, world ∙ ap (λ (y : Shared). world_of y) back, adds, given_is ∙ run.3 ∙ ap length rows_are, changed ∙ ap (λ (y : Shared). y.written.changes) back, last ∙ ap (λ (y : Shared). y.written.last_rowid) back);
           front = (x.given, [], append-nil x.given, adds);
           within = enough most n s e x ends needed;
         }
@@ -110,14 +111,14 @@ module _ (m : Setting) where
 -- a run stands here after so many instructions, and so many rows were given and taken
 pub record Along (hosts : HostMeanings) (ask : Oracle) (first p : Paused) (w0 w : World) (old new : Option Rows) (ran given : ℕ) : Type 0 where
   pub rows : Rows
-  pub is : after (setting hosts ask first.prog) ran (state_of first w0 []) ≡ On (state_of p w rows)
+  pub is : after (setting hosts ask first.params first.prog) ran (state_of first w0 []) ≡ On (state_of p w rows)
   pub taken : Adds old new rows
   pub count : given ≡ length rows
 
 pub along_first : (hosts : HostMeanings) (ask : Oracle) (p : Paused) (w : World) (t : Option Rows) (ran : ℕ) → ran ≡ 0 → Along hosts ask p p w w t t ran 0
 along_first hosts ask p w t ran none = record {
   rows = [];
-  is = ap (λ k. after (setting hosts ask p.prog) k (state_of p w [])) none;
+  is = ap (λ k. after (setting hosts ask p.params p.prog) k (state_of p w [])) none;
   taken = adds_none t;
   count = refl;
 }
@@ -145,15 +146,19 @@ handed m n ran whole p w t row old new rose (Err (stop.Interrupted k)) is took =
 handed m n ran whole p w t row old new rose (Err stop.SinkFault) is took = ((gives_none m p w, took.0), took.1)
 handed m n ran whole p w t row old new rose (Err stop.Mem) is took = (gives_none m p w, took)
 
-module _ {hosts : HostMeanings} {ask : Oracle} {first p : Paused} {w0 w : World} {old mid : Option Rows} {i given : ℕ} (along : Along hosts ask first p w0 w old mid i given) (prog : p.prog ≡ first.prog) (n ran : ℕ) (ran_is : ran ≡ i + n) where
+module _ {hosts : HostMeanings} {ask : Oracle} {first p : Paused} {w0 w : World} {old mid : Option Rows} {i given : ℕ} (along : Along hosts ask first p w0 w old mid i given) (prog : p.prog ≡ first.prog) (params : p.params ≡ first.params) (n ran : ℕ) (ran_is : ran ≡ i + n) where
   abbrev m : Setting
-  m = setting hosts ask first.prog
+  m = setting hosts ask first.params first.prog
+
+  -- the setting of the machine is the one of the first
+  here : setting hosts ask p.params p.prog ≡ m
+  here = ap (λ l. setting hosts ask l p.prog) params ∙ ap (setting hosts ask first.params) prog
 
   abbrev s : State
   s = state_of first w0 []
 
-  from_here : (x : Next) → after (setting hosts ask p.prog) n (state_of p w []) ≡ x → after m n (state_of p w []) ≡ x
-  from_here x next = ap (λ (y : Program). after (setting hosts ask y) n (state_of p w [])) (sym prog) ∙ next
+  from_here : (x : Next) → after (setting hosts ask p.params p.prog) n (state_of p w []) ≡ x → after m n (state_of p w []) ≡ x
+  from_here x next = ap (λ (y : Setting). after y n (state_of p w [])) (sym here) ∙ next
 
   needed_here : NoneInVain m n (state_of p w []) → NoneInVain m ran s
   needed_here needed k last =
@@ -163,8 +168,8 @@ module _ {hosts : HostMeanings} {ask : Oracle} {first p : Paused} {w0 w : World}
       let z : k ≡ i + (k - i) = omega arith in
       (under along.rows u.0, ap (λ j. after m j s) z ∙ next_stretch m i (k - i) s (state_of p w []) along.rows (On u.0) along.is u.1)) (cases_lt k i)
 
-  pub needed_then : NoneInVain (setting hosts ask p.prog) n (state_of p w []) → NoneInVain m ran s
-  needed_then needed = needed_here (subst (λ (y : Program). NoneInVain (setting hosts ask y) n (state_of p w [])) prog needed)
+  pub needed_then : NoneInVain (setting hosts ask p.params p.prog) n (state_of p w []) → NoneInVain m ran s
+  needed_then needed = needed_here (subst (λ (y : Setting). NoneInVain y n (state_of p w [])) here needed)
 
   gives_then : Gives m s along.rows
   gives_then = record { steps = i; state = state_of p w along.rows; is = along.is; given = refl }
@@ -188,19 +193,19 @@ module _ {hosts : HostMeanings} {ask : Oracle} {first p : Paused} {w0 w : World}
     stop_then whole rose since later stop.Mem at = gives_then
 
     -- a run that stops in its next stretch stops
-    pub drive_stops : (part whole to : ℕ) (rose since : Type 0) (why : Stop) → part ≡ whole → to ≡ ran → (rose → since) → NextIs (setting hosts ask p.prog) n (state_of p w []) (state_of q v) part to rose mid new (Err why) → DriveIs m ran s (state_of q v) whole since old new (Err why)
+    pub drive_stops : (part whole to : ℕ) (rose since : Type 0) (why : Stop) → part ≡ whole → to ≡ ran → (rose → since) → NextIs (setting hosts ask p.params p.prog) n (state_of p w []) (state_of q v) part to rose mid new (Err why) → DriveIs m ran s (state_of q v) whole since old new (Err why)
     drive_stops part whole to rose since why same counted later next =
-        let here = subst (λ (y : Program). StopsAt (setting hosts ask y) n (state_of p w []) (state_of q v) part to rose [] why) prog next.0 in
-        let there = subst (λ (k : ℕ). StopsAt m n (state_of p w []) (state_of q v) k to rose [] why) same here in
+        let now = subst (λ (y : Setting). StopsAt y n (state_of p w []) (state_of q v) part to rose [] why) here next.0 in
+        let there = subst (λ (k : ℕ). StopsAt m n (state_of p w []) (state_of q v) k to rose [] why) same now in
         let at = subst (λ (k : ℕ). StopsAt m n (state_of p w []) (state_of q v) whole k rose [] why) counted there in
         (along.rows, stop_then whole rose since later why at, taken_still next.1)
 
     -- a run is at its end that has none but its last stretch before it
-    pub drive_ends : after (setting hosts ask p.prog) n (state_of p w []) ≡ End Finished (state_of q v []).shared → Adds mid new [] → (rows : Rows) × (after m ran s ≡ End Finished (state_of q v rows).shared) × Adds old new rows × (given ≡ length rows)
+    pub drive_ends : after (setting hosts ask p.params p.prog) n (state_of p w []) ≡ End Finished (state_of q v []).shared → Adds mid new [] → (rows : Rows) × (after m ran s ≡ End Finished (state_of q v rows).shared) × Adds old new rows × (given ≡ length rows)
     drive_ends next adds = (along.rows, end_then Finished (from_here (End Finished (state_of q v []).shared) next), taken_still adds, along.count)
 
     -- one row more was given and taken
-    pub along_next : (row : Row) → after (setting hosts ask p.prog) n (state_of p w []) ≡ On (state_of q v (row ∷ [])) → Adds mid new (row ∷ []) → Along hosts ask first q w0 v old new ran (given + 1)
+    pub along_next : (row : Row) → after (setting hosts ask p.params p.prog) n (state_of p w []) ≡ On (state_of q v (row ∷ [])) → Adds mid new (row ∷ []) → Along hosts ask first q w0 v old new ran (given + 1)
     along_next row next adds = record {
       rows = along.rows ++ row ∷ [];
       is = on_then (row ∷ []) (from_here (On (state_of q v (row ∷ []))) next);
@@ -208,6 +213,7 @@ module _ {hosts : HostMeanings} {ask : Oracle} {first p : Paused} {w0 w : World}
       count = omega (arith, along.count, length-append along.rows (row ∷ []));
     }
 
--- a machine that was made of a program runs as the program does
-pub of_program : (hosts : HostMeanings) (ask : Oracle) (p : Paused) (prog : Program) (params : List Value) (w : World) (P : Setting → State → Type 0) → p ≡ at_start prog params → P (setting hosts ask p.prog) (state_of p w []) → P (setting hosts ask prog) (start prog params w)
-of_program hosts ask p prog params w P made h = subst (λ (y : Paused). P (setting hosts ask y.prog) (state_of y w [])) made h
+-- a machine that was made of a program runs as the program does, over tables that are the same
+pub of_program : (hosts : HostMeanings) (ask : Oracle) (p : Paused) (prog : Program) (params : List Value) (last_rowid : ℤ) (u w : World) (P : Setting → State → Type 0) → p ≡ at_start prog params last_rowid → u ≡ w → P (setting hosts ask p.params p.prog) (state_of p u []) → P (setting hosts ask params prog) (start prog w last_rowid)
+of_program hosts ask p prog params last_rowid u w P made same h =
+    subst (λ (v : World). P (setting hosts ask params prog) (start prog v last_rowid)) same (subst (λ (y : Paused). P (setting hosts ask y.params y.prog) (state_of y u [])) made h)

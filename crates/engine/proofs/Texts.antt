@@ -1,5 +1,5 @@
 -- What a text means whose statement was bound: the outcome of what was bound, whose tables go by places.
-use Rattle.std.proofs.Common.{◌≡◌, ◌-◌, inl, inr, ℕ, List, ℤ, length, Option, Result, Ok, Err, subst, sym, ap, ◌∙◌}
+use Rattle.std.proofs.Common.{◌≡◌, ◌-◌, inl, inr, ℕ, List, ℤ, length, Option, Ok, Err, subst, sym, ap}
 use Rattle.bind_stmt.specs.declared.statement.Bound.{Bound}
 use Rattle.bind_stmt.specs.declared.statement.Bound.TheVariants as bound
 use Rattle.bind_stmt.specs.Binds.{IsBound, IsRefusal}
@@ -11,7 +11,7 @@ use Rattle.sql_meaning.proofs.ValidLaws.{text-fits}
 use Rattle.sql_meaning.specs.BoundStatements.{BoundStatement, Creates, Puts, Queries}
 use Rattle.sql_meaning.specs.Statement.{Outcome, bound_outcome, outcome_of, text_bound, text_outcome}
 use Rattle.sql_meaning.specs.World.{Context, State, context}
-use Rattle.vm_code.specs.Machine.{World as Lists, IsOrdered}
+use Rattle.vm_code.specs.Machine.{World as Lists, IsSound}
 use Rattle.engine.specs.Held.{state_of}
 use Rattle.engine.specs.Outcomes.{outcome_in}
 use Rattle.engine.specs.Connected.{CarriesOut}
@@ -28,7 +28,7 @@ module _ (hosts : HostMeanings) (catalog : List TableEntry) (lists : Lists) (cha
 
   -- ---- what was bound
 
-  bound_stands : (x : BoundStatement) (b : Bound) → length lists ≡ length catalog → IsOrdered lists → text_bound catalog text ≡ Ok x → IsBound catalog x b → StandsFor (outcome_of ctx x) (outcome_in hosts catalog lists changes last params b)
+  bound_stands : (x : BoundStatement) (b : Bound) → length lists ≡ length catalog → IsSound lists → text_bound catalog text ≡ Ok x → IsBound catalog x b → StandsFor (outcome_of ctx x) (outcome_in hosts catalog lists changes last params b)
   bound_stands (Creates t) (bound.CreateTable e) long up is at =
       rw at (stands_same _ _ (create_same hosts catalog lists changes last long t (text-fits catalog text (Creates t) is)))
   bound_stands (Puts p) (bound.Insert b) long up is at = put_same hosts catalog lists changes last long p b at up
@@ -40,7 +40,7 @@ module _ (hosts : HostMeanings) (catalog : List TableEntry) (lists : Lists) (cha
   bound_stands (Queries q) (bound.CreateTable e) long up is at = absurd at
   bound_stands (Queries q) (bound.Insert b) long up is at = absurd at
 
-  pub text_stands : (x : BoundStatement) (b : Bound) → length lists ≡ length catalog → IsOrdered lists → text_bound catalog text ≡ Ok x → IsBound catalog x b → StandsFor (text_outcome ctx text) (outcome_in hosts catalog lists changes last params b)
+  pub text_stands : (x : BoundStatement) (b : Bound) → length lists ≡ length catalog → IsSound lists → text_bound catalog text ≡ Ok x → IsBound catalog x b → StandsFor (text_outcome ctx text) (outcome_in hosts catalog lists changes last params b)
   text_stands x b long up is at =
       subst (λ (o : Outcome). StandsFor o (outcome_in hosts catalog lists changes last params b)) (sym (ap (bound_outcome ctx) is)) (bound_stands x b long up is at)
 

@@ -1,13 +1,12 @@
 -- What the run of a statement's program comes to, by causes.
-use Rattle.std.specs.Prelude.{◌≡◌, ◌<◌, ◌≤◌, ℕ, true, length, Option, None, Result, Ok, Err}
+use Rattle.std.specs.Prelude.{◌≡◌, ◌<◌, ◌≤◌, ℕ, true, length, Option, Result, Ok, Err}
 use Rattle.eng_value.specs.Causes.{CauseSet, has_cause}
 use Rattle.eng_value.specs.declared.cause.Cause.{Cause}
 use Rattle.eng_value.specs.declared.cause.Cause.TheVariants as cause
-use Rattle.vm_code.specs.Machine.{World, Shared, Ending, Finished, Failed}
+use Rattle.vm_code.specs.Machine.{World, Shared, Ending, Finished, Failed, world_of}
 use Rattle.engine.specs.declared.running.Completed.{Completed}
 use Rattle.engine.specs.declared.running.Stop.{Stop}
 use Rattle.engine.specs.declared.running.Stop.TheVariants as stop
-use Rattle.engine.specs.Running.{put_count, last_put}
 use Rattle.engine.specs.Taking.{Rows, Adds, AddsFront}
 
 -- Why a program did not run to its end, where the machine over lists ends so with this shared.
@@ -28,7 +27,7 @@ NamesStop stop.Mem k = k ≡ cause.Mem
 -- what a program's run says, where the machine over lists ends so with this shared, with these tables then and from this sink to that
 abbrev pub AnswersAs : Ending → Shared → ℕ → ℕ → ℕ → World → Option Rows → Option Rows → Type 0 → Result Completed Cause → Type 0
 AnswersAs e x most budget ran w t0 t rose (Ok c) =
-    (e ≡ Finished) × (w ≡ x.world) × Adds t0 t x.given × (c.given ≡ length x.given) × (c.changed ≡ put_count x.changes) × (c.last_rowid ≡ last_put None x.changes)
+    (e ≡ Finished) × (w ≡ world_of x) × Adds t0 t x.given × (c.given ≡ length x.given) × (c.changed ≡ x.written.changes) × (c.last_rowid ≡ x.written.last_rowid)
 AnswersAs e x most budget ran w t0 t rose (Err k) = Refuses e x most budget ran t0 t rose k
 
 -- the same, with a front of the rows taken and no more instructions run than the machine over lists needs

@@ -1,5 +1,5 @@
 -- What a connection holds, as the state of the definitions.
-use Rattle.std.specs.Prelude.{◌≡◌, ℕ, List, ℤ, length, map}
+use Rattle.std.specs.Prelude.{◌≡◌, ℕ, List, [], ℤ, length, map}
 use Rattle.std.specs.List.{zip}
 use Rattle.eng_value.specs.StoredRows.{StoredRow}
 use Rattle.vm_code.specs.Machine.{World as Lists}
@@ -20,7 +20,8 @@ state_of catalog lists changes last_rowid =
       last_rowid = last_rowid;
     }
 
--- what is always so of what a connection holds: a list of rows for each table of the catalog, and a valid state
-pub record IsConsistent (catalog : List TableEntry) (lists : Lists) (changes : ℕ) (last_rowid : ℤ) : Type 0 where
+-- what is always so of what a connection holds: a list of rows for each table of the catalog, no mark of a statement, and a valid state
+pub record IsConsistent (catalog : List TableEntry) (lists : Lists) (marks : List Lists) (changes : ℕ) (last_rowid : ℤ) : Type 0 where
   pub in_line : length lists ≡ length catalog
+  pub unmarked : marks ≡ []
   pub valid : IsValid (state_of catalog lists changes last_rowid)

@@ -40,11 +40,11 @@ impl Model for Connection {
 
     ghost view = { λ c.
         record {
-          state = state_of c.database.catalog c.database.tables c.database.changes c.database.last_rowid;
+          state = state_of c.database.catalog c.database.tables.world c.database.changes c.database.last_rowid;
           budget = c.budget;
         } };
 
-    ghost invariant = { λ c. IsConsistent c.database.catalog c.database.tables c.database.changes c.database.last_rowid };
+    ghost invariant = { λ c. IsConsistent c.database.catalog c.database.tables.world c.database.tables.marks c.database.changes c.database.last_rowid };
 }
 
 impl Connection {
@@ -167,7 +167,7 @@ fn place_named(catalog: &[TableEntry], name: &str) -> Option<usize>
 
 /// The rows of a table with their rowids in front.
 fn numbered(alloc: Global, tables: &Tables, table: usize) -> Result<Rows, AllocError>
-    ensures { IfOk result (λ found. found ≡ map with_rowid (rows_of tables.now table)) }
+    ensures { IfOk result (λ found. found ≡ map with_rowid (rows_of tables.now.world table)) }
 {
     let rows = tables.rows(alloc, table)?;
     let mut found = Rows::empty(alloc);

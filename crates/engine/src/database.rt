@@ -1,13 +1,13 @@
 // What a connection holds, and how a statement changes it.
-ghost use Rattle.std.specs.Prelude.{◌≡◌, ◌≤◌, ◌+◌, ◌-◌, [], length, pos, unwrap_or, OnErr};
+ghost use Rattle.std.specs.Prelude.{◌≡◌, ◌≤◌, ◌+◌, ◌-◌, [], length, pos, OnErr};
 ghost use Rattle.engine.specs.Causes.{WhereTold};
 ghost use Rattle.engine.specs.Connected.{CarriesOut};
 ghost use Rattle.engine.specs.Held.{state_of};
-ghost use Rattle.engine.specs.Outcomes.{create_outcome_in, outcome_in, put_outcome_in, query_outcome_in, steps_in};
+ghost use Rattle.engine.specs.Outcomes.{create_outcome_in, outcome_in, put_outcome_in, query_outcome_in, steps_in, surroundings_in};
 ghost use Rattle.gen_query.specs.Queries.{query_steps};
 ghost use Rattle.gen_write.specs.Writes.{create_steps, put_steps};
 ghost use Rattle.host_traits.specs.Faults.{Rose};
-ghost use Rattle.vm_code.specs.Machine.{IsOrdered};
+ghost use Rattle.vm_code.specs.Machine.{IsSound};
 ghost use Rattle.vm_core.specs.Meant.{meant};
 
 use crate::answers::Done;
@@ -38,7 +38,7 @@ impl Database {
     /// No table yet.
     pub(crate) fn new(alloc: Global) -> Database
         ensures catalog { result.catalog ≡ [] }
-        ensures tables { result.tables ≡ [] }
+        ensures tables { result.tables ≡ record { world = []; marks = [] } }
         ensures changes { result.changes ≡ 0 }
         ensures last_rowid { result.last_rowid ≡ pos 0 }
     {
@@ -50,17 +50,15 @@ impl Database {
         }
     }
 
-    /// Keeps how many rows a write put and the rowid of the last one, where it put one.
+    /// Keeps how many rows a write changed, and the rowid of the last row that was put.
     fn keep(&mut self, completed: &Completed)
         ensures catalog { self.new.catalog ≡ self.old.catalog }
         ensures tables { self.new.tables ≡ self.old.tables }
         ensures changes { self.new.changes ≡ completed.now.changed }
-        ensures last_rowid { self.new.last_rowid ≡ unwrap_or completed.now.last_rowid self.old.last_rowid }
+        ensures last_rowid { self.new.last_rowid ≡ completed.now.last_rowid }
     {
         self.changes = completed.changed;
-        if let Some(rowid) = completed.last_rowid {
-            self.last_rowid = rowid;
-        }
+        self.last_rowid = completed.last_rowid;
     }
 }
 
@@ -75,18 +73,19 @@ pub(crate) fn run_text<R: RowSink, L: Ledger>(
     rows: &mut R,
     steps: &mut Steps<L>,
 ) -> Result<Done, Cause>
-    requires in_line { length database.old.tables ≡ length database.old.catalog }
-    ensures in_line { length database.new.tables ≡ length database.new.catalog }
+    requires in_line { length database.old.tables.world ≡ length database.old.catalog }
+    ensures in_line { length database.new.tables.world ≡ length database.new.catalog }
+    ensures marks { database.new.tables.marks ≡ database.old.tables.marks }
     ensures carried { WhereTold (meant hosts.old)
-        (state_of database.old.catalog database.old.tables database.old.changes database.old.last_rowid) params.now text.now
+        (state_of database.old.catalog database.old.tables.world database.old.changes database.old.last_rowid) params.now text.now
         (λ o bound. CarriesOut o
-        (state_of database.old.catalog database.old.tables database.old.changes database.old.last_rowid)
-        (state_of database.new.catalog database.new.tables database.new.changes database.new.last_rowid)
+        (state_of database.old.catalog database.old.tables.world database.old.changes database.old.last_rowid)
+        (state_of database.new.catalog database.new.tables.world database.new.changes database.new.last_rowid)
         budget bound (steps.new - steps.old) (R.taken rows.old) (R.taken rows.new)
         (Rose (R.fault_count rows.old) (R.fault_count rows.new)) result) }
     ensures kept { OnErr result
-        (state_of database.new.catalog database.new.tables database.new.changes database.new.last_rowid
-        ≡ state_of database.old.catalog database.old.tables database.old.changes database.old.last_rowid) }
+        (state_of database.new.catalog database.new.tables.world database.new.changes database.new.last_rowid
+        ≡ state_of database.old.catalog database.old.tables.world database.old.changes database.old.last_rowid) }
     ensures ticks { steps.old ≤ steps.new }
     ensures within { steps.new ≤ steps.old + budget }
     ensures faults { R.fault_count rows.old ≤ R.fault_count rows.new }
@@ -112,19 +111,20 @@ fn run_bound<M: Meanings, R: RowSink, L: Ledger>(
     rows: &mut R,
     steps: &mut Steps<L>,
 ) -> Result<Done, Cause>
-    requires in_line { length database.old.tables ≡ length database.old.catalog }
-    requires ordered { IsOrdered database.old.tables }
+    requires in_line { length database.old.tables.world ≡ length database.old.catalog }
+    requires sound { IsSound database.old.tables.world }
     requires told { meant hosts.old ≡ M.hosts }
-    ensures in_line { length database.new.tables ≡ length database.new.catalog }
+    ensures in_line { length database.new.tables.world ≡ length database.new.catalog }
+    ensures marks { database.new.tables.marks ≡ database.old.tables.marks }
     ensures carried { CarriesOut
-        (outcome_in M.hosts database.old.catalog database.old.tables database.old.changes database.old.last_rowid params.now bound)
-        (state_of database.old.catalog database.old.tables database.old.changes database.old.last_rowid)
-        (state_of database.new.catalog database.new.tables database.new.changes database.new.last_rowid)
-        budget (steps_in database.old.tables bound) (steps.new - steps.old) (R.taken rows.old) (R.taken rows.new)
+        (outcome_in M.hosts database.old.catalog database.old.tables.world database.old.changes database.old.last_rowid params.now bound)
+        (state_of database.old.catalog database.old.tables.world database.old.changes database.old.last_rowid)
+        (state_of database.new.catalog database.new.tables.world database.new.changes database.new.last_rowid)
+        budget (steps_in (surroundings_in M.hosts params.now database.old.tables.world) bound) (steps.new - steps.old) (R.taken rows.old) (R.taken rows.new)
         (Rose (R.fault_count rows.old) (R.fault_count rows.new)) result }
     ensures kept { OnErr result
-        (state_of database.new.catalog database.new.tables database.new.changes database.new.last_rowid
-        ≡ state_of database.old.catalog database.old.tables database.old.changes database.old.last_rowid) }
+        (state_of database.new.catalog database.new.tables.world database.new.changes database.new.last_rowid
+        ≡ state_of database.old.catalog database.old.tables.world database.old.changes database.old.last_rowid) }
     ensures ticks { steps.old ≤ steps.new }
     ensures within { steps.new ≤ steps.old + budget }
     ensures faults { R.fault_count rows.old ≤ R.fault_count rows.new }
@@ -153,19 +153,20 @@ fn run_create<M: Meanings, R: RowSink, L: Ledger>(
     rows: &mut R,
     steps: &mut Steps<L>,
 ) -> Result<Done, Cause>
-    requires in_line { length database.old.tables ≡ length database.old.catalog }
-    requires ordered { IsOrdered database.old.tables }
+    requires in_line { length database.old.tables.world ≡ length database.old.catalog }
+    requires sound { IsSound database.old.tables.world }
     requires told { meant hosts.old ≡ M.hosts }
-    ensures in_line { length database.new.tables ≡ length database.new.catalog }
+    ensures in_line { length database.new.tables.world ≡ length database.new.catalog }
+    ensures marks { database.new.tables.marks ≡ database.old.tables.marks }
     ensures carried { CarriesOut
-        (create_outcome_in database.old.catalog database.old.tables database.old.changes database.old.last_rowid entry)
-        (state_of database.old.catalog database.old.tables database.old.changes database.old.last_rowid)
-        (state_of database.new.catalog database.new.tables database.new.changes database.new.last_rowid)
-        budget (create_steps database.old.tables) (steps.new - steps.old) (R.taken rows.old) (R.taken rows.new)
+        (create_outcome_in database.old.catalog database.old.tables.world database.old.changes database.old.last_rowid entry)
+        (state_of database.old.catalog database.old.tables.world database.old.changes database.old.last_rowid)
+        (state_of database.new.catalog database.new.tables.world database.new.changes database.new.last_rowid)
+        budget (create_steps (surroundings_in M.hosts [] database.old.tables.world)) (steps.new - steps.old) (R.taken rows.old) (R.taken rows.new)
         (Rose (R.fault_count rows.old) (R.fault_count rows.new)) result }
     ensures kept { OnErr result
-        (state_of database.new.catalog database.new.tables database.new.changes database.new.last_rowid
-        ≡ state_of database.old.catalog database.old.tables database.old.changes database.old.last_rowid) }
+        (state_of database.new.catalog database.new.tables.world database.new.changes database.new.last_rowid
+        ≡ state_of database.old.catalog database.old.tables.world database.old.changes database.old.last_rowid) }
     ensures ticks { steps.old ≤ steps.new }
     ensures within { steps.new ≤ steps.old + budget }
     ensures faults { R.fault_count rows.old ≤ R.fault_count rows.new }
@@ -181,6 +182,7 @@ fn run_create<M: Meanings, R: RowSink, L: Ledger>(
         alloc,
         program,
         &[],
+        database.last_rowid,
         &mut database.tables,
         hosts,
         budget,
@@ -205,19 +207,20 @@ fn run_insert<M: Meanings, R: RowSink, L: Ledger>(
     rows: &mut R,
     steps: &mut Steps<L>,
 ) -> Result<Done, Cause>
-    requires in_line { length database.old.tables ≡ length database.old.catalog }
-    requires ordered { IsOrdered database.old.tables }
+    requires in_line { length database.old.tables.world ≡ length database.old.catalog }
+    requires sound { IsSound database.old.tables.world }
     requires told { meant hosts.old ≡ M.hosts }
-    ensures in_line { length database.new.tables ≡ length database.new.catalog }
+    ensures in_line { length database.new.tables.world ≡ length database.new.catalog }
+    ensures marks { database.new.tables.marks ≡ database.old.tables.marks }
     ensures carried { CarriesOut
-        (put_outcome_in database.old.catalog database.old.tables database.old.changes database.old.last_rowid insert.now)
-        (state_of database.old.catalog database.old.tables database.old.changes database.old.last_rowid)
-        (state_of database.new.catalog database.new.tables database.new.changes database.new.last_rowid)
-        budget (put_steps insert.now database.old.tables) (steps.new - steps.old) (R.taken rows.old) (R.taken rows.new)
+        (put_outcome_in M.hosts database.old.catalog database.old.tables.world database.old.changes database.old.last_rowid insert.now)
+        (state_of database.old.catalog database.old.tables.world database.old.changes database.old.last_rowid)
+        (state_of database.new.catalog database.new.tables.world database.new.changes database.new.last_rowid)
+        budget (put_steps insert.now (surroundings_in M.hosts [] database.old.tables.world)) (steps.new - steps.old) (R.taken rows.old) (R.taken rows.new)
         (Rose (R.fault_count rows.old) (R.fault_count rows.new)) result }
     ensures kept { OnErr result
-        (state_of database.new.catalog database.new.tables database.new.changes database.new.last_rowid
-        ≡ state_of database.old.catalog database.old.tables database.old.changes database.old.last_rowid) }
+        (state_of database.new.catalog database.new.tables.world database.new.changes database.new.last_rowid
+        ≡ state_of database.old.catalog database.old.tables.world database.old.changes database.old.last_rowid) }
     ensures ticks { steps.old ≤ steps.new }
     ensures within { steps.new ≤ steps.old + budget }
     ensures faults { R.fault_count rows.old ≤ R.fault_count rows.new }
@@ -230,6 +233,7 @@ fn run_insert<M: Meanings, R: RowSink, L: Ledger>(
         alloc,
         program,
         &[],
+        database.last_rowid,
         &mut database.tables,
         hosts,
         budget,
@@ -255,19 +259,20 @@ fn run_select<M: Meanings, R: RowSink, L: Ledger>(
     rows: &mut R,
     steps: &mut Steps<L>,
 ) -> Result<Done, Cause>
-    requires in_line { length database.old.tables ≡ length database.old.catalog }
-    requires ordered { IsOrdered database.old.tables }
+    requires in_line { length database.old.tables.world ≡ length database.old.catalog }
+    requires sound { IsSound database.old.tables.world }
     requires told { meant hosts.old ≡ M.hosts }
-    ensures in_line { length database.new.tables ≡ length database.new.catalog }
+    ensures in_line { length database.new.tables.world ≡ length database.new.catalog }
+    ensures marks { database.new.tables.marks ≡ database.old.tables.marks }
     ensures carried { CarriesOut
-        (query_outcome_in M.hosts database.old.catalog database.old.tables database.old.changes database.old.last_rowid params.now select.now)
-        (state_of database.old.catalog database.old.tables database.old.changes database.old.last_rowid)
-        (state_of database.new.catalog database.new.tables database.new.changes database.new.last_rowid)
-        budget (query_steps select.now database.old.tables) (steps.new - steps.old) (R.taken rows.old) (R.taken rows.new)
+        (query_outcome_in M.hosts database.old.catalog database.old.tables.world database.old.changes database.old.last_rowid params.now select.now)
+        (state_of database.old.catalog database.old.tables.world database.old.changes database.old.last_rowid)
+        (state_of database.new.catalog database.new.tables.world database.new.changes database.new.last_rowid)
+        budget (query_steps select.now (surroundings_in M.hosts params.now database.old.tables.world)) (steps.new - steps.old) (R.taken rows.old) (R.taken rows.new)
         (Rose (R.fault_count rows.old) (R.fault_count rows.new)) result }
     ensures kept { OnErr result
-        (state_of database.new.catalog database.new.tables database.new.changes database.new.last_rowid
-        ≡ state_of database.old.catalog database.old.tables database.old.changes database.old.last_rowid) }
+        (state_of database.new.catalog database.new.tables.world database.new.changes database.new.last_rowid
+        ≡ state_of database.old.catalog database.old.tables.world database.old.changes database.old.last_rowid) }
     ensures ticks { steps.old ≤ steps.new }
     ensures within { steps.new ≤ steps.old + budget }
     ensures faults { R.fault_count rows.old ≤ R.fault_count rows.new }
@@ -280,6 +285,7 @@ fn run_select<M: Meanings, R: RowSink, L: Ledger>(
         alloc,
         program,
         params,
+        database.last_rowid,
         &mut database.tables,
         hosts,
         budget,

@@ -32,6 +32,7 @@ pub(crate) fn execute<M: Meanings, R: RowSink, L: Ledger>(
     alloc: Global,
     program: Program,
     params: &[Value],
+    last_rowid: i64,
     tables: &mut Tables,
     hosts: &mut Hosts,
     budget: u64,
@@ -40,16 +41,19 @@ pub(crate) fn execute<M: Meanings, R: RowSink, L: Ledger>(
 ) -> Result<Completed, Cause>
     requires told { meant hosts.old ≡ M.hosts }
     ensures runs { ProgramIsTold M.hosts program → (ask : Oracle) (most : ℕ) (e : Ending) (x : Shared) →
-        Ends (setting M.hosts ask program) most (start program params.now tables.old) e x →
-        ExecutesAs e x most budget (steps.new - steps.old) tables.new (R.taken rows.old) (R.taken rows.new)
+        Ends (setting M.hosts ask params.now program) most (start program tables.old.world last_rowid) e x →
+        ExecutesAs e x most budget (steps.new - steps.old) tables.new.world (R.taken rows.old) (R.taken rows.new)
         (Rose (R.fault_count rows.old) (R.fault_count rows.new)) result }
-    ensures kept { OnErr result (tables.new ≡ tables.old) }
+    ensures kept { OnErr result (tables.new.world ≡ tables.old.world) }
+    ensures marks { tables.new.marks ≡ tables.old.marks }
     ensures told { meant hosts.new ≡ M.hosts }
     ensures ticks { steps.old ≤ steps.new }
     ensures within { steps.new ≤ steps.old + budget }
     ensures faults { R.fault_count rows.old ≤ R.fault_count rows.new }
 {
-    match run_program::<M, R, L>(alloc, program, params, tables, hosts, budget, rows, steps) {
+    match run_program::<M, R, L>(
+        alloc, program, params, last_rowid, tables, hosts, budget, rows, steps,
+    ) {
         Ok(completed) => Ok(completed),
         Err(stop) => Err(cause_of(stop)),
     }

@@ -1,10 +1,9 @@
 // Running a program to its end.
-ghost use Rattle.std.specs.Prelude.{IfOk, OnErr, ◌≡◌, ◌≤◌, ◌+◌, ◌-◌, ℕ, [], None};
+ghost use Rattle.std.specs.Prelude.{IfOk, OnErr, ◌≡◌, ◌≤◌, ◌+◌, ◌-◌, ℕ, []};
 ghost use Rattle.eng_value.specs.HostMeanings.{Oracle};
-ghost use Rattle.engine.specs.Running.{RunsAs, put_count, last_put};
+ghost use Rattle.engine.specs.Running.{RunsAs};
 ghost use Rattle.engine.specs.Stretches.{DriveIs, NextIs, TakesOne};
 ghost use Rattle.host_traits.specs.Faults.{Rose};
-ghost use Rattle.vm_code.specs.Changes.{before};
 ghost use Rattle.vm_code.specs.Honesty.{ProgramIsTold};
 ghost use Rattle.vm_code.specs.Machine.{Ending, Ends, Shared, setting, start};
 ghost use Rattle.vm_core.specs.Events.{NoneInVain};
@@ -15,18 +14,18 @@ use crate::row_sink::{RowSink, Took};
 use eng_value::{Causes, Meanings, Row, Steps, Value};
 use std::alloc::{AllocError, Global};
 use std::sync::ledger::Ledger;
-use vm_code::{Change, Program};
+use vm_code::Program;
 use vm_core::{Budget, Event, Hosts, Machine, Tables};
 
-/// What a program did that ran to its end: how many rows it gave and put, and the rowid of the last one that it put.
+/// What a program did that ran to its end: how many rows it gave and changed, and the rowid of the last row that was put then.
 #[derive(Clone, Copy)]
 pub(crate) struct Completed {
     pub(crate) given: u64,
     pub(crate) changed: u64,
-    pub(crate) last_rowid: Option<i64>,
+    pub(crate) last_rowid: i64,
 }
 
-/// Why a program did not run to its end. What it had changed is taken back.
+/// Why a program did not run to its end. The tables are as they were in front of it.
 #[derive(Drop)]
 pub(crate) enum Stop {
     Bad(Causes),
@@ -36,12 +35,13 @@ pub(crate) enum Stop {
     Mem,
 }
 
-/// Runs a program over the tables, hands each row that it gives to the sink, and takes back what it changed where it does not
-/// come to its end.
+/// Runs a program over the tables, hands each row that it gives to the sink, and gives the tables back as they were where it does not
+/// come to its end. The rowid is that of the last row that was put before.
 pub(crate) fn run_program<M: Meanings, R: RowSink, L: Ledger>(
     alloc: Global,
     program: Program,
     params: &[Value],
+    last_rowid: i64,
     tables: &mut Tables,
     hosts: &mut Hosts,
     budget: u64,
@@ -50,33 +50,58 @@ pub(crate) fn run_program<M: Meanings, R: RowSink, L: Ledger>(
 ) -> Result<Completed, Stop>
     requires told { meant hosts.old ≡ M.hosts }
     ensures runs { ProgramIsTold M.hosts program → (ask : Oracle) (most : ℕ) (e : Ending) (x : Shared) →
-        Ends (setting M.hosts ask program) most (start program params.now tables.old) e x →
-        RunsAs e x most budget (steps.new - steps.old) tables.new (R.taken rows.old) (R.taken rows.new)
+        Ends (setting M.hosts ask params.now program) most (start program tables.old.world last_rowid) e x →
+        RunsAs e x most budget (steps.new - steps.old) tables.new.world (R.taken rows.old) (R.taken rows.new)
         (Rose (R.fault_count rows.old) (R.fault_count rows.new)) result }
-    ensures kept { OnErr result (tables.new ≡ tables.old) }
+    ensures kept { OnErr result (tables.new.world ≡ tables.old.world) }
+    ensures marks { tables.new.marks ≡ tables.old.marks }
     ensures told { meant hosts.new ≡ M.hosts }
     ensures ticks { steps.old ≤ steps.new }
     ensures within { steps.new ≤ steps.old + budget }
     ensures faults { R.fault_count rows.old ≤ R.fault_count rows.new }
 {
-    let mut machine = match machine(alloc, program, params) {
+    let mut machine = match machine(alloc, program, params, last_rowid) {
         Ok(machine) => machine,
         Err(_) => return Err(Stop::Mem),
     };
+    let Ok(()) = tables.mark() else {
+        return Err(Stop::Mem);
+    };
     match drive::<M, R, L>(&mut machine, alloc, tables, hosts, budget, rows, steps) {
-        Ok(given) => Ok(sum_up(given, machine.changes())),
+        Ok(given) => {
+            tables.forget();
+            Ok(completion(given, &machine))
+        }
         Err(stop) => {
-            machine.undo(tables);
+            tables.undo();
             Err(stop)
         }
     }
 }
 
 /// A machine for a program with copies of the parameters.
-fn machine(alloc: Global, program: Program, params: &[Value]) -> Result<Machine, AllocError>
-    ensures { IfOk result (λ m. m ≡ at_start program params.now) }
+fn machine(
+    alloc: Global,
+    program: Program,
+    params: &[Value],
+    last_rowid: i64,
+) -> Result<Machine, AllocError>
+    ensures { IfOk result (λ m. m ≡ at_start program params.now last_rowid) }
 {
-    Machine::new(alloc, program, Row::new(params.to_vec(alloc)?))
+    Machine::new(alloc, program, Row::new(params.to_vec(alloc)?), last_rowid)
+}
+
+/// What a machine did that is at its end and gave so many rows.
+fn completion(given: u64, machine: &Machine) -> Completed
+    ensures given { result.given ≡ given }
+    ensures changed { result.changed ≡ machine.now.changes }
+    ensures last_rowid { result.last_rowid ≡ machine.now.last_rowid }
+{
+    Completed {
+        given,
+        changed: machine.changes(),
+        last_rowid: machine.last_rowid(),
+    }
 }
 
 /// Runs a machine to its end and hands each row over; answers how many rows there were.
@@ -92,11 +117,11 @@ fn drive<M: Meanings, R: RowSink, L: Ledger>(
     requires told { meant hosts.old ≡ M.hosts }
     ensures ticks { steps.old ≤ steps.new }
     ensures within { steps.new ≤ steps.old + budget }
-    ensures undo { before machine.new.changes tables.new ≡ before machine.old.changes tables.old }
+    ensures marks { tables.new.marks ≡ tables.old.marks }
     ensures needed { ProgramIsTold M.hosts machine.old.prog → (ask : Oracle) →
-        NoneInVain (setting M.hosts ask machine.old.prog) (steps.new - steps.old) (state_of machine.old tables.old []) }
+        NoneInVain (setting M.hosts ask machine.old.params machine.old.prog) (steps.new - steps.old) (state_of machine.old tables.old.world []) }
     ensures run { ProgramIsTold M.hosts machine.old.prog → (ask : Oracle) →
-        DriveIs (setting M.hosts ask machine.old.prog) (steps.new - steps.old) (state_of machine.old tables.old []) (state_of machine.new tables.new)
+        DriveIs (setting M.hosts ask machine.old.params machine.old.prog) (steps.new - steps.old) (state_of machine.old tables.old.world []) (state_of machine.new tables.new.world)
         budget (Rose (R.fault_count rows.old) (R.fault_count rows.new)) (R.taken rows.old) (R.taken rows.new) result }
     ensures told { meant hosts.new ≡ M.hosts }
     ensures faults { R.fault_count rows.old ≤ R.fault_count rows.new }
@@ -129,11 +154,12 @@ fn next<M: Meanings, R: RowSink, L: Ledger>(
     ensures whole { budget.new.whole ≡ budget.old.whole }
     ensures counted { steps.new ≡ steps.old + (budget.new.ran - budget.old.ran) }
     ensures program { machine.new.prog ≡ machine.old.prog }
-    ensures undo { before machine.new.changes tables.new ≡ before machine.old.changes tables.old }
+    ensures params { machine.new.params ≡ machine.old.params }
+    ensures marks { tables.new.marks ≡ tables.old.marks }
     ensures needed { ProgramIsTold M.hosts machine.old.prog → (ask : Oracle) →
-        NoneInVain (setting M.hosts ask machine.old.prog) (budget.new.ran - budget.old.ran) (state_of machine.old tables.old []) }
+        NoneInVain (setting M.hosts ask machine.old.params machine.old.prog) (budget.new.ran - budget.old.ran) (state_of machine.old tables.old.world []) }
     ensures next { ProgramIsTold M.hosts machine.old.prog → (ask : Oracle) →
-        NextIs (setting M.hosts ask machine.old.prog) (budget.new.ran - budget.old.ran) (state_of machine.old tables.old []) (state_of machine.new tables.new)
+        NextIs (setting M.hosts ask machine.old.params machine.old.prog) (budget.new.ran - budget.old.ran) (state_of machine.old tables.old.world []) (state_of machine.new tables.new.world)
         budget.old.whole budget.new.ran (Rose (R.fault_count rows.old) (R.fault_count rows.new)) (R.taken rows.old) (R.taken rows.new) result }
     ensures told { meant hosts.new ≡ M.hosts }
     ensures faults { R.fault_count rows.old ≤ R.fault_count rows.new }
@@ -156,26 +182,5 @@ fn hand_over<R: RowSink>(rows: &mut R, row: &Row) -> Result<bool, Stop>
         Took::Yes => Ok(true),
         Took::Failed => Err(Stop::SinkFault),
         Took::Mem => Err(Stop::Mem),
-    }
-}
-
-/// What a run did that gave so many rows and changed this.
-fn sum_up(given: u64, changes: &[Change]) -> Completed
-    ensures given { result.given ≡ given }
-    ensures changed { result.changed ≡ put_count changes.now }
-    ensures last { result.last_rowid ≡ last_put None changes.now }
-{
-    let mut changed = 0;
-    let mut last_rowid = None;
-    for change in changes {
-        if let Change::RowPut { rowid, .. } = change {
-            changed += 1;
-            last_rowid = Some(*rowid);
-        }
-    }
-    Completed {
-        given,
-        changed,
-        last_rowid,
     }
 }

@@ -9,23 +9,18 @@ use Rattle.eng_value.specs.declared.operators.Sides.{Sides}
 use Rattle.eng_value.specs.declared.out.Out.{Out}
 use Rattle.gen_expr.specs.Parts.{Turns, Decides, decided_arm, decided_known, decided_match, first_in, with_arm_tested, with_member_begun}
 use Rattle.gen_expr.specs.Steps.{steps_of, arm_steps_of, match_steps_of}
-use Rattle.gen_expr.proofs.Expressions.{Emits, equal_among, member_leaves, known_leaves, choice_leaves, match_leaves}
+use Rattle.gen_expr.proofs.Expressions.{Emits, OffersAll, equal_among, member_leaves, known_leaves, choice_leaves, match_leaves}
 use Rattle.sql_meaning.specs.Expression.{value_of, arm_of, match_of, first_known, chosen_in, matched_in, in_all}
 use Rattle.sql_meaning.specs.declared.bound.BoundArm.{BoundArm, out-BoundArm}
 use Rattle.sql_meaning.specs.declared.bound.BoundExpr.{BoundExpr, the_lemmas}
 use Rattle.sql_meaning.specs.declared.bound.BoundMatch.{BoundMatch, out-BoundMatch}
 use Rattle.vm_code.specs.declared.op.Op.TheVariants as op
 use Rattle.vm_code.specs.Draft.{Draft, with_op, with_label, bound, taken, given_back}
-use Rattle.vm_code.specs.Frames.{Leaves, Fills}
+use Rattle.vm_code.specs.Frames.{Leaves, no_calls}
+use Rattle.vm_code.specs.declared.operand.Operand.{Operand}
 use Rattle.vm_code.proofs.Drafts.{open_new}
 
 -- ---- registers
-
-pub taken_room : (d t : Draft) (r : ℕ) → r ≡ d.next → t ≡ taken d → (r < t.next) × (t.next ≤ t.most)
-taken_room d t r r_is t_is =
-    let next : t.next ≡ d.next + 1 = ap (λ (x : Draft). x.next) t_is in
-    let most : (taken d).most ≡ t.most = ap (λ (x : Draft). x.most) (sym t_is) in
-    (omega arith, omega (arith, most))
 
 -- the registers of a value that is compared, and of the result
 pub record Beside (d : Draft) (held to : ℕ) : Type 0 where
@@ -60,18 +55,13 @@ decides_from {a} {b} {held} {to} {label} {n} {f} z is t = subst (λ (d : Draft).
 pub emits_from : {a b : Draft} {to : ℕ} (x : BoundExpr) (z : Draft) → a ≡ z → Emits a b to x → Emits z b to x
 emits_from {a} {b} {to} x z is l = subst (λ (d : Draft). Emits d b to x) is l
 
-pub leaves_at : {a b : Draft} {to n : ℕ} {f : Environment → Out} (z : Draft) → z ≡ b → Leaves a b to (λ env. f env) (λ w. n) → Leaves a z to (λ env. f env) (λ w. n)
-leaves_at {a} {b} {to} {n} {f} z is l = subst (λ (d : Draft). Leaves a d to (λ env. f env) (λ w. n)) (sym is) l
-
 -- ---- all of a list
 
 pub all_of : {A : Type 0} (xs : List A) (i : ℕ) → length xs ≤ i → take i xs ≡ xs
 all_of xs i le = take_all i xs le
 
-pub all_filled : (a b : Draft) (es : List BoundExpr) (i count : ℕ) → length es ≤ i → count ≡ i → Fills a b i (λ env. in_all (map value_of (take i es)) env) (λ w. sum_by steps_of (take i es)) → Fills a b count (λ env. in_all (map value_of es) env) (λ w. sum_by steps_of es)
-all_filled a b es i count le count_is l =
-    subst (λ (n : ℕ). Fills a b n (λ env. in_all (map value_of es) env) (λ w. sum_by steps_of es)) (sym count_is)
-    (subst (λ (xs : List BoundExpr). Fills a b i (λ env. in_all (map value_of xs) env) (λ w. sum_by steps_of xs)) (all_of es i le) l)
+pub all_offered : (a b : Draft) (os : List Operand) (es : List BoundExpr) (i : ℕ) → length es ≤ i → OffersAll a b os (take i es) → OffersAll a b os es
+all_offered a b os es i le l = subst (λ (xs : List BoundExpr). OffersAll a b os xs) (all_of es i le) l
 
 -- ---- labels
 
@@ -97,26 +87,26 @@ match_steps arm = search (rules, the_lemmas)
 
 -- ---- behind all of a list
 
-pub member_all : (a t b begun c z : Draft) (sides : Sides) (held to i : ℕ) (es : List BoundExpr) (x : BoundExpr) → held ≡ a.next → t ≡ taken a → Emits t b held x → begun ≡ with_member_begun b held to → length es ≤ i → Turns begun c held to (λ env y v. equal_among sides (take i es) env y v) (sum_by (λ o. steps_of o + 2) (take i es)) → z ≡ given_back c → to < a.next → a.next ≤ a.most → Leaves a z to (λ env. member_of (keys_of env.hosts) sides (value_of x env) (in_all (map value_of es) env)) (λ w. steps_of x + 2 + sum_by (λ o. steps_of o + 2) es)
+pub member_all : (a t b begun c z : Draft) (sides : Sides) (held to i : ℕ) (es : List BoundExpr) (x : BoundExpr) → held ≡ a.next → t ≡ taken a → Emits t b held x → begun ≡ with_member_begun b held to → length es ≤ i → Turns begun c held to (λ env y v. equal_among sides (take i es) env y v) (sum_by (λ o. steps_of o + 2) (take i es)) → z ≡ given_back c → to < a.next → a.next ≤ a.most → Leaves no_calls a z to (λ env. member_of (keys_of env.hosts) sides (value_of x env) (in_all (map value_of es) env)) (λ env. steps_of x + 2 + sum_by (λ o. steps_of o + 2) es)
 member_all a t b begun c z sides held to i es x held_is t_is l begun_is le turns z_is lt counted =
     let whole : Turns begun c held to (λ env y v. equal_among sides es env y v) (sum_by (λ o. steps_of o + 2) es) = subst (λ (xs : List BoundExpr). Turns begun c held to (λ env y v. equal_among sides xs env y v) (sum_by (λ o. steps_of o + 2) xs)) (all_of es i le) turns in
-    subst (λ (d : Draft). Leaves a d to (λ env. member_of (keys_of env.hosts) sides (value_of x env) (in_all (map value_of es) env)) (λ w. steps_of x + 2 + sum_by (λ o. steps_of o + 2) es)) (sym z_is)
+    subst (λ (d : Draft). Leaves no_calls a d to (λ env. member_of (keys_of env.hosts) sides (value_of x env) (in_all (map value_of es) env)) (λ env. steps_of x + 2 + sum_by (λ o. steps_of o + 2) es)) (sym z_is)
     (member_leaves a b c sides held to es x held_is (emits_from x (taken a) t_is l) (turns_from (with_member_begun b held to) begun_is whole) lt counted)
 
-pub known_all : (a l b o z : Draft) (to end i : ℕ) (es : List BoundExpr) → end ≡ length a.labels → l ≡ with_label a → length es ≤ i → Decides l b to to end (λ env y. first_in (λ x. decided_known (value_of x env)) (take i es)) (sum_by (λ x. steps_of x + 2) (take i es)) → o ≡ with_op b (op.Null to) → z ≡ bound o end → to < a.next → a.next ≤ a.most → Leaves a z to (λ env. first_known (in_all (map value_of es) env)) (λ w. sum_by (λ x. steps_of x + 2) es + 1)
+pub known_all : (a l b o z : Draft) (to end i : ℕ) (es : List BoundExpr) → end ≡ length a.labels → l ≡ with_label a → length es ≤ i → Decides l b to to end (λ env y. first_in (λ x. decided_known (value_of x env)) (take i es)) (sum_by (λ x. steps_of x + 2) (take i es)) → o ≡ with_op b (op.Null to) → z ≡ bound o end → to < a.next → a.next ≤ a.most → Leaves no_calls a z to (λ env. first_known (in_all (map value_of es) env)) (λ env. sum_by (λ x. steps_of x + 2) es + 1)
 known_all a l b o z to end i es end_is l_is le decides o_is z_is lt counted =
     let whole : Decides l b to to end (λ env y. first_in (λ x. decided_known (value_of x env)) es) (sum_by (λ x. steps_of x + 2) es) = subst (λ (xs : List BoundExpr). Decides l b to to end (λ env y. first_in (λ x. decided_known (value_of x env)) xs) (sum_by (λ x. steps_of x + 2) xs)) (all_of es i le) decides in
-    subst (λ (d : Draft). Leaves a d to (λ env. first_known (in_all (map value_of es) env)) (λ w. sum_by (λ x. steps_of x + 2) es + 1)) (sym (z_is ∙ ap (λ (d : Draft). bound d end) o_is))
+    subst (λ (d : Draft). Leaves no_calls a d to (λ env. first_known (in_all (map value_of es) env)) (λ env. sum_by (λ x. steps_of x + 2) es + 1)) (sym (z_is ∙ ap (λ (d : Draft). bound d end) o_is))
     (known_leaves a b to end es end_is (decides_from (with_label a) l_is whole) lt counted)
 
-pub choice_all : (a l b c z : Draft) (to end i : ℕ) (arms : List BoundArm) (otherwise : BoundExpr) → end ≡ length a.labels → l ≡ with_label a → length arms ≤ i → Decides l b to to end (λ env y. first_in (λ o. decided_arm env (arm_of o)) (take i arms)) (sum_by arm_steps_of (take i arms)) → Emits b c to otherwise → z ≡ bound c end → Leaves a z to (λ env. chosen_in env (map arm_of arms) (value_of otherwise env)) (λ w. sum_by arm_steps_of arms + steps_of otherwise)
+pub choice_all : (a l b c z : Draft) (to end i : ℕ) (arms : List BoundArm) (otherwise : BoundExpr) → end ≡ length a.labels → l ≡ with_label a → length arms ≤ i → Decides l b to to end (λ env y. first_in (λ o. decided_arm env (arm_of o)) (take i arms)) (sum_by arm_steps_of (take i arms)) → Emits b c to otherwise → z ≡ bound c end → Leaves no_calls a z to (λ env. chosen_in env (map arm_of arms) (value_of otherwise env)) (λ env. sum_by arm_steps_of arms + steps_of otherwise)
 choice_all a l b c z to end i arms otherwise end_is l_is le decides lo z_is =
     let whole : Decides l b to to end (λ env y. first_in (λ o. decided_arm env (arm_of o)) arms) (sum_by arm_steps_of arms) = subst (λ (xs : List BoundArm). Decides l b to to end (λ env y. first_in (λ o. decided_arm env (arm_of o)) xs) (sum_by arm_steps_of xs)) (all_of arms i le) decides in
-    subst (λ (d : Draft). Leaves a d to (λ env. chosen_in env (map arm_of arms) (value_of otherwise env)) (λ w. sum_by arm_steps_of arms + steps_of otherwise)) (sym z_is)
+    subst (λ (d : Draft). Leaves no_calls a d to (λ env. chosen_in env (map arm_of arms) (value_of otherwise env)) (λ env. sum_by arm_steps_of arms + steps_of otherwise)) (sym z_is)
     (choice_leaves a b c to end arms otherwise end_is (decides_from (with_label a) l_is whole) lo)
 
-pub match_all : (a t b l d c m z : Draft) (held to end i : ℕ) (arms : List BoundMatch) (x otherwise : BoundExpr) → held ≡ a.next → t ≡ taken a → Emits t b held x → end ≡ length b.labels → l ≡ with_label b → length arms ≤ i → Decides l d held to end (λ env y. first_in (λ o. decided_match env y (match_of o)) (take i arms)) (sum_by match_steps_of (take i arms)) → Emits d c to otherwise → m ≡ bound c end → z ≡ given_back m → to < a.next → Leaves a z to (λ env. matched_in env (value_of x env) (map match_of arms) (value_of otherwise env)) (λ w. steps_of x + sum_by match_steps_of arms + steps_of otherwise)
+pub match_all : (a t b l d c m z : Draft) (held to end i : ℕ) (arms : List BoundMatch) (x otherwise : BoundExpr) → held ≡ a.next → t ≡ taken a → Emits t b held x → end ≡ length b.labels → l ≡ with_label b → length arms ≤ i → Decides l d held to end (λ env y. first_in (λ o. decided_match env y (match_of o)) (take i arms)) (sum_by match_steps_of (take i arms)) → Emits d c to otherwise → m ≡ bound c end → z ≡ given_back m → to < a.next → Leaves no_calls a z to (λ env. matched_in env (value_of x env) (map match_of arms) (value_of otherwise env)) (λ env. steps_of x + sum_by match_steps_of arms + steps_of otherwise)
 match_all a t b l d c m z held to end i arms x otherwise held_is t_is lx end_is l_is le decides lo m_is z_is lt =
     let whole : Decides l d held to end (λ env y. first_in (λ o. decided_match env y (match_of o)) arms) (sum_by match_steps_of arms) = subst (λ (xs : List BoundMatch). Decides l d held to end (λ env y. first_in (λ o. decided_match env y (match_of o)) xs) (sum_by match_steps_of xs)) (all_of arms i le) decides in
-    subst (λ (y : Draft). Leaves a y to (λ env. matched_in env (value_of x env) (map match_of arms) (value_of otherwise env)) (λ w. steps_of x + sum_by match_steps_of arms + steps_of otherwise)) (sym (z_is ∙ ap given_back m_is))
+    subst (λ (y : Draft). Leaves no_calls a y to (λ env. matched_in env (value_of x env) (map match_of arms) (value_of otherwise env)) (λ env. steps_of x + sum_by match_steps_of arms + steps_of otherwise)) (sym (z_is ∙ ap given_back m_is))
     (match_leaves a b d c held to end arms x otherwise held_is (emits_from x (taken a) t_is lx) end_is (decides_from (with_label b) l_is whole) lo lt)

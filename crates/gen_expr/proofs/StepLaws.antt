@@ -7,10 +7,10 @@ use Rattle.eng_value.specs.declared.collation.Collation.{Collation}
 use Rattle.eng_value.specs.declared.operators.BinaryOperator.{BinaryOperator}
 use Rattle.eng_value.specs.declared.operators.Sides.{Sides}
 use Rattle.eng_value.specs.declared.operators.UnaryOperator.{UnaryOperator}
-use Rattle.sql_meaning.specs.declared.bound.BoundArm.{BoundArm, roll-BoundArm}
+use Rattle.sql_meaning.specs.declared.bound.BoundArm.{BoundArm}
 use Rattle.sql_meaning.specs.declared.bound.BoundExpr.{BoundExpr, the_lemmas}
 use Rattle.sql_meaning.specs.declared.bound.BoundExpr.TheVariants as e
-use Rattle.sql_meaning.specs.declared.bound.BoundMatch.{BoundMatch, roll-BoundMatch}
+use Rattle.sql_meaning.specs.declared.bound.BoundMatch.{BoundMatch}
 use Rattle.sql_meaning.specs.declared.bound.Literal.{Literal}
 use Rattle.gen_expr.specs.Steps.{steps_of, arm_steps_of, match_steps_of, and_two}
 
@@ -76,9 +76,3 @@ steps_of-Call-of f collation args = search (rules, the_lemmas)
 
 pub steps_of-Call : (f : Builtin) (collation : Collation) (args : List BoundExpr) → steps_of (e.Call f collation args) ≡ sum_by steps_of args + 1
 steps_of-Call f collation args = steps_of-Call-of f collation args ∙ ap (λ n. n + 1) (sum-map steps_of args)
-
-pub arm_steps_of-is : (condition shown : BoundExpr) → arm_steps_of (roll-BoundArm (record { condition = condition; value = shown })) ≡ steps_of condition + steps_of shown + 4
-arm_steps_of-is condition shown = search (rules, the_lemmas)
-
-pub match_steps_of-is : (sides : Sides) (operand shown : BoundExpr) → match_steps_of (roll-BoundMatch (record { sides = sides; operand = operand; value = shown })) ≡ steps_of operand + steps_of shown + 5
-match_steps_of-is sides operand shown = search (rules, the_lemmas)

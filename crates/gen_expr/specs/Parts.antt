@@ -1,17 +1,13 @@
--- What the parts of an expression's code do: those between the codes of operands, and those that decide a value.
-use Rattle.std.specs.Prelude.{◌≡◌, ℕ, ◌+◌, true, List, [], ◌∷◌, length, pos, Some, None}
+-- What the parts of an expression's code do: those behind the codes of operands, and those that decide a value.
+use Rattle.std.specs.Prelude.{◌≡◌, ℕ, true, List, [], ◌∷◌, length, pos, Some, None}
 use Rattle.std.specs.declared.option.Option.{Option}
 use Rattle.eng_value.specs.Collations.{keys_of}
 use Rattle.eng_value.specs.Comparisons.{comparison_of}
 use Rattle.eng_value.specs.Environments.{Environment}
 use Rattle.eng_value.specs.Truths.{truth_in, truth_of}
 use Rattle.eng_value.specs.declared.compare_op.CompareOp.TheVariants as compare
-use Rattle.eng_value.specs.declared.builtin.Builtin.{Builtin}
-use Rattle.eng_value.specs.declared.collation.Collation.{Collation}
-use Rattle.eng_value.specs.declared.operators.BinaryOperator.{BinaryOperator}
 use Rattle.eng_value.specs.declared.operators.BinaryOperator.TheVariants as binary
 use Rattle.eng_value.specs.declared.operators.Sides.{Sides}
-use Rattle.eng_value.specs.declared.operators.UnaryOperator.{UnaryOperator}
 use Rattle.eng_value.specs.declared.operators.UnaryOperator.TheVariants as unary
 use Rattle.eng_value.specs.declared.out.Out.{Out}
 use Rattle.eng_value.specs.declared.out.Out.TheVariants.{Good, Bad}
@@ -21,52 +17,35 @@ use Rattle.eng_value.specs.declared.value.Value.TheVariants as value
 use Rattle.gen_expr.specs.declared.parts.Operands.{Operands}
 use Rattle.sql_meaning.specs.Expression.{Arm, MatchArm}
 use Rattle.vm_code.specs.declared.op.Op.TheVariants as op
-use Rattle.vm_code.specs.Draft.{Draft, with_op, with_label, bound, given_back, released}
+use Rattle.vm_code.specs.declared.operand.Operand.{Operand}
+use Rattle.vm_code.specs.declared.operand.Operand.TheVariants as operand
+use Rattle.vm_code.specs.Draft.{Draft, with_op, with_label, bound, taken, released}
+use Rattle.vm_code.specs.Tracked.{Steady}
 use Rattle.vm_code.specs.Frames.{Holds, Grows, Ready, Left, here, environment_of}
 use Rattle.vm_code.specs.Machine.{Setting, State, read}
 
--- ---- instructions between operands
+-- ---- instructions behind operands
 
-abbrev pub with_column : Draft → ℕ → ℕ → ℕ → Draft
-with_column d item place to = with_op d (op.Column item place to)
+abbrev pub with_like_escaped : Draft → Operands → ℕ → ℕ → Draft
+with_like_escaped d o first to = released (with_op d (op.LikeEscaped o.first o.second o.third to)) first
 
-abbrev pub with_parameter : Draft → ℕ → ℕ → Draft
-with_parameter d number to = with_op d (op.Variable number to)
-
-abbrev pub with_unary : Draft → UnaryOperator → ℕ → Draft
-with_unary d o to = with_op d (op.Unary o to to)
-
-abbrev pub with_binary : Draft → BinaryOperator → ℕ → ℕ → Draft
-with_binary d o to other = given_back (with_op d (op.Binary o to other to))
-
-abbrev pub with_call : Draft → Builtin → Collation → ℕ → ℕ → ℕ → Draft
-with_call d f collation first count to = released (with_op d (op.Function f collation first count to)) first
-
-abbrev pub with_compared : Draft → Sides → ℕ → ℕ → Draft
-with_compared d sides held to = with_op d (op.Binary (binary.Compare compare.Eq sides) held to to)
-
-abbrev pub AreBehind : ℕ → Operands → Type 0
-AreBehind first operands = (operands.first ≡ first) × (operands.second ≡ first + 1) × (operands.third ≡ first + 2)
-
-abbrev pub with_like_escaped : Draft → Operands → ℕ → Draft
-with_like_escaped d r to = released (with_op d (op.LikeEscaped r.first r.second r.third to)) r.first
-
-abbrev pub with_between : Draft → Sides → Sides → Operands → ℕ → Draft
-with_between d above below r to =
-    released (with_op (with_op (with_op d (op.Binary (binary.Compare compare.Ge above) r.first r.second r.second)) (op.Binary (binary.Compare compare.Le below) r.first r.third r.third)) (op.Binary binary.And r.second r.third to)) r.first
+-- the lower bound in a register that is taken for it, the upper one in the last
+abbrev pub with_between : Draft → Sides → Sides → Operands → ℕ → ℕ → Draft
+with_between d above below o first to =
+    released (with_op (with_op (with_op (taken d) (op.Binary (binary.Compare compare.Ge above) o.first o.second d.next)) (op.Binary (binary.Compare compare.Le below) o.first o.third to)) (op.Binary binary.And (operand.Register d.next) (operand.Register to) to)) first
 
 abbrev pub with_member_begun : Draft → ℕ → ℕ → Draft
 with_member_begun d held to = with_op (with_op d (op.Integer (pos 0) to)) (op.Merge held to)
 
-abbrev pub with_or_equal : Draft → Sides → ℕ → ℕ → ℕ → Draft
-with_or_equal d sides held other to =
-    given_back (with_op (with_op d (op.Binary (binary.Compare compare.Eq sides) held other other)) (op.Binary binary.Or to other to))
+abbrev pub with_or_equal : Draft → Sides → ℕ → Operand → ℕ → ℕ → Draft
+with_or_equal d sides held other first to =
+    released (with_op (with_op (taken d) (op.Binary (binary.Compare compare.Eq sides) (operand.Register held) other d.next)) (op.Binary binary.Or (operand.Register to) (operand.Register d.next) to)) first
 
 abbrev pub with_known_left : Draft → ℕ → ℕ → Draft
 with_known_left d to end = bound (with_op (with_op (with_label d) (op.IsNull to (length d.labels))) (op.Goto end)) (length d.labels)
 
 abbrev pub with_arm_tested : Draft → ℕ → ℕ → Draft
-with_arm_tested d to end = with_op (with_op (with_op (with_label d) (op.Unary unary.Truth to to)) (op.IsBad to end)) (op.IfNot to (length d.labels) true)
+with_arm_tested d to end = with_op (with_op (with_op (with_label d) (op.Unary unary.Truth (operand.Register to) to)) (op.IsBad to end)) (op.IfNot to (length d.labels) true)
 
 abbrev pub with_arm_left : Draft → ℕ → ℕ → Draft
 with_arm_left d end next = bound (with_op d (op.Goto end)) next
@@ -77,6 +56,7 @@ with_arm_left d end next = bound (with_op d (op.Goto end)) next
 pub record Turns (a b : Draft) (held to : ℕ) (f : Environment → Out → Out → Out) (most : ℕ) : Type 0 where
   pub grows : Grows a b
   pub next : b.next ≡ a.next
+  pub steady : Steady [] [] a b
   pub turns : (m : Setting) (u : ℕ) (at : ℕ → ℕ) → Holds b m.prog u at → (s : State) → Ready b u s → s.pc ≡ length a.code
       → Left m most s (length b.code) a.next to (f (environment_of m (here s)) (read s.regs held) (read s.regs to))
 
@@ -91,6 +71,7 @@ Decided m most s place out mark to (Some v) = Left m most s out mark to v
 pub record Decides (a b : Draft) (held to label : ℕ) (f : Environment → Out → Option Out) (most : ℕ) : Type 0 where
   pub grows : Grows a b
   pub next : b.next ≡ a.next
+  pub steady : Steady [] (label ∷ []) a b
   pub decides : (m : Setting) (u : ℕ) (at : ℕ → ℕ) → Holds b m.prog u at → (s : State) → Ready b u s → s.pc ≡ length a.code
       → Decided m most s (length b.code) (at label) a.next to (f (environment_of m (here s)) (read s.regs held))
 

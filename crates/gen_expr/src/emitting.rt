@@ -1,93 +1,113 @@
 // The code of an expression.
-ghost use Rattle.std.specs.Prelude.{◌≡◌, ◌+◌, ◌<◌, ◌≤◌, [], ◌∷◌, OnOk, IfOk, length, map, sum_by};
+ghost use Rattle.std.specs.Prelude.{◌≡◌, ◌+◌, ◌<◌, ◌≤◌, [], ◌∷◌, OnOk, IfOk, map, sum_by};
 ghost use Rattle.eng_value.specs.Applied.{member_of};
 ghost use Rattle.eng_value.specs.Collations.{keys_of};
-ghost use Rattle.gen_expr.specs.Parts.{AreBehind};
 ghost use Rattle.gen_expr.specs.Steps.{arm_steps_of, match_steps_of, steps_of};
 ghost use Rattle.sql_meaning.specs.Expression.{arm_of, chosen_in, first_known, in_all, match_of, matched_in, value_of};
-ghost use Rattle.vm_code.specs.Frames.{Fills, Leaves};
+ghost use Rattle.vm_code.specs.Frames.{Leaves, Offers, no_calls};
 
-use crate::literals::emit_literal;
+use crate::literals::{constant, emit_literal};
 use crate::parts::{
-    Operands, begin_member, between, binary, call, compare_with, leave_arm, like_escaped, or_equal,
-    read_column, read_parameter, test_arm, unary, unless_null,
+    Operands, begin_member, between, binary, call, leave_arm, like_escaped, or_equal, read_column,
+    read_parameter, test_arm, unary, unless_null,
 };
-use eng_value::Sides;
+use eng_value::{BinaryOperator, CompareOp, Sides};
 use sql_meaning::{BoundArm, BoundExpr, BoundMatch};
-use std::alloc::AllocError;
-use vm_code::{Builder, Op};
+use sqlite_items::Items;
+use std::alloc::{AllocError, Global};
+use vm_code::{Builder, Op, Operand};
 
 /// Writes code that leaves what an expression comes to in the register `to` and keeps the other registers that are taken. An
 /// item of the FROM is read through the cursor of the same number. Only memory, registers among it, can fail.
 #[cycle(emitting)]
-pub fn emit(b: &mut Builder, e: &BoundExpr, to: u32) -> Result<(), AllocError>
+pub fn emit(alloc: Global, b: &mut Builder, e: &BoundExpr, to: u32) -> Result<(), AllocError>
     requires taken { to < b.old.next }
     requires counted { b.old.next ≤ b.old.most }
-    ensures leaves { OnOk result (Leaves b.old b.new to (λ env. value_of e.now env) (λ _. steps_of e.now)) }
+    ensures leaves { OnOk result (Leaves no_calls b.old b.new to (λ env. value_of e.now env) (λ _. steps_of e.now)) }
     ensures units { OnOk result (b.new.units ≡ b.old.units) }
     ensures cursors { OnOk result (b.new.cursors ≡ b.old.cursors) }
 {
+    let first = b.next_register();
     match e {
         BoundExpr::Literal(literal) => emit_literal(b, literal, to)?,
         BoundExpr::Column { item, column } => read_column(b, *item, *column, to)?,
         BoundExpr::Parameter(number) => read_parameter(b, *number, to)?,
-        BoundExpr::Unary(operator, operand) => {
-            emit(b, operand.get(), to)?;
-            unary(b, *operator, to)?;
+        BoundExpr::Unary(operator, inner) => {
+            let inner = operand(alloc, b, inner.get())?;
+            unary(b, *operator, inner, first, to)?;
         }
         BoundExpr::Binary(operator, left, right) => {
-            emit(b, left.get(), to)?;
-            let other = b.take()?;
-            emit(b, right.get(), other)?;
-            binary(b, *operator, to, other)?;
+            let left = operand(alloc, b, left.get())?;
+            let right = operand(alloc, b, right.get())?;
+            binary(b, *operator, left, right, first, to)?;
         }
         BoundExpr::LikeEscaped(text, pattern, escape) => {
-            let operands = emit_three(b, text.get(), pattern.get(), escape.get())?;
-            like_escaped(b, operands, to)?;
+            let operands = three_operands(alloc, b, text.get(), pattern.get(), escape.get())?;
+            like_escaped(b, operands, first, to)?;
         }
         BoundExpr::Between(above, below, tested, low, high) => {
-            let operands = emit_three(b, tested.get(), low.get(), high.get())?;
-            between(b, *above, *below, operands, to)?;
+            let operands = three_operands(alloc, b, tested.get(), low.get(), high.get())?;
+            between(b, *above, *below, operands, first, to)?;
         }
         BoundExpr::In(sides, tested, others) => {
-            emit_member(b, *sides, tested.get(), others.as_slice(), to)?;
+            emit_member(alloc, b, *sides, tested.get(), others.as_slice(), to)?;
         }
-        BoundExpr::Coalesce(operands) => emit_known(b, operands.as_slice(), to)?,
+        BoundExpr::Coalesce(operands) => emit_known(alloc, b, operands.as_slice(), to)?,
         BoundExpr::Choose(arms, otherwise) => {
-            emit_choice(b, arms.as_slice(), otherwise.get(), to)?;
+            emit_choice(alloc, b, arms.as_slice(), otherwise.get(), to)?;
         }
         BoundExpr::Match(tested, arms, otherwise) => {
-            emit_match(b, tested.get(), arms.as_slice(), otherwise.get(), to)?;
+            emit_match(alloc, b, tested.get(), arms.as_slice(), otherwise.get(), to)?;
         }
         BoundExpr::Call(function, collation, args) => {
-            let first = b.next_register();
-            let count = emit_all(b, args.as_slice())?;
-            call(b, *function, *collation, first, count, to)?;
+            let args = all_operands(alloc, b, args.as_slice())?;
+            call(b, *function, *collation, args, first, to)?;
         }
     }
     Ok(())
 }
 
-// Three values in registers that it takes, one after another.
+// An operand that reads what an expression comes to. What is always the same, a parameter and a column take no code; anything
+// else is left in a register that it takes.
 #[cycle(emitting)]
-fn emit_three(
+fn operand(alloc: Global, b: &mut Builder, e: &BoundExpr) -> Result<Operand, AllocError>
+    requires counted { b.old.next ≤ b.old.most }
+    ensures offers { IfOk result (λ o. Offers no_calls b.old b.new (o ∷ []) (λ env. value_of e.now env ∷ []) (λ _. steps_of e.now)) }
+    ensures units { OnOk result (b.new.units ≡ b.old.units) }
+    ensures cursors { OnOk result (b.new.cursors ≡ b.old.cursors) }
+{
+    match e {
+        BoundExpr::Literal(literal) => Ok(Operand::Constant(constant(alloc, literal)?)),
+        BoundExpr::Column { item, column } => Ok(Operand::Column {
+            cursor: *item,
+            column: *column,
+        }),
+        BoundExpr::Parameter(number) => Ok(Operand::Parameter(*number)),
+        _ => {
+            let register = b.take()?;
+            emit(alloc, b, e, register)?;
+            Ok(Operand::Register(register))
+        }
+    }
+}
+
+// The operands that read three expressions.
+#[cycle(emitting)]
+fn three_operands(
+    alloc: Global,
     b: &mut Builder,
     x: &BoundExpr,
     y: &BoundExpr,
     z: &BoundExpr,
 ) -> Result<Operands, AllocError>
     requires counted { b.old.next ≤ b.old.most }
-    ensures fills { OnOk result (Fills b.old b.new 3 (λ env. value_of x.now env ∷ value_of y.now env ∷ value_of z.now env ∷ []) (λ _. steps_of x.now + steps_of y.now + steps_of z.now)) }
-    ensures places { IfOk result (AreBehind b.old.next) }
+    ensures offers { IfOk result (λ o. Offers no_calls b.old b.new (o.first ∷ o.second ∷ o.third ∷ []) (λ env. value_of x.now env ∷ value_of y.now env ∷ value_of z.now env ∷ []) (λ _. steps_of x.now + steps_of y.now + steps_of z.now)) }
     ensures units { OnOk result (b.new.units ≡ b.old.units) }
     ensures cursors { OnOk result (b.new.cursors ≡ b.old.cursors) }
 {
-    let first = b.take()?;
-    emit(b, x, first)?;
-    let second = b.take()?;
-    emit(b, y, second)?;
-    let third = b.take()?;
-    emit(b, z, third)?;
+    let first = operand(alloc, b, x)?;
+    let second = operand(alloc, b, y)?;
+    let third = operand(alloc, b, z)?;
     Ok(Operands {
         first,
         second,
@@ -95,25 +115,29 @@ fn emit_three(
     })
 }
 
-// Values in registers that it takes, one after another, and how many they are.
+// The operands that read some expressions.
 #[cycle(emitting)]
-fn emit_all(b: &mut Builder, all: &[BoundExpr]) -> Result<u32, AllocError>
+fn all_operands(
+    alloc: Global,
+    b: &mut Builder,
+    all: &[BoundExpr],
+) -> Result<Items<Operand>, AllocError>
     requires counted { b.old.next ≤ b.old.most }
-    ensures fills { IfOk result (λ count. Fills b.old b.new count (λ env. in_all (map value_of all.now) env) (λ _. sum_by steps_of all.now)) }
+    ensures offers { IfOk result (λ os. Offers no_calls b.old b.new os (λ env. in_all (map value_of all.now) env) (λ _. sum_by steps_of all.now)) }
     ensures units { OnOk result (b.new.units ≡ b.old.units) }
     ensures cursors { OnOk result (b.new.cursors ≡ b.old.cursors) }
 {
-    let first = b.next_register();
+    let mut operands = Items::new(alloc);
     for e in all {
-        let register = b.take()?;
-        emit(b, e, register)?;
+        operands.push(operand(alloc, b, e)?)?;
     }
-    Ok(b.next_register() - first)
+    Ok(operands)
 }
 
-// Whether one of the others is equal to a value. The value stands in a register behind the others while they are compared.
+// Whether one of the others is equal to a value. The value is compared with each of them, and stands in a register meanwhile.
 #[cycle(emitting)]
 fn emit_member(
+    alloc: Global,
     b: &mut Builder,
     sides: Sides,
     tested: &BoundExpr,
@@ -122,17 +146,17 @@ fn emit_member(
 ) -> Result<(), AllocError>
     requires taken { to < b.old.next }
     requires counted { b.old.next ≤ b.old.most }
-    ensures leaves { OnOk result (Leaves b.old b.new to (λ env. member_of (keys_of env.hosts) sides (value_of tested.now env) (in_all (map value_of others.now) env)) (λ _. steps_of tested.now + 2 + sum_by (λ e. steps_of e + 2) others.now)) }
+    ensures leaves { OnOk result (Leaves no_calls b.old b.new to (λ env. member_of (keys_of env.hosts) sides (value_of tested.now env) (in_all (map value_of others.now) env)) (λ _. steps_of tested.now + 2 + sum_by (λ e. steps_of e + 2) others.now)) }
     ensures units { OnOk result (b.new.units ≡ b.old.units) }
     ensures cursors { OnOk result (b.new.cursors ≡ b.old.cursors) }
 {
     let value = b.take()?;
-    emit(b, tested, value)?;
+    emit(alloc, b, tested, value)?;
     begin_member(b, value, to)?;
     for e in others {
-        let other = b.take()?;
-        emit(b, e, other)?;
-        or_equal(b, sides, value, other, to)?;
+        let first = b.next_register();
+        let other = operand(alloc, b, e)?;
+        or_equal(b, sides, value, other, first, to)?;
     }
     b.give_back();
     Ok(())
@@ -140,26 +164,32 @@ fn emit_member(
 
 // The first value that is not NULL; behind it nothing more is evaluated.
 #[cycle(emitting)]
-fn emit_known(b: &mut Builder, operands: &[BoundExpr], to: u32) -> Result<(), AllocError>
+fn emit_known(
+    alloc: Global,
+    b: &mut Builder,
+    operands: &[BoundExpr],
+    to: u32,
+) -> Result<(), AllocError>
     requires taken { to < b.old.next }
     requires counted { b.old.next ≤ b.old.most }
-    ensures leaves { OnOk result (Leaves b.old b.new to (λ env. first_known (in_all (map value_of operands.now) env)) (λ _. sum_by (λ e. steps_of e + 2) operands.now + 1)) }
+    ensures leaves { OnOk result (Leaves no_calls b.old b.new to (λ env. first_known (in_all (map value_of operands.now) env)) (λ _. sum_by (λ e. steps_of e + 2) operands.now + 1)) }
     ensures units { OnOk result (b.new.units ≡ b.old.units) }
     ensures cursors { OnOk result (b.new.cursors ≡ b.old.cursors) }
 {
     let end = b.label()?;
     for e in operands {
-        emit(b, e, to)?;
+        emit(alloc, b, e, to)?;
         unless_null(b, to, end)?;
     }
     b.op(Op::Null { to })?;
-    b.bind(end);
+    b.bind(end)?;
     Ok(())
 }
 
 // The value of the first arm whose condition is true, else the last one; behind it nothing more is evaluated.
 #[cycle(emitting)]
 fn emit_choice(
+    alloc: Global,
     b: &mut Builder,
     arms: &[BoundArm],
     otherwise: &BoundExpr,
@@ -167,26 +197,27 @@ fn emit_choice(
 ) -> Result<(), AllocError>
     requires taken { to < b.old.next }
     requires counted { b.old.next ≤ b.old.most }
-    ensures leaves { OnOk result (Leaves b.old b.new to (λ env. chosen_in env (map arm_of arms.now) (value_of otherwise.now env)) (λ _. sum_by arm_steps_of arms.now + steps_of otherwise.now)) }
+    ensures leaves { OnOk result (Leaves no_calls b.old b.new to (λ env. chosen_in env (map arm_of arms.now) (value_of otherwise.now env)) (λ _. sum_by arm_steps_of arms.now + steps_of otherwise.now)) }
     ensures units { OnOk result (b.new.units ≡ b.old.units) }
     ensures cursors { OnOk result (b.new.cursors ≡ b.old.cursors) }
 {
     let end = b.label()?;
     for arm in arms {
-        emit(b, &arm.condition, to)?;
+        emit(alloc, b, &arm.condition, to)?;
         let next = test_arm(b, to, end)?;
-        emit(b, &arm.value, to)?;
+        emit(alloc, b, &arm.value, to)?;
         leave_arm(b, end, next)?;
     }
-    emit(b, otherwise, to)?;
-    b.bind(end);
+    emit(alloc, b, otherwise, to)?;
+    b.bind(end)?;
     Ok(())
 }
 
-// The value of the first arm whose operand is equal to a value, else the last one. The value stands in a register behind the
-// others while the operands are compared; behind the arm nothing more is evaluated.
+// The value of the first arm whose operand is equal to a value, else the last one. The value is compared with each operand, and
+// stands in a register meanwhile; behind the arm nothing more is evaluated.
 #[cycle(emitting)]
 fn emit_match(
+    alloc: Global,
     b: &mut Builder,
     tested: &BoundExpr,
     arms: &[BoundMatch],
@@ -195,22 +226,24 @@ fn emit_match(
 ) -> Result<(), AllocError>
     requires taken { to < b.old.next }
     requires counted { b.old.next ≤ b.old.most }
-    ensures leaves { OnOk result (Leaves b.old b.new to (λ env. matched_in env (value_of tested.now env) (map match_of arms.now) (value_of otherwise.now env)) (λ _. steps_of tested.now + sum_by match_steps_of arms.now + steps_of otherwise.now)) }
+    ensures leaves { OnOk result (Leaves no_calls b.old b.new to (λ env. matched_in env (value_of tested.now env) (map match_of arms.now) (value_of otherwise.now env)) (λ _. steps_of tested.now + sum_by match_steps_of arms.now + steps_of otherwise.now)) }
     ensures units { OnOk result (b.new.units ≡ b.old.units) }
     ensures cursors { OnOk result (b.new.cursors ≡ b.old.cursors) }
 {
     let value = b.take()?;
-    emit(b, tested, value)?;
+    emit(alloc, b, tested, value)?;
     let end = b.label()?;
     for arm in arms {
-        emit(b, &arm.operand, to)?;
-        compare_with(b, arm.sides, value, to)?;
+        let first = b.next_register();
+        let other = operand(alloc, b, &arm.operand)?;
+        let operator = BinaryOperator::Compare(CompareOp::Eq, arm.sides);
+        binary(b, operator, Operand::Register(value), other, first, to)?;
         let next = test_arm(b, to, end)?;
-        emit(b, &arm.value, to)?;
+        emit(alloc, b, &arm.value, to)?;
         leave_arm(b, end, next)?;
     }
-    emit(b, otherwise, to)?;
-    b.bind(end);
+    emit(alloc, b, otherwise, to)?;
+    b.bind(end)?;
     b.give_back();
     Ok(())
 }

@@ -1,19 +1,29 @@
-// The code of a literal.
-ghost use Rattle.std.specs.Prelude.{◌≡◌, ◌<◌, ◌≤◌, OnOk};
+// What literals stand for, and their code.
+ghost use Rattle.std.specs.Prelude.{◌≡◌, ◌<◌, ◌≤◌, IfOk, OnOk};
 ghost use Rattle.eng_value.specs.declared.out.Out.TheVariants.{Good};
 ghost use Rattle.sql_meaning.specs.Expression.{literal_out};
-ghost use Rattle.vm_code.specs.Frames.{Leaves};
+ghost use Rattle.vm_code.specs.Frames.{Leaves, no_calls};
 
-use eng_value::Value;
+use eng_value::{Out, Value};
 use sql_meaning::Literal;
-use std::alloc::AllocError;
+use std::alloc::{AllocError, Global};
 use vm_code::{Builder, Op};
+
+/// What a literal stands for.
+pub(crate) fn constant(alloc: Global, literal: &Literal) -> Result<Out, AllocError>
+    ensures { IfOk result (λ out. out ≡ literal_out literal.now) }
+{
+    match literal {
+        Literal::Value(value) => Ok(Out::Good(value.clone()?)),
+        Literal::Bad(cause) => Ok(Out::bad(alloc, cause.clone()?)),
+    }
+}
 
 /// Writes code that leaves what a literal stands for in the register `to` and keeps the other registers that are taken.
 pub fn emit_literal(b: &mut Builder, literal: &Literal, to: u32) -> Result<(), AllocError>
     requires taken { to < b.old.next }
     requires counted { b.old.next ≤ b.old.most }
-    ensures leaves { OnOk result (Leaves b.old b.new to (λ _. literal_out literal.now) (λ _. 1)) }
+    ensures leaves { OnOk result (Leaves no_calls b.old b.new to (λ _. literal_out literal.now) (λ _. 1)) }
     ensures units { OnOk result (b.new.units ≡ b.old.units) }
     ensures cursors { OnOk result (b.new.cursors ≡ b.old.cursors) }
 {
@@ -30,7 +40,7 @@ pub fn emit_literal(b: &mut Builder, literal: &Literal, to: u32) -> Result<(), A
 fn emit_value(b: &mut Builder, value: &Value, to: u32) -> Result<(), AllocError>
     requires taken { to < b.old.next }
     requires counted { b.old.next ≤ b.old.most }
-    ensures leaves { OnOk result (Leaves b.old b.new to (λ _. Good value.now) (λ _. 1)) }
+    ensures leaves { OnOk result (Leaves no_calls b.old b.new to (λ _. Good value.now) (λ _. 1)) }
     ensures units { OnOk result (b.new.units ≡ b.old.units) }
     ensures cursors { OnOk result (b.new.cursors ≡ b.old.cursors) }
 {

@@ -1,17 +1,20 @@
-// What stands between the codes of operands: instructions on the registers that hold their values.
-ghost use Rattle.std.specs.Prelude.{◌≡◌, ◌≤◌, ◌<◌, OnOk, IfOk, None, Some, length, slice_get};
-ghost use Rattle.gen_expr.specs.Parts.{with_arm_left, with_arm_tested, with_between, with_binary, with_call, with_column, with_compared, with_known_left, with_like_escaped, with_member_begun, with_or_equal, with_parameter, with_unary};
+// What stands behind the codes of operands: instructions that read their values.
+ghost use Rattle.std.specs.Prelude.{◌≡◌, ◌≤◌, OnOk, IfOk, None, Some, length, slice_get};
+ghost use Rattle.gen_expr.specs.Parts.{with_arm_left, with_arm_tested, with_between, with_known_left, with_like_escaped, with_member_begun, with_or_equal};
+ghost use Rattle.vm_code.specs.Draft.{released, with_op};
+ghost use Rattle.vm_code.specs.declared.op.Op.TheVariants as op;
 
 use eng_value::{BinaryOperator, Builtin, Collation, CompareOp, Sides, UnaryOperator};
+use sqlite_items::Items;
 use std::alloc::AllocError;
-use vm_code::{Builder, Op};
+use vm_code::{Builder, Op, Operand};
 
-/// The registers of three operands, one after another.
-#[derive(Clone, Copy)]
+/// Three operands in their order.
+#[derive(Drop)]
 pub(crate) struct Operands {
-    pub(crate) first: u32,
-    pub(crate) second: u32,
-    pub(crate) third: u32,
+    pub(crate) first: Operand,
+    pub(crate) second: Operand,
+    pub(crate) third: Operand,
 }
 
 /// A column of the item of the cursor with this number.
@@ -21,135 +24,140 @@ pub(crate) fn read_column(
     column: u32,
     to: u32,
 ) -> Result<(), AllocError>
-    ensures { OnOk result (b.new ≡ with_column b.old cursor column to) }
+    ensures { OnOk result (b.new ≡ with_op b.old (op.Column cursor column to)) }
 {
     b.op(Op::Column { cursor, column, to })
 }
 
 /// The parameter of this number.
 pub(crate) fn read_parameter(b: &mut Builder, number: u32, to: u32) -> Result<(), AllocError>
-    ensures { OnOk result (b.new ≡ with_parameter b.old number to) }
+    ensures { OnOk result (b.new ≡ with_op b.old (op.Variable number to)) }
 {
     b.op(Op::Variable { number, to })
 }
 
-/// An operator on the value in the register `to`.
-pub(crate) fn unary(b: &mut Builder, operator: UnaryOperator, to: u32) -> Result<(), AllocError>
-    ensures { OnOk result (b.new ≡ with_unary b.old operator to) }
-{
-    b.op(Op::Unary {
-        operator,
-        from: to,
-        to,
-    })
-}
-
-/// An operator on the values in the registers `to` and `other`, which is free behind it.
-pub(crate) fn binary(
+/// An operator on an operand, whose registers, from `first` on, are free behind it.
+pub(crate) fn unary(
     b: &mut Builder,
-    operator: BinaryOperator,
-    to: u32,
-    other: u32,
-) -> Result<(), AllocError>
-    requires { 0 < b.old.next }
-    ensures { OnOk result (b.new ≡ with_binary b.old operator to other) }
-{
-    b.op(Op::Binary {
-        operator,
-        left: to,
-        right: other,
-        to,
-    })?;
-    b.give_back();
-    Ok(())
-}
-
-/// A function of arguments whose registers, from `first` on, are free behind it.
-pub(crate) fn call(
-    b: &mut Builder,
-    function: Builtin,
-    collation: Collation,
+    operator: UnaryOperator,
+    operand: Operand,
     first: u32,
-    count: u32,
     to: u32,
 ) -> Result<(), AllocError>
     requires { first ≤ b.old.next }
-    ensures { OnOk result (b.new ≡ with_call b.old function collation first count to) }
+    ensures { OnOk result (b.new ≡ released (with_op b.old (op.Unary operator operand to)) first) }
 {
-    b.op(Op::Function {
-        function,
-        collation,
-        first,
-        count,
+    b.op(Op::Unary {
+        operator,
+        operand,
         to,
     })?;
     b.release(first);
     Ok(())
 }
 
-/// Whether the value in the register `to` is equal to the one in the register `value`.
-pub(crate) fn compare_with(
+/// An operator on two operands, whose registers, from `first` on, are free behind it.
+pub(crate) fn binary(
     b: &mut Builder,
-    sides: Sides,
-    value: u32,
+    operator: BinaryOperator,
+    left: Operand,
+    right: Operand,
+    first: u32,
     to: u32,
 ) -> Result<(), AllocError>
-    ensures { OnOk result (b.new ≡ with_compared b.old sides value to) }
+    requires { first ≤ b.old.next }
+    ensures { OnOk result (b.new ≡ released (with_op b.old (op.Binary operator left right to)) first) }
 {
     b.op(Op::Binary {
-        operator: BinaryOperator::Compare(CompareOp::Eq, sides),
-        left: value,
-        right: to,
-        to,
-    })
-}
-
-/// LIKE with an ESCAPE of three operands, whose registers are free behind it.
-pub(crate) fn like_escaped(b: &mut Builder, operands: Operands, to: u32) -> Result<(), AllocError>
-    requires { operands.first ≤ b.old.next }
-    ensures { OnOk result (b.new ≡ with_like_escaped b.old operands to) }
-{
-    b.op(Op::LikeEscaped {
-        text: operands.first,
-        pattern: operands.second,
-        escape: operands.third,
+        operator,
+        left,
+        right,
         to,
     })?;
-    b.release(operands.first);
+    b.release(first);
     Ok(())
 }
 
-/// BETWEEN of three operands, whose registers are free behind it.
+/// A function of arguments, whose registers, from `first` on, are free behind it.
+pub(crate) fn call(
+    b: &mut Builder,
+    function: Builtin,
+    collation: Collation,
+    args: Items<Operand>,
+    first: u32,
+    to: u32,
+) -> Result<(), AllocError>
+    requires { first ≤ b.old.next }
+    ensures { OnOk result (b.new ≡ released (with_op b.old (op.Function function collation args to)) first) }
+{
+    b.op(Op::Function {
+        function,
+        collation,
+        args,
+        to,
+    })?;
+    b.release(first);
+    Ok(())
+}
+
+/// LIKE with an ESCAPE of three operands, whose registers, from `first` on, are free behind it.
+pub(crate) fn like_escaped(
+    b: &mut Builder,
+    operands: Operands,
+    first: u32,
+    to: u32,
+) -> Result<(), AllocError>
+    requires { first ≤ b.old.next }
+    ensures { OnOk result (b.new ≡ with_like_escaped b.old operands first to) }
+{
+    let Operands {
+        first: text,
+        second: pattern,
+        third: escape,
+    } = operands;
+    b.op(Op::LikeEscaped {
+        text,
+        pattern,
+        escape,
+        to,
+    })?;
+    b.release(first);
+    Ok(())
+}
+
+/// BETWEEN of three operands, whose registers, from `first` on, are free behind it. The lower bound is compared in a register
+/// beside them, since they are still read then, and the upper one in the register `to`.
 pub(crate) fn between(
     b: &mut Builder,
     above: Sides,
     below: Sides,
     operands: Operands,
+    first: u32,
     to: u32,
 ) -> Result<(), AllocError>
-    requires { operands.first ≤ b.old.next }
-    ensures { OnOk result (b.new ≡ with_between b.old above below operands to) }
+    requires { first ≤ b.old.next }
+    ensures { OnOk result (b.new ≡ with_between b.old above below operands first to) }
 {
+    let Operands {
+        first: tested,
+        second: low,
+        third: high,
+    } = operands;
+    let found = b.take()?;
     b.op(Op::Binary {
         operator: BinaryOperator::Compare(CompareOp::Ge, above),
-        left: operands.first,
-        right: operands.second,
-        to: operands.second,
+        left: tested.clone()?,
+        right: low,
+        to: found,
     })?;
     b.op(Op::Binary {
         operator: BinaryOperator::Compare(CompareOp::Le, below),
-        left: operands.first,
-        right: operands.third,
-        to: operands.third,
-    })?;
-    b.op(Op::Binary {
-        operator: BinaryOperator::And,
-        left: operands.second,
-        right: operands.third,
+        left: tested,
+        right: high,
         to,
     })?;
-    b.release(operands.first);
-    Ok(())
+    let (at_least, at_most) = (Operand::Register(found), Operand::Register(to));
+    binary(b, BinaryOperator::And, at_least, at_most, first, to)
 }
 
 /// That none is equal to the value in the register `value` so far: false, and bad where the value is.
@@ -160,31 +168,28 @@ pub(crate) fn begin_member(b: &mut Builder, value: u32, to: u32) -> Result<(), A
     b.op(Op::Merge { from: value, to })
 }
 
-/// That another value is equal, or one of those before was. Its register is free behind it.
+/// That an operand is equal to the value in the register `value`, or one of those before was. The operand's registers, from
+/// `first` on, are free behind it.
 pub(crate) fn or_equal(
     b: &mut Builder,
     sides: Sides,
     value: u32,
-    other: u32,
+    other: Operand,
+    first: u32,
     to: u32,
 ) -> Result<(), AllocError>
-    requires { 0 < b.old.next }
-    ensures { OnOk result (b.new ≡ with_or_equal b.old sides value other to) }
+    requires { first ≤ b.old.next }
+    ensures { OnOk result (b.new ≡ with_or_equal b.old sides value other first to) }
 {
+    let found = b.take()?;
     b.op(Op::Binary {
         operator: BinaryOperator::Compare(CompareOp::Eq, sides),
-        left: value,
+        left: Operand::Register(value),
         right: other,
-        to: other,
+        to: found,
     })?;
-    b.op(Op::Binary {
-        operator: BinaryOperator::Or,
-        left: to,
-        right: other,
-        to,
-    })?;
-    b.give_back();
-    Ok(())
+    let (before, found) = (Operand::Register(to), Operand::Register(found));
+    binary(b, BinaryOperator::Or, before, found, first, to)
 }
 
 /// Goes to a label unless the register `to` holds NULL.
@@ -197,8 +202,7 @@ pub(crate) fn unless_null(b: &mut Builder, to: u32, end: usize) -> Result<(), Al
         target: next,
     })?;
     b.op(Op::Goto { target: end })?;
-    b.bind(next);
-    Ok(())
+    b.bind(next)
 }
 
 /// Tests the condition of an arm: goes on where it is true, to the label `end` with the causes where it is bad, and else to a
@@ -209,7 +213,7 @@ pub(crate) fn test_arm(b: &mut Builder, to: u32, end: usize) -> Result<usize, Al
     let next = b.label()?;
     b.op(Op::Unary {
         operator: UnaryOperator::Truth,
-        from: to,
+        operand: Operand::Register(to),
         to,
     })?;
     b.op(Op::IsBad {
@@ -230,6 +234,5 @@ pub(crate) fn leave_arm(b: &mut Builder, end: usize, next: usize) -> Result<(), 
     ensures { OnOk result (b.new ≡ with_arm_left b.old end next) }
 {
     b.op(Op::Goto { target: end })?;
-    b.bind(next);
-    Ok(())
+    b.bind(next)
 }

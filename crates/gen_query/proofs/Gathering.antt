@@ -1,5 +1,5 @@
 -- Results in registers one after another, and their causes in one register.
-use Rattle.std.proofs.Common.{◌≡◌, ◌≢◌, ℕ, zero, suc, ◌+◌, ◌-◌, ◌≤◌, ◌<◌, List, [], ◌∷◌, ◌++◌, length, map, sum_by, fold, refl, sym, ap, ◌∙◌, subst, arith}
+use Rattle.std.proofs.Common.{◌≡◌, ◌≢◌, ℕ, suc, ◌+◌, ◌-◌, ◌≤◌, ◌<◌, List, [], ◌∷◌, ◌++◌, length, map, sum_by, fold, length-append, refl, sym, ap, ◌∙◌, subst, arith}
 use Rattle.std.proofs.lemmas.List.{map-append}
 use Rattle.std.proofs.lemmas.List.Sums.{fold-append, sum_by_push}
 use Rattle.eng_value.specs.Applied.{merged}
@@ -12,11 +12,12 @@ use Rattle.sql_meaning.specs.declared.bound.BoundExpr.{BoundExpr}
 use Rattle.vm_code.specs.declared.op.Op.TheVariants as op
 use Rattle.vm_code.specs.Draft.{Draft, with_op, taken}
 use Rattle.vm_code.specs.Machine.{Setting, State, outs_from, read, Reaches}
-use Rattle.vm_code.specs.Frames.{Here, here, with_regs, Fills, Leaves}
+use Rattle.vm_code.specs.Frames.{Here, here, with_regs, Fills, Leaves, no_calls}
 use Rattle.vm_code.specs.Claims.{Claim, Labels, Last, on, Triple}
-use Rattle.vm_code.proofs.Runs.{reaches_none, reaches_op, reaches_then}
+use Rattle.vm_code.proofs.Runs.{leads_then, reaches_none, reaches_op}
 use Rattle.vm_code.proofs.Drafts.{at_op, extends, g_op, grows_none, grows_then, long_op}
-use Rattle.vm_code.proofs.Fills.{fills_more, fills_none}
+use Rattle.vm_code.proofs.Tracks.{st_none, st_op, st_then}
+use Rattle.vm_code.proofs.Fills.{fills_more, fills_same}
 use Rattle.vm_code.proofs.Registers.{outs_last}
 use Rattle.vm_code.proofs.Triples.{ready_less}
 use Rattle.std.proofs.Math.ListN.{length-set}
@@ -28,15 +29,11 @@ use Rattle.std.specs.Prelude.{slice_set}
 abbrev pub values_in : List BoundExpr → Environment → List Out
 values_in es env = map (λ e. value_of e env) es
 
--- the same of functions that agree
-fills_by : {a b : Draft} {count n i k : ℕ} (f g : Environment → List Out) → ((env : Environment) → f env ≡ g env) → count ≡ n → i ≡ k → Fills a b count f (λ w. i) → Fills a b n g (λ w. k)
-fills_by {a} {b} {count} {n} {i} {k} f g same many cost x =
-    subst (λ c. Fills a b c g (λ w. k)) many (Rattle.vm_code.proofs.Fills.fills_same g same cost x)
-
 -- a result more
-pub fills_result : {a b z : Draft} (es : List BoundExpr) (e : BoundExpr) (to : ℕ) → to ≡ b.next → Fills a b (length es) (λ env. values_in es env) (λ w. sum_by steps_of es) → Leaves (taken b) z to (λ env. value_of e env) (λ w. steps_of e) → Fills a z (length (es ++ e ∷ [])) (λ env. values_in (es ++ e ∷ []) env) (λ w. sum_by steps_of (es ++ e ∷ []))
-fills_result es e to to_is x l =
-    fills_by (λ env. values_in es env ++ value_of e env ∷ []) (λ env. values_in (es ++ e ∷ []) env) (λ env. sym (map-append (λ e. value_of e env) es (e ∷ []))) (sym (Rattle.std.proofs.Common.length-append es (e ∷ []))) (sym (sum_by_push steps_of es e)) (fills_more to x to_is l)
+pub fills_result : {a b z : Draft} (es : List BoundExpr) (e : BoundExpr) (to : ℕ) → to ≡ b.next → Fills no_calls a b (length es) (λ env. values_in es env) (λ env. sum_by steps_of es) → Leaves no_calls (taken b) z to (λ env. value_of e env) (λ env. steps_of e) → Fills no_calls a z (length (es ++ e ∷ [])) (λ env. values_in (es ++ e ∷ []) env) (λ env. sum_by steps_of (es ++ e ∷ []))
+fills_result {a} {b} {z} es e to to_is x l =
+    let all = es ++ e ∷ [] in
+    subst (λ n. Fills no_calls a z n (λ env. values_in all env) (λ env. sum_by steps_of all)) (sym (length-append es (e ∷ []))) (fills_same (λ env. values_in all env) (λ env. sum_by steps_of all) (λ env. sym (map-append (λ e. value_of e env) es (e ∷ []))) (λ env. omega (arith, sum_by_push steps_of es e)) (fills_more to x to_is l))
 
 -- ---- causes
 
@@ -44,6 +41,7 @@ pub gathers_none : (a : Draft) (first causes : ℕ) → Gathers a a first 0 caus
 gathers_none a first causes = record {
   grows = grows_none a;
   next = refl;
+  steady = st_none [] [] a;
   gathers = λ m u at h s room start. record {
     regs = s.regs;
     way = subst (λ p. Reaches m 0 s (record s { pc = p })) start (reaches_none m s);
@@ -58,6 +56,7 @@ pub gathers_more : (a b : Draft) (first count causes : ℕ) → causes < first �
 gathers_more a b first count causes apart inside counted x = record {
   grows = grows_then x.grows (g_op b (op.Merge (first + count) causes));
   next = x.next;
+  steady = st_then x.grows x.steady (st_op [] [] b (op.Merge (first + count) causes) (refl, refl));
   gathers = λ m u at h s room start.
       let hb = (g_op b (op.Merge (first + count) causes)).holds m.prog u at h in
       let l = x.gathers m u at hb s (ready_less room (omega arith) (omega arith)) start in
@@ -70,7 +69,7 @@ gathers_more a b first count causes apart inside counted x = record {
       let one : suc count ≡ count + 1 = omega arith in
       record {
         regs = slice_set l.regs causes v;
-        way = subst (λ k. Reaches m (count + 1) s (record s { pc = k; regs = slice_set l.regs causes v })) (sym (long_op b (op.Merge (first + count) causes))) (reaches_then m l.way way);
+        way = subst (λ k. Reaches m (count + 1) s (record s { pc = k; regs = slice_set l.regs causes v })) (sym (long_op b (op.Merge (first + count) causes))) (leads_then m l.way way);
         long = length-set l.regs causes v ∙ l.long;
         has = get_or-set_same l.regs causes v _ fits ∙ is ∙ ap (λ n. fold with_causes (read s.regs causes) (outs_from s.regs first n)) one;
         keeps = λ k lt ne. get_or-set_other l.regs causes k v _ ne ∙ l.keeps k lt ne;
@@ -85,14 +84,15 @@ gathers_next a b first from causes apart le inside counted x =
     subst (λ n. Gathers a (with_op b (op.Merge from causes)) first n causes) more (subst (λ r. Gathers a (with_op b (op.Merge r causes)) first (from - first + 1) causes) is (gathers_more a b first (from - first) causes apart (omega arith) counted x))
 
 -- code that gathers causes, inside another stretch
-pub t_gathers : (m : Setting) {a b : Draft} {first count causes : ℕ} (g : Labels) (e : Last) (p q : Claim) → Gathers a b first count causes → ((h0 h : Here) (regs : List Out) → p h0 h → length regs ≡ length h.regs → read regs causes ≡ fold with_causes (read h.regs causes) (outs_from h.regs first count) → ((k : ℕ) → k < a.next → k ≢ causes → read regs k ≡ read h.regs k) → q h0 (with_regs h regs)) → Triple m a b (λ w. count) g e p q
+pub t_gathers : (m : Setting) {a b : Draft} {first count causes : ℕ} (g : Labels) (e : Last) (p q : Claim) → Gathers a b first count causes → ((h0 h : Here) (regs : List Out) → p h0 h → length regs ≡ length h.regs → read regs causes ≡ fold with_causes (read h.regs causes) (outs_from h.regs first count) → ((k : ℕ) → k < a.next → k ≢ causes → read regs k ≡ read h.regs k) → q h0 (with_regs h regs)) → Triple m a b (λ h0. count) g e p q
 t_gathers m g e p q x goes = record {
   extends = extends x.grows;
   runs = λ u at h h0 s room start pre.
       let l = x.gathers m u at h s room start in
       on (record {
         regs = l.regs;
-        cursors = s.cursors;
+        scene = s.scene;
+        store = s.store;
         shared = s.shared;
         way = l.way;
         long = l.long;

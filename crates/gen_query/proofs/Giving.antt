@@ -3,58 +3,41 @@ use Rattle.std.proofs.Common.{◌≡◌, ℕ, ◌+◌, ◌-◌, ◌≤◌, ◌<�
 use Rattle.std.specs.Prelude.{slice_get}
 use Rattle.std.proofs.lemmas.Option.{slice_get_within}
 use Rattle.std.specs.Option.{option_map, option_to_list}
-use Rattle.std.specs.declared.option.Option.{Option}
 use Rattle.eng_value.specs.Causes.{CauseSet}
-use Rattle.eng_value.specs.Environments.{Environment, ItemRow, carried, no_causes, with_causes}
-use Rattle.eng_value.specs.StoredRows.{StoredRow}
+use Rattle.eng_value.specs.Environments.{no_causes, with_causes}
 use Rattle.eng_value.specs.declared.out.Out.{Out}
 use Rattle.eng_value.specs.declared.out.Out.TheVariants.{Good, Bad}
 use Rattle.gen_expr.specs.Steps.{steps_of}
-use Rattle.gen_query.specs.Queries.{conjuncts_steps, gives, row_effect, row_steps, with_given}
+use Rattle.gen_query.specs.Queries.{by_world, conjuncts_steps, gives, items_seen, row_effect, row_steps, with_given}
 use Rattle.gen_query.specs.Stretches.{Gathers, with_row_given}
-use Rattle.gen_query.proofs.Conjuncts.{t_sifts}
+use Rattle.vm_code.proofs.Sifting.{t_sifts}
 use Rattle.gen_query.proofs.Gathering.{t_gathers, values_in}
 use Rattle.gen_query.proofs.Listing.{good_or_null-same, with_given-nil}
 use Rattle.sql_meaning.specs.Statement as meaning
-use Rattle.sql_meaning.specs.Statement.{item_by, item_of, items_at, shown, sifted}
+use Rattle.sql_meaning.specs.Statement.{item_by, item_of, shown, sifted}
 use Rattle.sql_meaning.specs.declared.bound.BoundExpr.{BoundExpr}
 use Rattle.vm_code.specs.declared.op.Op.TheVariants as op
 use Rattle.vm_code.specs.Draft.{Draft, with_op, with_label, bound, taken, released}
-use Rattle.vm_code.specs.Machine.{Row, World, Cursor, Closed, Open, Setting, Shared, current, ending_of, is_bad, read, row_read, row_under, rows_of, outs_from, values_from}
-use Rattle.vm_code.specs.Frames.{Here, with_regs, environment_of, Memory, memory_of, Outcome, Done, Fails, Does, Fills, Grows, Sifts}
+use Rattle.vm_code.specs.Tracked.{Steady}
+use Rattle.vm_code.specs.Machine.{Row, Setting, is_bad, leaving_of, read, outs_from, values_from}
+use Rattle.vm_code.specs.Frames.{Here, with_regs, environment_of, sight_of, Sight, Memory, memory_of, Effect, Done, Fails, Does, Fills, Grows, Sifts, no_calls}
 use Rattle.vm_code.specs.Claims.{Claim, Labels, Last, Triple}
 use Rattle.vm_code.proofs.Drafts.{g_bound, g_label, g_op, g_released, g_taken, grows_then, open_new, open_old, open_other}
+use Rattle.vm_code.proofs.Tracks.{has-bound, place-bound, st_fork, st_goto, st_inner, st_leave, st_made, st_on, st_op, st_released, st_taken, st_then}
 use Rattle.vm_code.proofs.Registers.{outs_same, values_outs}
 use Rattle.vm_code.proofs.Triples.{no_labels, with_claim, t_seq, t_more, t_draft, t_op, t_test, t_goto, t_bind, t_halt_bad}
-use Rattle.vm_code.proofs.Effects.{t_put, does_of, But, but_none, but_regs, but_env, EndsDone, EndsFailed, EndsQuit}
+use Rattle.vm_code.proofs.Effects.{t_put, does_of, But, but_none, but_regs, but_env, EndsDone, EndsFailed}
 use Rattle.vm_code.proofs.Fills.{t_fills}
 
 -- ---- the item by what the registers hold
 
 -- a rejected row has none
-items-none : (conjuncts results : List BoundExpr) (env : Environment) → carried env.rows ≡ no_causes → sifted conjuncts env no_causes ≡ None → items_at conjuncts results env ≡ []
-items-none conjuncts results env none e =
-    ap (λ o. option_to_list (option_map (shown results env) o)) (ap (sifted conjuncts env) none ∙ e)
+items-none : (conjuncts results : List BoundExpr) (sight : Sight) → sifted conjuncts sight.env no_causes ≡ None → items_seen conjuncts results sight ≡ []
+items-none conjuncts results sight e = ap (λ o. option_to_list (option_map (shown results sight.env) o)) e
 
 -- else it is the one of the causes and of the results
-items-some : (conjuncts results : List BoundExpr) (env : Environment) (v : Out) → carried env.rows ≡ no_causes → sifted conjuncts env no_causes ≡ Some v → items_at conjuncts results env ≡ item_of v (values_in results env) ∷ []
-items-some conjuncts results env v none e =
-    ap (λ o. option_to_list (option_map (shown results env) o)) (ap (sifted conjuncts env) none ∙ e)
-
--- rows under cursors carry no causes
-row_carries : (w : World) (cursor : Cursor) → (current w cursor).causes ≡ no_causes
-row_carries w Closed = refl
-row_carries w (Open table None) = refl
-row_carries w (Open table (Some rowid)) = by (row_under (rows_of w table) rowid)
-  where
-    by : (o : Option StoredRow) → (row_read o).causes ≡ no_causes
-    by None = refl
-    by (Some r) = refl
-
-cursors_carry : (w : World) (cursors : List Cursor) → carried (map (current w) cursors) ≡ no_causes
-cursors_carry w [] = refl
-cursors_carry w (c ∷ cursors) =
-    ap (λ o. fold with_causes (with_causes no_causes o) (map (λ (r : ItemRow). r.causes) (map (current w) cursors))) (row_carries w c) ∙ cursors_carry w cursors
+items-some : (conjuncts results : List BoundExpr) (sight : Sight) (v : Out) → sifted conjuncts sight.env no_causes ≡ Some v → items_seen conjuncts results sight ≡ item_of v (values_in results sight.env) ∷ []
+items-some conjuncts results sight v e = ap (λ o. option_to_list (option_map (shown results sight.env) o)) e
 
 -- good, it is given; bad, it ends the run
 gives-good : (outs : List Out) (all : Out) (x : Memory) → is_bad all ≡ false → gives (item_by outs all ∷ []) x ≡ Done (with_given x (map meaning.good_or_null outs ∷ []))
@@ -65,9 +48,14 @@ gives-bad : (outs : List Out) (all : Out) (x : Memory) → is_bad all ≡ true �
 gives-bad outs (Good v) x e = cc
 gives-bad outs (Bad causes) x e = (causes, refl, refl)
 
+-- what is put aside and shared is as it was
+but_memory : {mark to : ℕ} {h0 h : Here} → But mark to h0 h → memory_of 0 h0 ≡ memory_of 0 h
+but_memory {mark} {to} {h0} {h} x =
+    ap (λ y. memory_of 0 (record h0 { store = y })) (sym x.store) ∙ ap (λ y. memory_of 0 (record h { shared = y })) (sym x.shared)
+
 -- ---- the code of a row
 
-module _ (a x y z : Draft) (conjuncts results : List BoundExpr) (counted : a.next ≤ a.most) (sx : Sifts (with_op (taken (with_label a)) (op.Null a.next)) x a.next (length a.labels) (λ env. sifted conjuncts env) (λ w. conjuncts_steps conjuncts)) (fy : Fills x y (length results) (λ env. values_in results env) (λ w. sum_by steps_of results)) (gz : Gathers y z x.next (y.next - x.next) a.next) where
+module _ (a x y z : Draft) (conjuncts results : List BoundExpr) (counted : a.next ≤ a.most) (sx : Sifts no_calls (with_op (taken (with_label a)) (op.Null a.next)) x a.next (length a.labels) (λ env. sifted conjuncts env) (λ env. conjuncts_steps conjuncts)) (fy : Fills no_calls x y (length results) (λ env. values_in results env) (λ env. sum_by steps_of results)) (gz : Gathers y z x.next (y.next - x.next) a.next) where
   abbrev causes : ℕ
   causes = a.next
 
@@ -123,16 +111,31 @@ module _ (a x y z : Draft) (conjuncts results : List BoundExpr) (counted : a.nex
   grows_row =
       grows_then (g_bound halting next (grows_then (g_bound leaving fail grows_leaving (omega (arith, next_below)) (open_new z)) (g_op (bound leaving fail) (op.HaltBad causes))) (omega arith) next_there) (g_released (bound halting next) causes)
 
+  -- the label behind the row alone, and beside it that of a bad one
+  abbrev outside : List ℕ
+  outside = next ∷ []
+
+  abbrev inside : List ℕ
+  inside = fail ∷ next ∷ []
+
+  steady_giving : Steady [] outside z (bound halting next)
+  steady_giving =
+      st_made fail refl (has-bound halting next fail (place-bound leaving fail (open_new z))) (st_then (g_op (with_label z) (op.IsBad causes fail)) (st_fork [] inside (with_label z) (op.IsBad causes fail) fail refl refl (inl refl)) (st_then (g_op testing (op.ResultRow x.next count)) (st_op [] inside testing (op.ResultRow x.next count) (refl, refl)) (st_on (λ l xs m. m) (st_goto [] inside giving next fail (inr (inl refl)) (inl refl)) (st_leave [] inside (bound leaving fail) (op.HaltBad causes) next refl refl (inr (inl refl))))))
+
+  steady_row : Steady [] [] a row_code
+  steady_row =
+      st_made next refl (place-bound halting next next_there) (st_then (g_taken (with_label a)) (st_taken [] outside (with_label a)) (st_then (g_op (taken (with_label a)) (op.Null causes)) (st_op [] outside (taken (with_label a)) (op.Null causes) (refl, refl)) (st_then sx.grows sx.steady (st_then fy.grows (st_inner [] outside fy.steady) (st_then gz.grows (st_inner [] outside gz.steady) (st_on (g_label z).marks steady_giving (st_released [] outside (bound halting next) causes)))))))
+
   abbrev started : Claim
   started = But causes causes
 
-  abbrev effect : Environment → Out → Memory → Outcome
+  abbrev effect : Effect
   effect = row_effect conjuncts results
 
   module _ (m : Setting) where
     -- what is known on the way
     abbrev items_of : Here → List meaning.Item
-    items_of h = items_at conjuncts results (environment_of m h)
+    items_of h = items_seen conjuncts results (sight_of m h)
 
     abbrev outs_of : Here → List Out
     outs_of h = values_in results (environment_of m h)
@@ -163,7 +166,7 @@ module _ (a x y z : Draft) (conjuncts results : List BoundExpr) (counted : a.nex
     last = EndsFailed m effect 0 0
 
     abbrev outer : Labels
-    outer = with_claim 0 (EndsQuit m effect 0 0 causes) no_labels
+    outer = no_labels
 
     abbrev inner : Labels
     inner = with_claim next done outer
@@ -173,75 +176,72 @@ module _ (a x y z : Draft) (conjuncts results : List BoundExpr) (counted : a.nex
 
     -- where only registers from the mark on and what is given differ
     row_done : (h0 h : Here) (rows : List Row) → started h0 h → gives (items_of h0) (memory_of 0 h0) ≡ Done (with_given (memory_of 0 h0) rows) → done h0 (record h { shared = record h.shared { given = h.shared.given ++ rows } })
-    row_done h0 h rows but e = (
-      (λ k le lt. but.regs k lt (omega arith)),
-      but.cursors,
-      e ∙ ap (λ (y : Shared). Done (record { own = []; shared = record y { given = y.given ++ rows } })) (sym but.shared),
-    )
+    row_done h0 h rows but e =
+        ((λ k le lt. but.regs k lt (omega arith)), but.scene, e ∙ ap (λ (y : Memory). Done (with_given y rows)) (but_memory but))
 
     rejected : (h0 h : Here) → started h0 h → sifted conjuncts (environment_of m h0) no_causes ≡ None → done h0 h
     rejected h0 h but none = (
       (λ k le lt. but.regs k lt (omega arith)),
-      but.cursors,
-      ap (λ l. gives l (memory_of 0 h0)) (items-none conjuncts results (environment_of m h0) (cursors_carry h0.shared.world h0.cursors) none) ∙ ap Done (with_given-nil (memory_of 0 h0)) ∙ ap (λ (y : Shared). Done (record { own = []; shared = y })) (sym but.shared),
+      but.scene,
+      ap (λ l. gives l (memory_of 0 h0)) (items-none conjuncts results (sight_of m h0) none) ∙ ap Done (with_given-nil (memory_of 0 h0) ∙ but_memory but),
     )
 
-    begins : Triple m a nulling (λ w. 1) innermost last started nulled
+    begins : Triple m a nulling (λ h0. 1) innermost last started nulled
     begins =
         let take = t_draft m innermost last started (grows_then (g_label a) (g_taken (with_label a))) refl in
         let clear = t_put m (taken (with_label a)) (op.Null causes) causes (λ h. no_causes) innermost last started nulled (omega arith) (λ at s. refl) (λ h0 h regs pre long is same.
         (but_regs regs (λ k lt ne. same k ne) pre, is)) in
-        t_more (λ w. 1) (λ w. omega arith) (t_seq take clear)
+        t_more (λ h0. 1) (λ h0. omega arith) (t_seq take clear)
 
-    sifts : Triple m nulling x (λ w. conjuncts_steps conjuncts) innermost last nulled kept
-    sifts = t_sifts m innermost last nulled kept sx (λ h0 h pre. ap (λ (y : Shared). y.world) pre.0.shared) (λ h0 h regs v pre is long has same.
+    sifts : Triple m nulling x (λ h0. conjuncts_steps conjuncts) innermost last nulled kept
+    sifts = t_sifts m tt innermost last nulled kept sx (λ h0 h pre. but_env m pre.0) (λ h0 h regs v pre is long has same.
         (but_regs regs (λ k lt ne. same k (omega arith) ne) pre.0, sym (ap (λ env. sifted conjuncts env no_causes) (but_env m pre.0)) ∙ sym (ap (sifted conjuncts (environment_of m h)) pre.1) ∙ is ∙ ap Some (sym has))) (λ h0 h regs pre is long same.
         inr (inl (refl, rejected h0 (with_regs h regs) (but_regs regs (λ k lt ne. same k (omega arith) ne) pre.0) (sym (ap (λ env. sifted conjuncts env no_causes) (but_env m pre.0)) ∙ sym (ap (sifted conjuncts (environment_of m h)) pre.1) ∙ is))))
 
-    fills : Triple m x y (λ w. sum_by steps_of results) innermost last kept filled
-    fills = t_fills m innermost last kept filled fy (λ h0 h pre. ap (λ (y : Shared). y.world) pre.0.shared) (λ h0 h regs pre long is same.
+    fills : Triple m x y (λ h0. sum_by steps_of results) innermost last kept filled
+    fills = t_fills m tt innermost last kept filled fy (λ h0 h pre. but_env m pre.0) (λ h0 h regs pre long is same.
         ((but_regs regs (λ k lt ne. same k (omega (arith, first_is))) pre.0, pre.1 ∙ ap Some (sym (same causes (omega (arith, first_is))))), ap (outs_from regs x.next) count_is ∙ is ∙ ap (values_in results) (but_env m pre.0)))
 
-    gathers : Triple m y z (λ w. count) innermost last filled gathered
+    gathers : Triple m y z (λ h0. count) innermost last filled gathered
     gathers = t_gathers m innermost last filled gathered gz (λ h0 h regs pre long is same.
         let all : read regs causes ≡ fold with_causes (read h.regs causes) (outs_of h0) = is ∙ ap (fold with_causes (read h.regs causes)) pre.1 in (
           but_regs regs (λ k lt ne. same k (omega (arith, first_is, fy.next)) ne) pre.0.0,
-          items-some conjuncts results (environment_of m h0) (read h.regs causes) (cursors_carry h0.shared.world h0.cursors) pre.0.1 ∙ ap (λ o. item_by (outs_of h0) o ∷ []) (sym all),
+          items-some conjuncts results (sight_of m h0) (read h.regs causes) pre.0.1 ∙ ap (λ o. item_by (outs_of h0) o ∷ []) (sym all),
           outs_same regs h.regs count x.next (λ k le lt. same k (omega (arith, lt, count_is, fy.next)) (omega (arith, le, first_is))) ∙ pre.1,
         ))
 
-    tests : Triple m z testing (λ w. 1) innermost last gathered good
+    tests : Triple m z testing (λ h0. 1) innermost last gathered good
     tests =
         let label = t_draft m innermost last gathered (g_label z) refl in
         let jump = t_test m (with_label z) (op.IsBad causes fail) fail (λ h. is_bad (read h.regs causes)) innermost last gathered good (λ at s. refl) (λ h0 h pre b. inl (refl, (pre, b))) (λ h0 h pre b. (pre, b)) in
-        t_more (λ w. 1) (λ w. omega arith) (t_seq label jump)
+        t_more (λ h0. 1) (λ h0. omega arith) (t_seq label jump)
 
-    given : Triple m testing giving (λ w. 1) innermost last good done
+    given : Triple m testing giving (λ h0. 1) innermost last good done
     given = t_op m testing (op.ResultRow x.next count) (λ h. record h { shared = record h.shared { given = h.shared.given ++ values_from h.regs x.next count ∷ [] } }) innermost last good done (λ at s. refl) (λ h. (refl, refl)) (λ h0 h most wide pre.
         let row : values_from h.regs x.next count ≡ map meaning.good_or_null (outs_of h0) = values_outs h.regs count x.next ∙ good_or_null-same (outs_from h.regs x.next count) ∙ ap (map meaning.good_or_null) pre.0.2 in
         let gave = ap (λ l. gives l (memory_of 0 h0)) pre.0.1 ∙ gives-good (outs_of h0) (read h.regs causes) (memory_of 0 h0) pre.1 ∙ ap (λ r. Done (with_given (memory_of 0 h0) (r ∷ []))) (sym row) in
         row_done h0 h (values_from h.regs x.next count ∷ []) pre.0.0 gave)
 
-    leaves : Triple m giving leaving (λ w. 1) innermost last done (λ h0 h. ⊥)
+    leaves : Triple m giving leaving (λ h0. 1) innermost last done (λ h0 h. ⊥)
     leaves = t_goto m giving next innermost last done (λ h0 h pre. inr (inl (refl, pre)))
 
-    fails : Triple m (bound leaving fail) halting (λ w. 1) inner last bad_row (λ h0 h. ⊥)
+    fails : Triple m (bound leaving fail) halting (λ h0. 1) inner last bad_row (λ h0 h. ⊥)
     fails = t_halt_bad m (bound leaving fail) causes inner last bad_row (λ h0 h pre.
         let ends = gives-bad (outs_of h0) (read h.regs causes) (memory_of 0 h0) pre.1 in (
           ends.0,
           with_given (memory_of 0 h0) [],
           ap (λ l. gives l (memory_of 0 h0)) pre.0.1 ∙ ends.2,
-          ap ending_of ends.1,
+          ap leaving_of ends.1,
           ap (λ (y : Memory). y.shared) (with_given-nil (memory_of 0 h0)) ∙ sym pre.0.0.shared,
         ))
 
-    whole : Triple m a row_code (λ w. row_steps conjuncts results) outer last started done
+    whole : Triple m a row_code (λ h0. row_steps conjuncts results) outer last started done
     whole =
         let good_way = t_seq (t_seq (t_seq (t_seq (t_seq (t_seq begins sifts) fills) gathers) tests) given) leaves in
         let at_fail = t_bind fail bad_row (open_new z) (λ h0 h no. absurd no) good_way in
         let all = t_bind next done next_there (λ h0 h no. absurd no) (t_seq at_fail fails) in
         let back = t_draft m outer last done (g_released (bound halting next) causes) refl in
-        t_more (λ w. row_steps conjuncts results) (λ w. omega (arith, count_is)) (t_seq all back)
+        t_more (λ h0. row_steps conjuncts results) (λ h0. omega (arith, count_is)) (t_seq all back)
 
-  pub row-does : Does a row_code 0 0 0 (row_effect conjuncts results) (λ w. row_steps conjuncts results)
-  row-does = does_of 0 0 0 effect started grows_row refl (λ h shut. but_none causes causes h) whole
+  pub row-does : Does no_calls a row_code 0 0 None (row_effect conjuncts results) (by_world (λ w. row_steps conjuncts results))
+  row-does = does_of 0 0 None effect started grows_row refl steady_row (λ h shut. but_none causes causes h) (λ m called. whole m)

@@ -1,10 +1,10 @@
 -- The program of a query performs it.
 use Rattle.std.proofs.Common.{◌≡◌, ℕ, List, [], ◌∷◌, ◌++◌, append-nil, subst, length, map, flat_map, Some, None, refl, sym, ap, ◌∙◌, arith}
 use Rattle.std.specs.declared.option.Option.{Option}
-use Rattle.std.proofs.lemmas.List.Concat.{flat_map-cons}
+use Rattle.std.proofs.lemmas.List.Folds.{flat_map-map}
 use Rattle.eng_value.specs.Environments.{Surroundings, environment, null_row, table_row}
 use Rattle.eng_value.specs.StoredRows.{StoredRow}
-use Rattle.gen_query.specs.Queries.{cursors_of, effect_over, ending_by, gives, items_in, query_run, query_steps, rows_in, run_by, rows_effect, rows_steps, with_given, with_row}
+use Rattle.gen_query.specs.Queries.{by_world, cursors_of, effect_over, gives, items_in, items_seen, query_run, query_steps, rows_effect, rows_in, rows_steps, with_given, with_row}
 use Rattle.gen_query.proofs.Listing.{gives_done, gives_fails, gives_quit}
 use Rattle.sql_meaning.specs.Statement.{Item, given_of, items_at}
 use Rattle.sql_meaning.specs.declared.bound.BoundExpr.{BoundExpr}
@@ -12,11 +12,13 @@ use Rattle.sql_meaning.specs.declared.bound.BoundSelect.{BoundSelect}
 use Rattle.vm_code.specs.declared.op.Op.TheVariants as op
 use Rattle.vm_code.specs.declared.program.Program.{Program}
 use Rattle.vm_code.specs.Draft.{Draft, begun, with_op}
-use Rattle.vm_code.specs.Machine.{Cursor, Closed, Setting, Finished, Performs, Run, current, rows_of}
-use Rattle.vm_code.specs.Frames.{Here, environment_of, surroundings_of, Memory, memory_of, Does, IsProgramOf, Shut}
+use Rattle.vm_code.specs.Machine.{Cursor, Closed, Setting, Shared, Finished, Performs, Run, current, ending_by, rows_of, world_of}
+use Rattle.vm_code.specs.Frames.{Here, environment_of, sight_of, surroundings_of, Sight, Memory, memory_of, effect_at, Does, IsProgramOf, Shut, no_calls}
+use Rattle.vm_code.specs.Balanced.{IsBalanced}
 use Rattle.vm_code.specs.Claims.{Claim, Last, Triple}
 use Rattle.vm_code.proofs.Triples.{no_labels, t_seq, t_halt}
-use Rattle.vm_code.proofs.Effects.{t_does, effect_at, same_cost}
+use Rattle.vm_code.proofs.Effects.{t_does, same_cost}
+use Rattle.vm_code.proofs.Balancing.{balanced_of}
 use Rattle.vm_code.proofs.Whole.{Begins, EndsAs, performs_of}
 
 -- ---- what is seen at the start
@@ -30,47 +32,39 @@ one_closed [] e shut = absurd (omega arith)
 one_closed (c ∷ []) e shut = ap (λ x. x ∷ []) (shut 0 (omega arith))
 one_closed (c ∷ d ∷ cs) e shut = absurd (omega arith)
 
--- where there is no table, and where a table's only cursor is closed
-sees : (m : Setting) (h : Here) (cursors : List Cursor) → h.args ≡ [] → h.cursors ≡ cursors → environment_of m h ≡ environment (surroundings_of m h.shared) [] [] (map (current h.shared.world) cursors)
-sees m h cursors args is =
-    ap (λ l. environment (surroundings_of m h.shared) h.args [] (map (current h.shared.world) l)) is
-    ∙ ap (λ l. environment (surroundings_of m h.shared) l [] (map (current h.shared.world) cursors)) args
+-- a main unit has no arguments, and nothing in its slots
+sees : (m : Setting) (n : ℕ) (h : Here) (cursors : List Cursor) → Begins n h → h.scene.cursors ≡ cursors → environment_of m h ≡ environment (surroundings_of m h.shared) [] [] (map (current (world_of h.shared)) cursors)
+sees m n h cursors b is =
+    ap (λ l. environment_of m (record h { scene = record h.scene { cursors = l } })) is
+    ∙ ap (λ l. environment_of m (record h { scene = record { cursors = cursors; slots = l } })) b.slots
+    ∙ ap (λ k. environment_of m (record h { scene = record { cursors = cursors; slots = [] }; inputs = k })) b.inputs
 
 -- the items of each row in the place of the one where the cursor is closed
-each_row : (x : Surroundings) (conjuncts results : List BoundExpr) (rows : List StoredRow) → flat_map (items_at conjuncts results) (map (with_row 0 (environment x [] [] (null_row ∷ []))) rows) ≡ flat_map (λ row. items_at conjuncts results (environment x [] [] row)) (map (λ r. table_row r ∷ []) rows)
-each_row x conjuncts results [] = refl
-each_row x conjuncts results (r ∷ rows) =
-    flat_map-cons (items_at conjuncts results) (environment x [] [] (table_row r ∷ [])) (map (with_row 0 (environment x [] [] (null_row ∷ []))) rows)
-    ∙ ap (λ l. items_at conjuncts results (environment x [] [] (table_row r ∷ [])) ++ l) (each_row x conjuncts results rows)
-    ∙ sym (flat_map-cons (λ row. items_at conjuncts results (environment x [] [] row)) (table_row r ∷ []) (map (λ r. table_row r ∷ []) rows))
+each_row : (x : Surroundings) (sight : Sight) (conjuncts results : List BoundExpr) (rows : List StoredRow) → sight.env ≡ environment x [] [] (null_row ∷ []) → flat_map (λ r. items_seen conjuncts results (with_row 0 sight r)) rows ≡ flat_map (λ row. items_at conjuncts results (environment x [] [] row)) (map (λ r. table_row r ∷ []) rows)
+each_row x sight conjuncts results rows is =
+    ap (λ env. flat_map (λ r. items_seen conjuncts results (with_row 0 (record sight { env = env }) r)) rows) is
+    ∙ sym (flat_map-map (λ row. items_at conjuncts results (environment x [] [] row)) (λ r. table_row r ∷ []) rows)
 
 -- the items of a query by what its code sees
-items_seen : (m : Setting) (table : Option ℕ) (conjuncts results : List BoundExpr) (h : Here) → h.args ≡ [] → length h.cursors ≡ cursors_of table → Shut 0 h.cursors → effect_at m (effect_over 0 table conjuncts results) 0 0 h ≡ gives (flat_map (λ rows. items_at conjuncts results (environment (surroundings_of m h.shared) [] [] rows)) (rows_in table h.shared.world)) (memory_of 0 h)
-items_seen m None conjuncts results h args wide shut =
-    ap (λ env. gives (items_at conjuncts results env) (memory_of 0 h)) (sees m h [] args (no_cursors h.cursors wide))
+gives_all : (m : Setting) (table : Option ℕ) (conjuncts results : List BoundExpr) (h : Here) → Begins (cursors_of table) h → effect_at m (effect_over 0 table conjuncts results) 0 0 h ≡ gives (flat_map (λ rows. items_at conjuncts results (environment (surroundings_of m h.shared) [] [] rows)) (rows_in table (world_of h.shared))) (memory_of 0 h)
+gives_all m None conjuncts results h b =
+    ap (λ env. gives (items_seen conjuncts results (record (sight_of m h) { env = env })) (memory_of 0 h)) (sees m 0 h [] b (no_cursors h.scene.cursors b.wide))
     ∙ ap (λ l. gives l (memory_of 0 h)) (sym (append-nil (items_at conjuncts results (environment (surroundings_of m h.shared) [] [] []))))
-items_seen m (Some table) conjuncts results h args wide shut =
-    ap (λ env. gives (flat_map (items_at conjuncts results) (map (with_row 0 env) (rows_of h.shared.world table))) (memory_of 0 h)) (sees m h (Closed ∷ []) args (one_closed h.cursors wide shut))
-    ∙ ap (λ l. gives l (memory_of 0 h)) (each_row (surroundings_of m h.shared) conjuncts results (rows_of h.shared.world table))
+gives_all m (Some table) conjuncts results h b =
+    ap (λ l. gives l (memory_of 0 h)) (each_row (surroundings_of m h.shared) (sight_of m h) conjuncts results (rows_of (world_of h.shared) table) (sees m 1 h (Closed ∷ []) b (one_closed h.scene.cursors b.wide b.shut)))
 
 -- ---- the run
 
-module _ (z : Draft) (q : BoundSelect) (x : Does (begun []) z 0 0 0 (rows_effect 0 q) (rows_steps q)) (wide : z.cursors ≡ cursors_of q.table) where
+module _ (z : Draft) (q : BoundSelect) (x : Does no_calls (begun []) z 0 0 None (rows_effect 0 q) (by_world (rows_steps q))) (wide : z.cursors ≡ cursors_of q.table) where
   abbrev pub whole : Draft
   whole = with_op z op.Halt
 
   abbrev start : Claim
   start h0 h = (h ≡ h0) × Begins z.cursors h0
 
-  -- what is shared behind the items
-  shared_is : (m : Setting) (h0 : Here) (items : List Item) → Begins z.cursors h0 → (with_given (memory_of 0 h0) (given_of items)).shared ≡ (run_by (surroundings_of m h0.shared) items).shared
-  shared_is m h0 items b =
-      ap (λ l. record { params = h0.shared.params; world = h0.shared.world; given = l ++ given_of items; changes = h0.shared.changes }) b.given
-      ∙ ap (λ l. record { params = h0.shared.params; world = h0.shared.world; given = given_of items; changes = l }) b.changes
-
   module _ (m : Setting) where
     abbrev run_at : Here → Run
-    run_at h0 = query_run q (surroundings_of m h0.shared)
+    run_at h0 = query_run q (surroundings_of m h0.shared) h0.shared.written.last_rowid
 
     abbrev items : Here → List Item
     items h0 = items_in q (surroundings_of m h0.shared)
@@ -84,18 +78,28 @@ module _ (z : Draft) (q : BoundSelect) (x : Does (begun []) z 0 0 0 (rows_effect
     -- the effect at the start is to give the items
     gives_items : (h0 h : Here) → start h0 h → effect_at m (rows_effect 0 q) 0 0 h ≡ gives (items h0) (memory_of 0 h0)
     gives_items h0 h (same, b) =
-        ap (effect_at m (rows_effect 0 q) 0 0) same ∙ items_seen m q.table q.conjuncts q.results h0 b.args (b.wide ∙ wide) b.shut
+        ap (effect_at m (rows_effect 0 q) 0 0) same
+        ∙ gives_all m q.table q.conjuncts q.results h0 (subst (λ n. Begins n h0) wide b)
 
-    rows : Triple m (begun []) z (rows_steps q) no_labels last start finished
-    rows = t_does m (rows_steps q) no_labels last start finished x (λ h0 h pre. same_cost (rows_steps q) (ap (λ (y : Here). y.shared.world) pre.0)) (λ h0 h pre. subst (λ (y : Here). Shut 0 y.cursors) (sym pre.0) pre.1.shut) (λ h0 h regs y pre is long own same.
+    -- what is shared behind the items
+    shared_is : (h0 h : Here) (y : Memory) → start h0 h → with_given (memory_of 0 h0) (given_of (items h0)) ≡ y → y.shared ≡ (run_at h0).shared
+    shared_is h0 h y pre is =
+        ap (λ (v : Memory). v.shared) (sym is)
+        ∙ ap (λ (v : Shared). record v { given = v.given ++ given_of (items h0) }) pre.1.shared
+
+    rows : Triple m (begun []) z (λ h0. rows_steps q (world_of h0.shared)) no_labels last start finished
+    rows = t_does m tt (λ h0. rows_steps q (world_of h0.shared)) no_labels last start finished x (λ h0 h pre. same_cost (rows_steps q) (ap (λ (y : Here). world_of y.shared) pre.0)) (λ h0 h pre. subst (λ (y : Here). Shut 0 y.scene.cursors) (sym pre.0) pre.1.shut) (λ h0 h regs y pre is long own same.
         let known = gives_done (items h0) (memory_of 0 h0) y (sym (gives_items h0 h pre) ∙ is) in
-        (ap ending_by (sym known.0), ap (λ (v : Memory). v.shared) (sym known.1) ∙ shared_is m h0 (items h0) pre.1)) (λ h0 h regs cursors y pre is long own same.
+        (ap ending_by (sym known.0), shared_is h0 h y pre known.1)) (λ l h0 h regs scene y e pre is long wide below slots own same.
         absurd (gives_quit (items h0) (memory_of 0 h0) y (sym (gives_items h0 h pre) ∙ is))) (λ h0 h k y pre is.
         let known = gives_fails (items h0) k (memory_of 0 h0) y (sym (gives_items h0 h pre) ∙ is) in
-        (ap ending_by (sym known.0), ap (λ (v : Memory). v.shared) (sym known.1) ∙ shared_is m h0 (items h0) pre.1))
+        (ap ending_by (sym known.0), shared_is h0 h y pre known.1))
 
-    ends : Triple m (begun []) whole (query_steps q) no_labels last start (λ h0 h. ⊥)
+    ends : Triple m (begun []) whole (λ h0. query_steps q (surroundings_of m h0.shared)) no_labels last start (λ h0 h. ⊥)
     ends = t_seq rows (t_halt m z no_labels last finished (λ h0 h pre. pre))
 
   pub query-performs : (p : Program) → IsProgramOf whole p → Performs p (query_run q) (query_steps q)
   query-performs p is = performs_of [] whole p (query_run q) (query_steps q) is ends
+
+  pub query-balanced : (p : Program) → IsProgramOf whole p → IsBalanced p.main
+  query-balanced p is = balanced_of [] z op.Halt p x.steady refl refl is

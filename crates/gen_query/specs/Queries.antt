@@ -1,17 +1,19 @@
 -- What the program of a query performs over lists of rows, and in how many instructions at most.
-use Rattle.std.specs.Prelude.{ℕ, ◌+◌, ◌*◌, ◌≤◌, List, [], ◌∷◌, ◌++◌, length, map, sum_by, slice_set, Option, Some, None}
+use Rattle.std.specs.Prelude.{ℕ, ◌+◌, ◌*◌, ◌≤◌, ℤ, List, [], ◌∷◌, ◌++◌, length, map, sum_by, slice_set, Option, Some, None}
 use Rattle.std.specs.List.{flat_map}
+use Rattle.std.specs.Option.{option_map, option_to_list}
 use Rattle.eng_value.specs.Causes.{CauseSet}
-use Rattle.eng_value.specs.Environments.{Environment, ItemRow, Surroundings, environment, table_row}
+use Rattle.eng_value.specs.Environments.{ItemRow, Surroundings, environment, no_causes, table_row}
 use Rattle.eng_value.specs.StoredRows.{StoredRow}
+use Rattle.eng_value.specs.Written.{unwritten}
 use Rattle.eng_value.specs.declared.value.Value.{Value}
 use Rattle.gen_expr.specs.Steps.{steps_of}
 use Rattle.sql_meaning.specs.Sizes.{all_nodes}
-use Rattle.sql_meaning.specs.Statement.{Item, given_of, items_at, refusal_of}
+use Rattle.sql_meaning.specs.Statement.{Item, given_of, items_at, refusal_of, shown, sifted}
 use Rattle.sql_meaning.specs.declared.bound.BoundExpr.{BoundExpr}
 use Rattle.sql_meaning.specs.declared.bound.BoundSelect.{BoundSelect}
-use Rattle.vm_code.specs.Frames.{Effect, Memory, Outcome, Done, Fails}
-use Rattle.vm_code.specs.Machine.{World, Run, Ending, Finished, Failed, rows_of}
+use Rattle.vm_code.specs.Frames.{Cost, Effect, Memory, Outcome, Done, Fails, Sight}
+use Rattle.vm_code.specs.Machine.{World, Run, ending_by, rows_of, world_of}
 
 -- ---- the whole query
 
@@ -24,20 +26,13 @@ abbrev pub items_in : BoundSelect → Surroundings → List Item
 items_in q x =
     flat_map (λ rows. items_at q.conjuncts q.results (environment x [] [] rows)) (rows_in q.table x.world)
 
-abbrev pub ending_by : Option CauseSet → Ending
-ending_by None = Finished
-ending_by (Some causes) = Failed causes
+-- the good items in front of the first bad one are given, and nothing is written
+abbrev pub run_by : World → ℤ → List Item → Run
+run_by w last_rowid items =
+    record { ending = ending_by (refusal_of items); shared = record { given = given_of items; written = unwritten w last_rowid } }
 
--- the good items in front of the first bad one are given, and nothing is changed
-abbrev pub run_by : Surroundings → List Item → Run
-run_by x items =
-    record {
-      ending = ending_by (refusal_of items);
-      shared = record { params = x.params; world = x.world; given = given_of items; changes = [] };
-    }
-
-abbrev pub query_run : BoundSelect → Surroundings → Run
-query_run q x = run_by x (items_in q x)
+abbrev pub query_run : BoundSelect → Surroundings → ℤ → Run
+query_run q x last_rowid = run_by x.world last_rowid (items_in q x)
 
 -- ---- a stretch of its code
 
@@ -48,20 +43,24 @@ outcome_by (Some causes) x = Fails causes x
 abbrev pub with_given : Memory → List (List Value) → Memory
 with_given x rows = record x { shared = record x.shared { given = x.shared.given ++ rows } }
 
--- the good items in front of the first bad one are given, which ends the run
+-- the good items in front of the first bad one are given, and the unit gives up for its causes
 abbrev pub gives : List Item → Memory → Outcome
 gives items x = outcome_by (refusal_of items) (with_given x (given_of items))
 
-abbrev pub row_effect : List BoundExpr → List BoundExpr → Effect
-row_effect conjuncts results env causes x = gives (items_at conjuncts results env) x
+-- the item of what is seen, unless a conjunct rejects it; rows of tables carry no causes that would count, too
+abbrev pub items_seen : List BoundExpr → List BoundExpr → Sight → List Item
+items_seen conjuncts results sight = option_to_list (option_map (shown results sight.env) (sifted conjuncts sight.env no_causes))
 
--- an environment with a row for the item of this number
-abbrev pub with_row : ℕ → Environment → StoredRow → Environment
-with_row item env r = record env { rows = slice_set env.rows item (table_row r) }
+abbrev pub row_effect : List BoundExpr → List BoundExpr → Effect
+row_effect conjuncts results sight causes x = gives (items_seen conjuncts results sight) x
+
+-- with a row for the item of this number
+abbrev pub with_row : ℕ → Sight → StoredRow → Sight
+with_row item sight r = record sight { env = record sight.env { rows = slice_set sight.env.rows item (table_row r) } }
 
 abbrev pub scan_effect : ℕ → ℕ → List BoundExpr → List BoundExpr → Effect
-scan_effect item table conjuncts results env causes x =
-    gives (flat_map (items_at conjuncts results) (map (with_row item env) (rows_of x.shared.world table))) x
+scan_effect item table conjuncts results sight causes x =
+    gives (flat_map (λ r. items_seen conjuncts results (with_row item sight r)) (rows_of (world_of x.shared) table)) x
 
 abbrev pub effect_over : ℕ → Option ℕ → List BoundExpr → List BoundExpr → Effect
 effect_over item None conjuncts results = row_effect conjuncts results
@@ -96,9 +95,13 @@ steps_over (Some table) conjuncts results w = scan_steps table conjuncts results
 abbrev pub rows_steps : BoundSelect → World → ℕ
 rows_steps q w = steps_over q.table q.conjuncts q.results w
 
+-- what code costs that depends on the tables alone
+abbrev pub by_world : (World → ℕ) → Cost
+by_world n sight causes x = n (world_of x.shared)
+
 -- at most so many for each row and a few for the whole: linear in the number of rows times the size of the query
-abbrev pub query_steps : BoundSelect → World → ℕ
-query_steps q w = rows_steps q w + 1
+abbrev pub query_steps : BoundSelect → Surroundings → ℕ
+query_steps q x = rows_steps q x.world + 1
 
 -- how many rows it reads
 abbrev pub rows_seen : Option ℕ → World → ℕ
@@ -108,4 +111,4 @@ rows_seen (Some table) w = length (rows_of w table)
 -- the instructions by how many rows are read and by how large the query is
 abbrev pub StepsAreFew : BoundSelect → Type 0
 StepsAreFew q =
-    (w : World) → query_steps q w ≤ 16 + (1 + rows_seen q.table w) * (4 * (all_nodes q.conjuncts + all_nodes q.results) + 6)
+    (x : Surroundings) → query_steps q x ≤ 16 + (1 + rows_seen q.table x.world) * (4 * (all_nodes q.conjuncts + all_nodes q.results) + 6)

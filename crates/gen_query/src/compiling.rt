@@ -1,6 +1,7 @@
 // The program of a query.
 ghost use Rattle.std.specs.Prelude.{IfOk};
 ghost use Rattle.gen_query.specs.Queries.{query_run, query_steps};
+ghost use Rattle.vm_code.specs.Balanced.{IsBalanced};
 ghost use Rattle.vm_code.specs.Machine.{Performs};
 
 use crate::scanning::emit_rows;
@@ -11,12 +12,14 @@ use vm_code::{Builder, Op, Program};
 
 /// The program of a query (SQL As Understood By SQLite, "SELECT"): it gives a row of results for each row of the table that no
 /// conjunct rejects, in the table's order, and one at most where there is no table. Where a conjunct or a result of such a row is
-/// bad the run ends with the causes of all of them, behind the rows in front. It changes nothing. Only memory can fail.
+/// bad the run fails for the causes of all of them, as far as they may be named, behind the rows in front. It writes nothing. Only
+/// memory can fail.
 pub fn compile(alloc: Global, query: &BoundSelect) -> Result<Program, AllocError>
-    ensures { IfOk result (λ p. Performs p (query_run query.now) (query_steps query.now)) }
+    ensures performs { IfOk result (λ p. Performs p (query_run query.now) (query_steps query.now)) }
+    ensures balanced { IfOk result (λ p. IsBalanced p.main) }
 {
     let mut b = Builder::new(alloc, Items::new(alloc));
-    emit_rows(&mut b, query)?;
+    emit_rows(alloc, &mut b, query)?;
     b.op(Op::Halt)?;
     Ok(b.finish_program())
 }

@@ -9,17 +9,18 @@ ghost use Rattle.gen_query.specs.Queries.{conjuncts_steps};
 ghost use Rattle.gen_query.specs.Truths.{GivesTruth, IsTruth};
 ghost use Rattle.sql_meaning.specs.Expression.{value_of};
 ghost use Rattle.sql_meaning.specs.Statement.{after_conjunct, sifted};
-ghost use Rattle.vm_code.specs.Frames.{Leaves, Sifts};
+ghost use Rattle.vm_code.specs.Frames.{Leaves, Sifts, no_calls};
 
 use eng_value::{BinaryOperator, UnaryOperator};
 use gen_expr::emit;
 use sql_meaning::BoundExpr;
-use std::alloc::AllocError;
-use vm_code::{Builder, Op};
+use std::alloc::{AllocError, Global};
+use vm_code::{Builder, Op, Operand};
 
 /// Writes code that jumps to the label `next` where one of the conjuncts is false or NULL, and else adds the causes of those that
 /// are bad to those in the register `causes`. A bad one does not jump, so a later one that is false still rejects the row.
 pub(crate) fn emit_conjuncts(
+    alloc: Global,
     b: &mut Builder,
     conjuncts: &[BoundExpr],
     causes: u32,
@@ -27,17 +28,18 @@ pub(crate) fn emit_conjuncts(
 ) -> Result<(), AllocError>
     requires taken { causes < b.old.next }
     requires counted { b.old.next ≤ b.old.most }
-    ensures sifts { OnOk result (Sifts b.old b.new causes next (λ env. sifted conjuncts.now env) (λ _. conjuncts_steps conjuncts.now)) }
+    ensures sifts { OnOk result (Sifts no_calls b.old b.new causes next (λ env. sifted conjuncts.now env) (λ _. conjuncts_steps conjuncts.now)) }
     ensures cursors { OnOk result (b.new.cursors ≡ b.old.cursors) }
 {
     for conjunct in conjuncts {
-        emit_conjunct(b, conjunct, causes, next)?;
+        emit_conjunct(alloc, b, conjunct, causes, next)?;
     }
     Ok(())
 }
 
 /// The same for one conjunct.
 fn emit_conjunct(
+    alloc: Global,
     b: &mut Builder,
     conjunct: &BoundExpr,
     causes: u32,
@@ -45,11 +47,11 @@ fn emit_conjunct(
 ) -> Result<(), AllocError>
     requires taken { causes < b.old.next }
     requires counted { b.old.next ≤ b.old.most }
-    ensures sifts { OnOk result (Sifts b.old b.new causes next (λ env found. after_conjunct found (truth_in (truth_of (value_of conjunct.now env)))) (λ _. steps_of conjunct.now + 3)) }
+    ensures sifts { OnOk result (Sifts no_calls b.old b.new causes next (λ env found. after_conjunct found (truth_in (truth_of (value_of conjunct.now env)))) (λ _. steps_of conjunct.now + 3)) }
     ensures cursors { OnOk result (b.new.cursors ≡ b.old.cursors) }
 {
     let value = b.take()?;
-    emit_truth(b, conjunct, value)?;
+    emit_truth(alloc, b, conjunct, value)?;
     b.op(Op::IfNot {
         register: value,
         target: next,
@@ -64,19 +66,19 @@ fn emit_conjunct(
 }
 
 /// Writes code that leaves the truth of an expression in the register `to`. What gives truths already needs no instruction more.
-fn emit_truth(b: &mut Builder, e: &BoundExpr, to: u32) -> Result<(), AllocError>
+fn emit_truth(alloc: Global, b: &mut Builder, e: &BoundExpr, to: u32) -> Result<(), AllocError>
     requires taken { to < b.old.next }
     requires counted { b.old.next ≤ b.old.most }
-    ensures leaves { OnOk result (Leaves b.old b.new to (λ env. truth_of (value_of e.now env)) (λ _. steps_of e.now + 1)) }
+    ensures leaves { OnOk result (Leaves no_calls b.old b.new to (λ env. truth_of (value_of e.now env)) (λ _. steps_of e.now + 1)) }
     ensures cursors { OnOk result (b.new.cursors ≡ b.old.cursors) }
 {
-    emit(b, e, to)?;
+    emit(alloc, b, e, to)?;
     if gives_truth(e) {
         return Ok(());
     }
     b.op(Op::Unary {
         operator: UnaryOperator::Truth,
-        from: to,
+        operand: Operand::Register(to),
         to,
     })?;
     Ok(())

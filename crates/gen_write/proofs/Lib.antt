@@ -1,3 +1,4 @@
+mod Courses
 mod Sources
 mod Columns
 mod Refusals

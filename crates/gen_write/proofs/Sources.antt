@@ -1,23 +1,22 @@
 -- A source by its literals and by the definitions.
-use Rattle.std.proofs.Common.{◌≡◌, ℕ, ◌≤◌, List, [], ◌∷◌, Bool, true, false, cond, map, fold, find, sum_by, ℤ, Some, None, refl, ap, ◌∙◌, arith}
+use Rattle.std.proofs.Common.{◌≡◌, ◌≤◌, List, [], ◌∷◌, Bool, true, false, cond, map, fold, find, sum_by, Some, None, refl, ap, ◌∙◌, arith}
 use Rattle.std.specs.declared.option.Option.{Option}
 use Rattle.std.proofs.lemmas.List.Sums.{sum_by-cons}
 use Rattle.eng_value.specs.Casts.{store_as}
 use Rattle.eng_value.specs.Causes.{CauseSet}
 use Rattle.eng_value.specs.Environments.{no_causes, with_causes}
-use Rattle.eng_value.specs.StoredRows.{next_rowid}
 use Rattle.eng_value.specs.declared.affinity.Affinity.{Affinity}
 use Rattle.eng_value.specs.declared.out.Out.{Out}
 use Rattle.eng_value.specs.declared.out.Out.TheVariants.{Good, Bad}
-use Rattle.eng_value.specs.declared.value.Value.{Value}
-use Rattle.gen_write.specs.Stretches.{and_on, causes_in, ended_by, holds_bad, literals_put, literals_run, stored_literals}
-use Rattle.gen_write.specs.Writes.{finished, row_put, row_steps, row_under, rows_run, stored_as}
+use Rattle.gen_write.specs.Stretches.{causes_in, holds_bad, literals_put, literals_run, stored_literals}
+use Rattle.gen_write.specs.Writes.{row_put, row_steps, rows_run, stored_as}
+use Rattle.gen_write.proofs.Courses.{and_on-same, row_put-and_on}
 use Rattle.sql_meaning.specs.Expression.{literal_out}
-use Rattle.sql_meaning.specs.Statement.{Item, Row, Failed as BadItem, given_of, good_or_null, item_by, item_of, refusal_of}
+use Rattle.sql_meaning.specs.Statement.{Item, Row, given_of, good_or_null, item_by, item_of, refusal_of}
 use Rattle.sql_meaning.specs.declared.bound.BoundInsert.{BoundInsert}
 use Rattle.sql_meaning.specs.declared.bound.Literal.{Literal}
 use Rattle.sql_meaning.specs.declared.bound.Literal.TheVariants as literal
-use Rattle.vm_code.specs.Machine.{Run, Shared, Ending, Finished, Failed, rows_of}
+use Rattle.vm_code.specs.Machine.{Shared}
 
 abbrev pub source_item : List Literal → Item
 source_item row = item_of no_causes (map literal_out row)
@@ -90,39 +89,23 @@ takes_no_more [] = tt
 takes_no_more (row ∷ rows) =
     find_by row rows (TakesNoMore (row ∷ rows)) (λ e. omega (arith, sum_by-cons row_steps row rows)) (λ e. takes-more row rows (find holds_bad rows) (takes_no_more rows))
 
--- ---- the runs
+-- ---- the courses
 
-row_under-and_on : (table : ℕ) (name : List ℕ) (x : Shared) (values : List Value) (o : Option ℤ) (others : Shared → Run) → row_under table name x values o others ≡ and_on (row_under table name x values o finished) others
-row_under-and_on table name x values None others = refl
-row_under-and_on table name x values (Some rowid) others = refl
+abbrev pub CoursesSame : BoundInsert → List (List Literal) → Option (List Literal) → Type 0
+CoursesSame b rows None = (x : Shared) → rows_run b (given_of (map source_item rows)) x ≡ literals_run b rows x
+CoursesSame b rows (Some row) = Unit {0}
 
-row_put-and_on : (table : ℕ) (name : List ℕ) (x : Shared) (i : Item) (others : Shared → Run) → row_put table name x i others ≡ and_on (row_put table name x i finished) others
-row_put-and_on table name x (BadItem causes) others = refl
-row_put-and_on table name x (Row values) others =
-    row_under-and_on table name x values (next_rowid (rows_of x.world table)) others
-
-and_on-same : (r : Run) (f g : Shared → Run) → ((x : Shared) → f x ≡ g x) → and_on r f ≡ and_on r g
-and_on-same r f g e = by r.ending
-  where
-    by : (o : Ending) → ended_by o r.shared f ≡ ended_by o r.shared g
-    by Finished = e r.shared
-    by (Failed causes) = refl
-
-abbrev pub RunsSame : BoundInsert → List (List Literal) → Option (List Literal) → Type 0
-RunsSame b rows None = (x : Shared) → rows_run b (given_of (map source_item rows)) x ≡ literals_run b rows x
-RunsSame b rows (Some row) = Unit {0}
-
-runs-more : (b : BoundInsert) (row : List Literal) (rows : List (List Literal)) (o : Option (List Literal)) → holds_bad row ≡ false → RunsSame b rows o → RunsSame b (row ∷ rows) o
-runs-more b row rows (Some bad) e same = tt
-runs-more b row rows None e same = λ x.
+courses-more : (b : BoundInsert) (row : List Literal) (rows : List (List Literal)) (o : Option (List Literal)) → holds_bad row ≡ false → CoursesSame b rows o → CoursesSame b (row ∷ rows) o
+courses-more b row rows (Some bad) e same = tt
+courses-more b row rows None e same = λ x.
     let rest = given_of (map source_item rows) in
     ap (λ i. rows_run b (given_of (i ∷ map source_item rows)) x) (item-good row e)
     ∙ ap (λ outs. row_put b.table b.name x (item_of no_causes outs) (rows_run b rest)) (stored-good b.affinities row e)
     ∙ row_put-and_on b.table b.name x (item_of no_causes (stored_literals b.affinities row)) (rows_run b rest)
     ∙ and_on-same (literals_put b row x) (rows_run b rest) (literals_run b rows) same
 
--- where no row is bad, the values' run is the literals'
-pub runs_same : (b : BoundInsert) (rows : List (List Literal)) → RunsSame b rows (find holds_bad rows)
-runs_same b [] = λ x. refl
-runs_same b (row ∷ rows) =
-    find_by row rows (RunsSame b (row ∷ rows)) (λ e. tt) (λ e. runs-more b row rows (find holds_bad rows) e (runs_same b rows))
+-- where no row is bad, the values' course is the literals'
+pub courses_same : (b : BoundInsert) (rows : List (List Literal)) → CoursesSame b rows (find holds_bad rows)
+courses_same b [] = λ x. refl
+courses_same b (row ∷ rows) =
+    find_by row rows (CoursesSame b (row ∷ rows)) (λ e. tt) (λ e. courses-more b row rows (find holds_bad rows) e (courses_same b rows))

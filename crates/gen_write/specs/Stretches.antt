@@ -1,13 +1,14 @@
 -- What the stretches of a write's code do.
-use Rattle.std.specs.Prelude.{◌≡◌, ◌≢◌, ℕ, ◌+◌, ◌*◌, ◌≤◌, ◌<◌, List, [], ◌∷◌, length, map, fold, None, Bool, true, false}
+use Rattle.std.specs.Prelude.{◌≡◌, ◌≢◌, ℕ, ◌+◌, ◌*◌, ◌≤◌, ◌<◌, List, [], ◌∷◌, length, map, fold, ℤ, Option, Some, None, Bool, true, false}
 use Rattle.std.specs.List.{list_any}
 use Rattle.eng_value.specs.Casts.{store_as}
-use Rattle.eng_value.specs.Environments.{no_causes, with_causes}
+use Rattle.eng_value.specs.Causes.{CauseSet}
+use Rattle.eng_value.specs.Environments.{Surroundings, no_causes, with_causes}
 use Rattle.eng_value.specs.Outs.{turned}
 use Rattle.eng_value.specs.declared.affinity.Affinity.{Affinity}
 use Rattle.eng_value.specs.declared.out.Out.{Out}
-use Rattle.eng_value.specs.declared.value.Value.{Value}
-use Rattle.gen_write.specs.Writes.{failed, finished, row_put, untouched}
+use Rattle.eng_value.specs.declared.out.Out.TheVariants.{Good, Bad}
+use Rattle.gen_write.specs.Writes.{Course, failed, finished, row_put, run_by, untouched}
 use Rattle.sql_meaning.specs.Expression.{literal_out}
 use Rattle.sql_meaning.specs.Statement.{item_of}
 use Rattle.sql_meaning.specs.declared.bound.BoundInsert.{BoundInsert}
@@ -15,8 +16,9 @@ use Rattle.sql_meaning.specs.declared.bound.Literal.{Literal}
 use Rattle.sql_meaning.specs.declared.bound.Literal.TheVariants as literal
 use Rattle.vm_code.specs.declared.op.Op.TheVariants as op
 use Rattle.vm_code.specs.Draft.{Draft, bound, taken, with_label, with_op}
-use Rattle.vm_code.specs.Frames.{Grows, Holds, Ready}
-use Rattle.vm_code.specs.Machine.{World, Shared, Setting, State, Ending, Finished, Failed, Run, Open, Reaches, Ends, cursor_at, ending_of, outs_from, read}
+use Rattle.vm_code.specs.Tracked.{Steady}
+use Rattle.vm_code.specs.Frames.{Calls, Gave, Grows, Holds, Ready}
+use Rattle.vm_code.specs.Machine.{Shared, Setting, State, Run, Open, Reaches, cursor_at, outs_from, read}
 
 -- ---- the source
 
@@ -31,9 +33,14 @@ holds_bad row = list_any is_bad_literal row
 abbrev pub causes_in : List Literal → Out
 causes_in row = fold with_causes no_causes (map literal_out row)
 
--- nothing is changed
-abbrev pub refused_run : List Literal → List Value → World → Run
-refused_run row params w = record { ending = ending_of (causes_in row); shared = untouched params w }
+-- by what a register came to
+abbrev pub left_with : Out → Shared → Course
+left_with (Good v) x = finished x
+left_with (Bad causes) x = failed causes x
+
+-- nothing is written
+abbrev pub refused_run : List Literal → Surroundings → ℤ → Run
+refused_run row x last_rowid = run_by (left_with (causes_in row) (untouched x.world last_rowid))
 
 -- ---- the columns of a row
 
@@ -53,16 +60,17 @@ pub record Stored (m : Setting) (most : ℕ) (s : State) (place mark causes : �
   pub keeps : (k : ℕ) → k < mark → k ≢ causes → read regs k ≡ read s.regs k
 
 -- code that leaves what columns store in the registers that it takes, and gathers their causes
-pub record Stores (a b : Draft) (causes : ℕ) (outs : List Out) : Type 0 where
+pub record Stores (calls : Calls) (a b : Draft) (causes : ℕ) (outs : List Out) : Type 0 where
   pub grows : Grows a b
   pub next : b.next ≡ a.next + length outs
   pub counted : b.next ≤ b.most
-  pub stores : (m : Setting) (u : ℕ) (at : ℕ → ℕ) → Holds b m.prog u at → (s : State) → Ready b u s → s.pc ≡ length a.code
+  pub steady : Steady [] [] a b
+  pub stores : (m : Setting) → calls m → (u : ℕ) (at : ℕ → ℕ) → Holds b m.prog u at → (s : State) → Ready b u s → s.pc ≡ length a.code
       → Stored m (3 * length outs) s (length b.code) a.next causes outs
 
--- a row is put of registers, or the run ends where another is bad
-abbrev pub with_row_put : Draft → ℕ → ℕ → ℕ → ℕ → List ℕ → Draft
-with_row_put d cursor causes first count name =
+-- a row is put of registers, or the unit gives up where another is bad
+abbrev pub with_row_code : Draft → ℕ → ℕ → ℕ → ℕ → List ℕ → Draft
+with_row_code d cursor causes first count name =
     bound (with_op (bound (with_op (with_op (with_op (with_op (taken (with_label (with_label d))) (op.IsBad causes (length (with_label d).labels))) (op.NewRowid cursor d.next name)) (op.Insert cursor d.next first count)) (op.Goto (length d.labels))) (length (with_label d).labels)) (op.HaltBad causes)) (length d.labels)
 
 -- ---- rows
@@ -74,32 +82,37 @@ pub record Got (m : Setting) (most : ℕ) (s : State) (place mark : ℕ) (x : Sh
   pub long : length regs ≡ length s.regs
   pub keeps : (k : ℕ) → k < mark → read regs k ≡ read s.regs k
 
-abbrev pub Ran : Setting → ℕ → State → ℕ → ℕ → Ending → Shared → Type 0
-Ran m most s place mark Finished x = Got m most s place mark x
-Ran m most s place mark (Failed causes) x = Ends m most s (Failed causes) x
+abbrev pub Ran : Setting → ℕ → State → ℕ → ℕ → Option CauseSet → Shared → Type 0
+Ran m most s place mark None x = Got m most s place mark x
+Ran m most s place mark (Some causes) x = Gave m most s causes x
 
--- code that runs so on what is shared, through a cursor that is open on a table
-pub record Puts (a b : Draft) (cursor table : ℕ) (run : Shared → Run) (most : ℕ) : Type 0 where
+-- code that takes this course from what is shared, through a cursor that is open on a table
+pub record Puts (calls : Calls) (a b : Draft) (cursor table : ℕ) (course : Shared → Course) (most : ℕ) : Type 0 where
   pub grows : Grows a b
   pub next : b.next ≡ a.next
-  pub puts : (m : Setting) (u : ℕ) (at : ℕ → ℕ) → Holds b m.prog u at → (s : State) → Ready b u s → s.pc ≡ length a.code → cursor_at s.cursors cursor ≡ Open table None
-      → Ran m most s (length b.code) a.next (run s.shared).ending (run s.shared).shared
+  pub steady : Steady (cursor ∷ []) [] a b
+  pub puts : (m : Setting) → calls m → (u : ℕ) (at : ℕ → ℕ) → Holds b m.prog u at → (s : State) → Ready b u s → s.pc ≡ length a.code → cursor_at s.scene.cursors cursor ≡ Open table None
+      → Ran m most s (length b.code) a.next (course s.shared).causes (course s.shared).shared
 
--- ---- runs
+-- ---- courses
 
-abbrev pub ended_by : Ending → Shared → (Shared → Run) → Run
-ended_by Finished x others = others x
-ended_by (Failed causes) x others = failed causes x
+abbrev pub unless_failed : Option CauseSet → Shared → (Shared → Course) → Course
+unless_failed None x others = others x
+unless_failed (Some causes) x others = failed causes x
 
--- a run and then another, unless the first fails
-abbrev pub and_on : Run → (Shared → Run) → Run
-and_on r others = ended_by r.ending r.shared others
+-- one and then another, unless the first gives up
+abbrev pub and_on : Course → (Shared → Course) → Course
+and_on c others = unless_failed c.causes c.shared others
 
 -- a row by its literals
-abbrev pub literals_put : BoundInsert → List Literal → Shared → Run
+abbrev pub literals_put : BoundInsert → List Literal → Shared → Course
 literals_put b row x = row_put b.table b.name x (item_of no_causes (stored_literals b.affinities row)) finished
 
 -- one row after another
-abbrev pub literals_run : BoundInsert → List (List Literal) → Shared → Run
+abbrev pub literals_run : BoundInsert → List (List Literal) → Shared → Course
 literals_run b [] x = finished x
 literals_run b (row ∷ rows) x = and_on (literals_put b row x) (literals_run b rows)
+
+-- all rows are put, the first upon what was there
+abbrev pub stored_run : BoundInsert → Surroundings → ℤ → Run
+stored_run b x last_rowid = run_by (literals_run b b.rows (untouched x.world last_rowid))

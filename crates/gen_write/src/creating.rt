@@ -1,6 +1,7 @@
 // The program of a CREATE TABLE.
 ghost use Rattle.std.specs.Prelude.{IfOk};
 ghost use Rattle.gen_write.specs.Writes.{create_run, create_steps};
+ghost use Rattle.vm_code.specs.Balanced.{IsBalanced};
 ghost use Rattle.vm_code.specs.Machine.{Performs};
 
 use sqlite_items::Items;
@@ -10,7 +11,8 @@ use vm_code::{Builder, Op, Program};
 /// The program of a CREATE TABLE (SQL As Understood By SQLite, "CREATE TABLE"), which adds the table's list of rows behind the
 /// others. What the catalog keeps of the table is not its work. Only memory can fail.
 pub fn compile_create(alloc: Global) -> Result<Program, AllocError>
-    ensures { IfOk result (λ p. Performs p (λ x. create_run x.params x.world) create_steps) }
+    ensures performs { IfOk result (λ p. Performs p create_run create_steps) }
+    ensures balanced { IfOk result (λ p. IsBalanced p.main) }
 {
     let mut b = Builder::new(alloc, Items::new(alloc));
     b.op(Op::Schema)?;

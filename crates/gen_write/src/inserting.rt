@@ -1,7 +1,8 @@
 // The program of an INSERT.
 ghost use Rattle.std.specs.Prelude.{IfOk, sum_by, ◌+◌};
-ghost use Rattle.gen_write.specs.Writes.{put_run, put_steps, row_steps, untouched};
-ghost use Rattle.gen_write.specs.Stretches.{literals_run};
+ghost use Rattle.gen_write.specs.Writes.{put_run, put_steps, row_steps};
+ghost use Rattle.gen_write.specs.Stretches.{stored_run};
+ghost use Rattle.vm_code.specs.Balanced.{IsBalanced};
 ghost use Rattle.vm_code.specs.Machine.{Performs};
 
 use crate::refusing::{compile_refusal, first_bad};
@@ -16,7 +17,8 @@ use vm_code::{Builder, Op, Program};
 /// affinities of the columns and put under the rowid behind the others; the run ends with the causes of the first that cannot
 /// be stored, and with `Full`, which names the table, where no rowid is left. Only memory can fail here.
 pub fn compile_insert(alloc: Global, insert: &BoundInsert) -> Result<Program, AllocError>
-    ensures { IfOk result (λ p. Performs p (λ x. put_run insert.now x.params x.world) (put_steps insert.now)) }
+    ensures performs { IfOk result (λ p. Performs p (put_run insert.now) (put_steps insert.now)) }
+    ensures balanced { IfOk result (λ p. IsBalanced p.main) }
 {
     match first_bad(insert.rows.as_slice()) {
         Some(row) => compile_refusal(alloc, row.as_slice()),
@@ -26,7 +28,8 @@ pub fn compile_insert(alloc: Global, insert: &BoundInsert) -> Result<Program, Al
 
 /// The program that puts each row.
 fn compile_rows(alloc: Global, insert: &BoundInsert) -> Result<Program, AllocError>
-    ensures { IfOk result (λ p. Performs p (λ x. literals_run insert.now insert.now.rows (untouched x.params x.world)) (λ _. sum_by row_steps insert.now.rows + 3)) }
+    ensures performs { IfOk result (λ p. Performs p (stored_run insert.now) (λ _. sum_by row_steps insert.now.rows + 3)) }
+    ensures balanced { IfOk result (λ p. IsBalanced p.main) }
 {
     let mut b = Builder::new(alloc, Items::new(alloc));
     let cursor = b.cursor()?;

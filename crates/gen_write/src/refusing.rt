@@ -2,7 +2,8 @@
 ghost use Rattle.std.specs.Prelude.{◌≡◌, ◌+◌, ◌*◌, ◌<◌, ◌≤◌, IfOk, OnOk, find, length};
 ghost use Rattle.std.specs.Option.{option_copied};
 ghost use Rattle.gen_write.specs.Stretches.{causes_in, holds_bad, is_bad_literal, refused_run};
-ghost use Rattle.vm_code.specs.Frames.{Leaves};
+ghost use Rattle.vm_code.specs.Frames.{Leaves, no_calls};
+ghost use Rattle.vm_code.specs.Balanced.{IsBalanced};
 ghost use Rattle.vm_code.specs.Machine.{Performs};
 
 use gen_expr::emit_literal;
@@ -35,7 +36,8 @@ fn is_bad(literal: &Literal) -> bool
 
 /// The program that ends with the causes of a row's literals and changes nothing.
 pub(crate) fn compile_refusal(alloc: Global, row: &[Literal]) -> Result<Program, AllocError>
-    ensures { IfOk result (λ p. Performs p (λ x. refused_run row.now x.params x.world) (λ _. 2 * length row.now + 2)) }
+    ensures performs { IfOk result (λ p. Performs p (refused_run row.now) (λ _. 2 * length row.now + 2)) }
+    ensures balanced { IfOk result (λ p. IsBalanced p.main) }
 {
     let mut b = Builder::new(alloc, Items::new(alloc));
     let causes = b.take()?;
@@ -48,7 +50,7 @@ pub(crate) fn compile_refusal(alloc: Global, row: &[Literal]) -> Result<Program,
 fn emit_causes(b: &mut Builder, row: &[Literal], causes: u32) -> Result<(), AllocError>
     requires taken { causes < b.old.next }
     requires counted { b.old.next ≤ b.old.most }
-    ensures leaves { OnOk result (Leaves b.old b.new causes (λ _. causes_in row.now) (λ _. 2 * length row.now + 1)) }
+    ensures leaves { OnOk result (Leaves no_calls b.old b.new causes (λ _. causes_in row.now) (λ _. 2 * length row.now + 1)) }
 {
     b.op(Op::Null { to: causes })?;
     for literal in row {

@@ -3,8 +3,9 @@ ghost use Rattle.std.specs.Prelude.{◌≡◌, ◌+◌, ◌<◌, ◌≤◌, [], 
 ghost use Rattle.eng_value.specs.Casts.{store_as};
 ghost use Rattle.eng_value.specs.Outs.{turned};
 ghost use Rattle.gen_write.specs.Writes.{row_steps};
-ghost use Rattle.gen_write.specs.Stretches.{Puts, Stores, literals_put, literals_run, stored_literals, with_row_put};
+ghost use Rattle.gen_write.specs.Stretches.{Puts, Stores, literals_put, literals_run, stored_literals, with_row_code};
 ghost use Rattle.sql_meaning.specs.Expression.{literal_out};
+ghost use Rattle.vm_code.specs.Frames.{no_calls};
 
 use eng_value::{Affinity, Text};
 use gen_expr::emit_literal;
@@ -19,7 +20,7 @@ pub(crate) fn emit_rows(
     insert: &BoundInsert,
 ) -> Result<(), AllocError>
     requires counted { b.old.next ≤ b.old.most }
-    ensures puts { OnOk result (Puts b.old b.new cursor insert.now.table (literals_run insert.now insert.now.rows) (sum_by row_steps insert.now.rows)) }
+    ensures puts { OnOk result (Puts no_calls b.old b.new cursor insert.now.table (literals_run insert.now insert.now.rows) (sum_by row_steps insert.now.rows)) }
     ensures cursors { OnOk result (b.new.cursors ≡ b.old.cursors) }
 {
     for row in insert.rows.as_slice() {
@@ -36,7 +37,7 @@ fn emit_row(
     row: &[Literal],
 ) -> Result<(), AllocError>
     requires counted { b.old.next ≤ b.old.most }
-    ensures puts { OnOk result (Puts b.old b.new cursor insert.now.table (literals_put insert.now row.now) (row_steps row.now)) }
+    ensures puts { OnOk result (Puts no_calls b.old b.new cursor insert.now.table (literals_put insert.now row.now) (row_steps row.now)) }
     ensures cursors { OnOk result (b.new.cursors ≡ b.old.cursors) }
 {
     let causes = b.take()?;
@@ -59,7 +60,7 @@ fn emit_columns(
 ) -> Result<(), AllocError>
     requires taken { causes < b.old.next }
     requires counted { b.old.next ≤ b.old.most }
-    ensures stores { OnOk result (Stores b.old b.new causes (stored_literals affinities.now row.now)) }
+    ensures stores { OnOk result (Stores no_calls b.old b.new causes (stored_literals affinities.now row.now)) }
     ensures cursors { OnOk result (b.new.cursors ≡ b.old.cursors) }
 {
     for (affinity, literal) in affinities.iter().zip(row) {
@@ -77,7 +78,7 @@ fn emit_column(
 ) -> Result<(), AllocError>
     requires taken { causes < b.old.next }
     requires counted { b.old.next ≤ b.old.most }
-    ensures stores { OnOk result (Stores b.old b.new causes (turned (store_as affinity) (literal_out literal.now) ∷ [])) }
+    ensures stores { OnOk result (Stores no_calls b.old b.new causes (turned (store_as affinity) (literal_out literal.now) ∷ [])) }
     ensures cursors { OnOk result (b.new.cursors ≡ b.old.cursors) }
 {
     let to = b.take()?;
@@ -102,7 +103,7 @@ fn put_row(
     count: u32,
     name: &Text,
 ) -> Result<(), AllocError>
-    ensures { OnOk result (b.new ≡ with_row_put b.old cursor causes first count name.now) }
+    ensures { OnOk result (b.new ≡ with_row_code b.old cursor causes first count name.now) }
 {
     let next = b.label()?;
     let fail = b.label()?;
@@ -123,8 +124,8 @@ fn put_row(
         count,
     })?;
     b.op(Op::Goto { target: next })?;
-    b.bind(fail);
+    b.bind(fail)?;
     b.op(Op::HaltBad { register: causes })?;
-    b.bind(next);
+    b.bind(next)?;
     Ok(())
 }

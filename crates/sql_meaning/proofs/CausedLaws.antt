@@ -1,10 +1,14 @@
 -- Whatever is bad in a statement has a cause, so that each refusal can be told.
-use Rattle.std.proofs.Common.{ℕ, length, List, [], ◌∷◌, ◌++◌, Some, None, Ok, Err, Result, map, fold, flat_map, sym, subst, zero, suc}
+use Rattle.std.proofs.Common.{◌≡◌, ◌||◌, ◌∙◌, ap, inl, inr, true, ℕ, List, [], ◌∷◌, ◌++◌, Some, None, Ok, Err, Result, map, fold, flat_map, sym, subst, zero, suc}
 use Rattle.std.specs.Bool.{⊤}
+use Rattle.std.specs.Cmp.Lexicographic.{nat_list_cmp_total}
+use Rattle.std.specs.FinSet as set
 use Rattle.std.specs.Prelude.{slice_index_or, slice_set}
 use Rattle.std.specs.Option.{option_map, option_to_list}
 use Rattle.std.specs.declared.option.Option.{Option}
-use Rattle.eng_value.specs.Causes.{CauseSet}
+use Rattle.eng_value.specs.Causes.{CauseSet, cause_key, has_cause, named, only}
+use Rattle.eng_value.specs.Written.{Written}
+use Rattle.eng_value.proofs.CauseLaws.{has_cause-only, named-only, named-other}
 use Rattle.eng_value.specs.Comparisons.{comparison_of}
 use Rattle.eng_value.specs.Collations.{keys_of}
 use Rattle.eng_value.specs.Environments.{Environment, ItemRow, carried, column_of, ignoring, no_causes, null_row, table_row, with_causes, without_column}
@@ -33,9 +37,9 @@ use Rattle.sql_meaning.specs.declared.column.Column.{Column}
 use Rattle.sql_meaning.specs.declared.column.TableEntry.{TableEntry}
 use Rattle.sql_meaning.specs.Binding.{◌>>=◌}
 use Rattle.sql_meaning.specs.Expression.{Arm, MatchArm, Meaning, arm_of, arm_step, chosen_in, first_known, in_all, literal_out, match_of, match_step, matched_in, parameter_of, value_of, value_step}
-use Rattle.sql_meaning.specs.Statement.{IsNamed, Item, Row, Failed, after_conjunct, all_put, bound_outcome, causes_of, given_of, if_some, item_by, item_of, item_put, item_rows, items_at, items_of, outcome_of, product, put_source, refusal_of, row_put, row_under, rows_put, shown, sifted, source_of, stored, text_bound, text_outcome, with_others}
-use Rattle.sql_meaning.specs.World.{Context, State, environment_at, rows_of}
-use Rattle.sql_meaning.proofs.CausedOperators.{AreCaused, IsCaused, IsCausedSet, IsCausedTruth, and_of-caused, bad-caused, binary_of-caused, choice_of-caused, comparison_of-caused, function_by-caused, good, like_escaped_of-caused, made-caused, member_of-caused, merged-caused, only-caused, or_else-caused, store_as-caused, truth_in-caused, truth_of-caused, unary_of-caused, union_left}
+use Rattle.sql_meaning.specs.Statement.{IsNamed, Item, Row, Failed, after_conjunct, all_put, begun, bound_outcome, causes_of, given_of, if_some, item_by, item_of, item_put, item_rows, items_at, items_of, outcome_of, product, put_source, refusal_of, row_put, row_under, rows_put, shown, sifted, source_of, stored, text_bound, text_outcome, with_others}
+use Rattle.sql_meaning.specs.World.{Context, State, environment_at, rows_at, rows_of, table_at}
+use Rattle.sql_meaning.proofs.CausedOperators.{AreCaused, IsCaused, IsCausedSet, IsCausedTruth, and_of-caused, bad-caused, binary_of-caused, choice_of-caused, comparison_of-caused, function_by-caused, good, like_escaped_of-caused, made-caused, member_of-caused, merged-caused, only-caused, or_else-caused, store_as-caused, truth_in-caused, truth_of-caused, unary_of-caused, union-caused}
 
 -- ---- rows whose causes are causes
 
@@ -263,53 +267,72 @@ items-told ctx conjuncts results (rows ∷ all) c =
     told-append (items_at conjuncts results (environment_at ctx rows)) (flat_map (λ rows. items_at conjuncts results (environment_at ctx rows)) all)
     (at-told conjuncts results (environment_at ctx rows) c.0) (items-told ctx conjuncts results all c.1)
 
+-- ---- a refusal
+
+-- one of its causes is named
+abbrev ToldRefusal : Option CauseSet → Type 0
+ToldRefusal None = ⊤
+ToldRefusal (Some causes) = (why : Cause) × (has_cause causes why ≡ true)
+
+told_only : (why : Cause) → ToldRefusal (Some (only why))
+told_only why = (why, has_cause-only why)
+
+told_named : (causes : CauseSet) → IsCausedSet causes → ToldRefusal (Some (named causes))
+told_named causes (inl h) = (h.0, named-other causes h.0 h.1 h.2)
+told_named causes (inr is) = subst (λ s. ToldRefusal (Some (named s))) (sym is) (subst (λ s. ToldRefusal (Some s)) (sym (named-only cause.Skip)) (told_only cause.Skip))
+
+refusal-named : (causes : Option CauseSet) → ToldCauses causes → ToldRefusal (option_map named causes)
+refusal-named None c = tt
+refusal-named (Some causes) c = told_named causes c
+
 -- ---- a write
 
-abbrev ToldRows : Result (List StoredRow) CauseSet → Type 0
-ToldRows (Ok rows) = ⊤
-ToldRows (Err causes) = IsCausedSet causes
+abbrev ToldWrite : Result Written CauseSet → Type 0
+ToldWrite (Ok x) = ⊤
+ToldWrite (Err causes) = IsCausedSet causes
 
 stored-caused : (columns : List Column) (values : List Value) → AreCaused (stored columns values)
 stored-caused [] values = tt
 stored-caused (c ∷ columns) [] = tt
 stored-caused (c ∷ columns) (v ∷ values) = (store_as-caused c.affinity v, stored-caused columns values)
 
-under-told : (t : TableEntry) (rows : List StoredRow) (values : List Value) (rowid : Option ℤ) → ToldRows (row_under t rows values rowid)
-under-told t rows values None = only-caused (cause.Full t.name)
-under-told t rows values (Some rowid) = tt
+under-told : (t : TableEntry) (table : ℕ) (x : Written) (values : List Value) (rowid : Option ℤ) → ToldWrite (row_under t table x values rowid)
+under-told t table x values None = only-caused (cause.Full t.name)
+under-told t table x values (Some rowid) = tt
 
-item_put-told : (t : TableEntry) (rows : List StoredRow) (i : Item) → ToldItem i → ToldRows (item_put t rows i)
-item_put-told t rows (Row values) c = under-told t rows values (next_rowid rows)
-item_put-told t rows (Failed causes) c = c
+item_put-told : (t : TableEntry) (table : ℕ) (x : Written) (i : Item) → ToldItem i → ToldWrite (item_put t table x i)
+item_put-told t table x (Row values) c = under-told t table x values (next_rowid (rows_at x.world table))
+item_put-told t table x (Failed causes) c = c
 
-and_then-told : (r : Result (List StoredRow) CauseSet) (g : List StoredRow → Result (List StoredRow) CauseSet) → ToldRows r → ((rows : List StoredRow) → ToldRows (g rows)) → ToldRows (r >>= g)
-and_then-told (Ok rows) g c h = h rows
+and_then-told : (r : Result Written CauseSet) (g : Written → Result Written CauseSet) → ToldWrite r → ((x : Written) → ToldWrite (g x)) → ToldWrite (r >>= g)
+and_then-told (Ok x) g c h = h x
 and_then-told (Err causes) g c h = c
 
-rows_put-told : (t : TableEntry) (rows : List StoredRow) (source : List (List Value)) → ToldRows (rows_put t rows source)
-rows_put-told t rows [] = tt
-rows_put-told t rows (row ∷ source) =
-    and_then-told (row_put t rows row) (λ more. rows_put t more source)
-    (item_put-told t rows (item_of no_causes (stored t.columns row)) (item_of-told no_causes (stored t.columns row) (good value.Null) (stored-caused t.columns row)))
-    (λ more. rows_put-told t more source)
+rows_put-told : (t : TableEntry) (table : ℕ) (x : Written) (source : List (List Value)) → ToldWrite (rows_put t table x source)
+rows_put-told t table x [] = tt
+rows_put-told t table x (row ∷ source) =
+    and_then-told (row_put t table x row) (λ more. rows_put t table more source)
+    (item_put-told t table x (item_of no_causes (stored t.columns row)) (item_of-told no_causes (stored t.columns row) (good value.Null) (stored-caused t.columns row)))
+    (λ more. rows_put-told t table more source)
 
-all_put-told : (state : State) (t : TableEntry) (changed : ℕ) (r : Result (List StoredRow) CauseSet) → ToldRows r → ToldCauses (all_put state t changed r).refusal
-all_put-told state t changed (Ok rows) c = tt
-all_put-told state t changed (Err causes) c = c
+all_put-told : (state : State) (r : Result Written CauseSet) → ToldWrite r → ToldRefusal (all_put state r).refusal
+all_put-told state (Ok x) c = tt
+all_put-told state (Err causes) c = told_named causes c
 
-with_others-told : (causes : CauseSet) (others : Option CauseSet) → IsCausedSet causes → ToldCauses (Some (with_others causes others))
+with_others-told : (causes : CauseSet) (others : Option CauseSet) → ToldRefusal (Some causes) → ToldRefusal (Some (with_others causes others))
 with_others-told causes None c = c
-with_others-told causes (Some others) c = union_left causes others c
+with_others-told causes (Some others) c =
+    (c.0, set.contains-union nat_list_cmp_total causes others (cause_key c.0) ∙ ap (λ b. b || has_cause others c.0) c.1)
 
-causes_of-told : (items : List Item) → AreTold items → ToldCauses (causes_of items)
+causes_of-told : (items : List Item) → AreTold items → ToldRefusal (causes_of items)
 causes_of-told [] c = tt
 causes_of-told (Row row ∷ items) c = causes_of-told items c.1
-causes_of-told (Failed causes ∷ items) c = with_others-told causes (causes_of items) c.0
+causes_of-told (Failed causes ∷ items) c = with_others-told (named causes) (causes_of items) (told_named causes c.0)
 
-put_source-told : (state : State) (p : Put) (causes : Option CauseSet) (source : List (List Value)) → ToldCauses causes → ToldCauses (put_source state p causes source).refusal
+put_source-told : (state : State) (p : Put) (causes : Option CauseSet) (source : List (List Value)) → ToldRefusal causes → ToldRefusal (put_source state p causes source).refusal
 put_source-told state p (Some causes) source c = c
 put_source-told state p None source c =
-    all_put-told state p.table _ (rows_put p.table (rows_of state.world.tables p.table.name) source) (rows_put-told p.table (rows_of state.world.tables p.table.name) source)
+    all_put-told state (rows_put p.table (table_at state.world p.table.name) (begun state) source) (rows_put-told p.table (table_at state.world p.table.name) (begun state) source)
 
 literals-caused : (row : List Literal) → AreCaused (map literal_out row)
 literals-caused [] = tt
@@ -321,19 +344,19 @@ source-told (row ∷ rows) = (item_of-told no_causes (map literal_out row) (good
 
 -- ---- any statement
 
-outcome_of-told : (ctx : Context) (b : BoundStatement) → ToldCauses (outcome_of ctx b).refusal
+outcome_of-told : (ctx : Context) (b : BoundStatement) → ToldRefusal (outcome_of ctx b).refusal
 outcome_of-told ctx (Creates t) = tt
 outcome_of-told ctx (Puts p) = put_source-told ctx.state p (causes_of (source_of p)) (given_of (source_of p)) (causes_of-told (source_of p) (source-told p.rows))
-outcome_of-told ctx (Queries q) = refusal_of-told (items_of ctx q) (items-told ctx q.conjuncts q.results (product ctx q.from []) (product-caused ctx q.from [] tt))
+outcome_of-told ctx (Queries q) = refusal-named (refusal_of (items_of ctx q)) (refusal_of-told (items_of ctx q) (items-told ctx q.conjuncts q.results (product ctx q.from []) (product-caused ctx q.from [] tt)))
 
-bound_outcome-told : (ctx : Context) (r : Result BoundStatement Cause) → ToldCauses (bound_outcome ctx r).refusal
+bound_outcome-told : (ctx : Context) (r : Result BoundStatement Cause) → ToldRefusal (bound_outcome ctx r).refusal
 bound_outcome-told ctx (Ok b) = outcome_of-told ctx b
-bound_outcome-told ctx (Err why) = only-caused why
+bound_outcome-told ctx (Err why) = told_only why
 
-named : (causes : Option CauseSet) → ToldCauses causes → (why : Option Cause) × IsNamed causes why
-named None c = (None, tt)
-named (Some causes) c = (Some c.0, c.1)
+by_name : (causes : Option CauseSet) → ToldRefusal causes → (why : Option Cause) × IsNamed causes why
+by_name None c = (None, tt)
+by_name (Some causes) c = (Some c.0, c.1)
 
 -- a refusal has a cause that can be named
 pub text_outcome-named : (ctx : Context) (text : List ℕ) → (why : Option Cause) × IsNamed (text_outcome ctx text).refusal why
-text_outcome-named ctx text = named (text_outcome ctx text).refusal (bound_outcome-told ctx (text_bound ctx.state.world.catalog text))
+text_outcome-named ctx text = by_name (text_outcome ctx text).refusal (bound_outcome-told ctx (text_bound ctx.state.world.catalog text))

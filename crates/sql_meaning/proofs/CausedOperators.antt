@@ -1,19 +1,20 @@
 -- What an operator or a function finds bad has a cause, where its operands have one.
-use Rattle.std.proofs.Common.{◌≡◌, ℕ, List, [], ◌∷◌, Bool, true, false, ◌||◌, ℤ, pos, int_eq, Some, None, fold, refl, ◌∙◌, ap, if◌then◌else◌}
+use Rattle.std.proofs.Common.{◌≡◌, ◌⊎◌, inl, inr, ℕ, List, [], ◌∷◌, Bool, true, false, ◌||◌, ℤ, pos, int_eq, nat_cmp, Some, None, fold, refl, sym, ◌∙◌, ap, ap₂, subst, if◌then◌else◌}
 use Rattle.std.specs.Bool.{⊤}
 use Rattle.std.specs.FinSet as set
-use Rattle.std.specs.Cmp.Lexicographic.{nat_list_cmp_total}
-use Rattle.std.specs.Ordering.{is_eq}
+use Rattle.std.specs.Cmp.{Equal-is}
+use Rattle.std.specs.Cmp.Lexicographic.{nat_list_cmp_total, slice_cmp, texts_ties}
 use Rattle.std.specs.Prelude.{◌++◌, ◌+ℤ◌, ◌-ℤ◌, ◌*ℤ◌, int_div, neg_ℤ}
 use Rattle.std.specs.Str.{chars}
 use Rattle.std.specs.declared.option.Option.{Option}
-use Rattle.std.proofs.lemmas.Cmp.{tied_itself}
+use Rattle.std.proofs.Math.Bool.{or-false, or_self}
 use Rattle.eng_number.specs.Numbers.{fits_integer, number_prefix, text_kind}
 use Rattle.eng_number.specs.declared.numbers.TextKind.{TextKind}
 use Rattle.eng_number.specs.declared.numbers.TextKind.TheVariants as kind
 use Rattle.eng_value.specs.Applied.{unary_of, binary_of, falsehood_of, or_equal, member_of, or_else, merged, causes_of_all, on_all, function_by}
 use Rattle.eng_value.specs.Casts.{cast, integer_or_real, numeric_text, store_as, store_number, to_number, to_text}
-use Rattle.eng_value.specs.Causes.{CauseSet, cause_key, has_cause, only}
+use Rattle.eng_value.specs.Causes.{CauseSet, cause_key, has_cause, is_same_cause, only}
+use Rattle.eng_value.proofs.CauseLaws.{cause_key-injective, has_cause-only, same_causes, union-comm}
 use Rattle.eng_value.specs.Comparisons.{comparison_of, escape_char, glob_of, is_of, like_escaped_of, like_of, one_char}
 use Rattle.eng_value.specs.Functions as f
 use Rattle.eng_value.specs.Functions.{call_of}
@@ -46,26 +47,52 @@ use Rattle.eng_value.specs.declared.value.Value.TheVariants.{Null, Integer, Text
 
 -- ---- sets that hold a cause
 
-abbrev pub IsCausedSet : CauseSet → Type 0
-IsCausedSet causes = (why : Cause) × (has_cause causes why ≡ true)
+-- one of the causes says more than that the row is left
+abbrev pub HasOther : CauseSet → Type 0
+HasOther causes = (why : Cause) × (is_same_cause why cause.Skip ≡ false) × (has_cause causes why ≡ true)
 
--- the set of one cause holds it
-pub has_cause-only : (why : Cause) → has_cause (only why) why ≡ true
-has_cause-only why =
-    set.contains-insert nat_list_cmp_total set.empty (cause_key why) (cause_key why) ∙ ap (λ o. is_eq o || has_cause set.empty why) (tied_itself nat_list_cmp_total (cause_key why))
+-- so it is, or that the row is left is the only one; so some cause may be named
+abbrev pub IsCausedSet : CauseSet → Type 0
+IsCausedSet causes = HasOther causes ⊎ (causes ≡ only cause.Skip)
+
+-- so it is, or there is none
+abbrev pub IsClear : CauseSet → Type 0
+IsClear causes = IsCausedSet causes ⊎ (causes ≡ set.empty)
+
+skip_by : (why : Cause) → is_same_cause why cause.Skip ≡ true → why ≡ cause.Skip
+skip_by why is =
+    cause_key-injective why cause.Skip (set.slice_cmp-IsAntisymmetric set.nat_cmp-IsAntisymmetric (cause_key why) (cause_key cause.Skip)
+    ((Equal-is (slice_cmp nat_cmp (cause_key why) (cause_key cause.Skip))).0 (sym (texts_ties (cause_key why) (cause_key cause.Skip)) ∙ is)))
 
 pub only-caused : (why : Cause) → IsCausedSet (only why)
-only-caused why = (why, has_cause-only why)
+only-caused why = by (is_same_cause why cause.Skip) refl
+  where
+    by : (b : Bool) → is_same_cause why cause.Skip ≡ b → IsCausedSet (only why)
+    by true is = inr (ap only (skip_by why is))
+    by false is = inl (why, is, has_cause-only why)
 
-or-true : (b : Bool) → (b || true) ≡ true
-or-true true = refl
-or-true false = refl
+union-same : (s : CauseSet) → set.union s s ≡ s
+union-same s = same_causes _ _ (λ q. set.contains-union nat_list_cmp_total s s q ∙ or_self (set.contains s q))
 
-pub union_left : (s t : CauseSet) → IsCausedSet s → IsCausedSet (set.union s t)
-union_left s t h = (h.0, set.contains-union nat_list_cmp_total s t (cause_key h.0) ∙ ap (λ b. b || has_cause t h.0) h.1)
+union-empty : (s : CauseSet) → set.union s set.empty ≡ s
+union-empty s = same_causes _ _ (λ q. set.contains-union nat_list_cmp_total s set.empty q ∙ ap (λ b. set.contains s q || b) (set.contains-empty (slice_cmp nat_cmp) q) ∙ or-false (set.contains s q))
 
-pub union_right : (s t : CauseSet) → IsCausedSet t → IsCausedSet (set.union s t)
-union_right s t h = (h.0, set.contains-union nat_list_cmp_total s t (cause_key h.0) ∙ (ap (λ b. has_cause s h.0 || b) h.1 ∙ or-true (has_cause s h.0)))
+other_left : (s t : CauseSet) → HasOther s → HasOther (set.union s t)
+other_left s t h = (h.0, h.1, set.contains-union nat_list_cmp_total s t (cause_key h.0) ∙ ap (λ b. b || has_cause t h.0) h.2)
+
+other_right : (s t : CauseSet) → HasOther t → HasOther (set.union s t)
+other_right s t h = subst HasOther (union-comm t s) (other_left t s h)
+
+-- what joins them has a cause as well
+pub union-caused : (s t : CauseSet) → IsCausedSet s → IsClear t → IsCausedSet (set.union s t)
+union-caused s t (inl h) c = inl (other_left s t h)
+union-caused s t (inr is) (inl (inl h)) = inl (other_right s t h)
+union-caused s t (inr is) (inl (inr same)) = inr (ap₂ (λ (a b : CauseSet). set.union a b) is same ∙ union-same (only cause.Skip))
+union-caused s t (inr is) (inr none) = inr (ap (λ (b : CauseSet). set.union s b) none ∙ union-empty s ∙ is)
+
+pub union-clear : (s t : CauseSet) → IsClear s → IsClear t → IsClear (set.union s t)
+union-clear s t (inl c) d = inl (union-caused s t c d)
+union-clear s t (inr none) d = subst IsClear (sym (ap (λ (a : CauseSet). set.union a t) none ∙ union-comm set.empty t ∙ union-empty t)) d
 
 -- ---- what is bad has a cause
 
@@ -94,11 +121,15 @@ pub on_both-caused : (g : Value → Value → Out) (a b : Out) → ((v w : Value
 on_both-caused g (Good v) (Good w) h c d = h v w
 on_both-caused g (Good v) (Bad t) h c d = record { told = d.told }
 on_both-caused g (Bad s) (Good w) h c d = record { told = c.told }
-on_both-caused g (Bad s) (Bad t) h c d = record { told = union_left s t c.told }
+on_both-caused g (Bad s) (Bad t) h c d = record { told = union-caused s t c.told (inl d.told) }
+
+causes_in-clear : (a : Out) → IsCaused a → IsClear (causes_in a)
+causes_in-clear (Good v) c = inr refl
+causes_in-clear (Bad causes) c = inl c.told
 
 on_three-caused : (g : Value → Value → Value → Out) (a b e : Out) → ((u v w : Value) → IsCaused (g u v w)) → IsCaused a → IsCaused b → IsCaused e → IsCaused (on_three g a b e)
 on_three-caused g (Good v) b e h c d k = on_both-caused (g v) b e (h v) d k
-on_three-caused g (Bad s) b e h c d k = record { told = union_left s (set.union (causes_in b) (causes_in e)) c.told }
+on_three-caused g (Bad s) b e h c d k = record { told = union-caused s (set.union (causes_in b) (causes_in e)) c.told (union-clear (causes_in b) (causes_in e) (causes_in-clear b d) (causes_in-clear e k)) }
 
 -- ---- truths
 
@@ -138,7 +169,7 @@ both-caused truth.Unknown (truth.Failed t) c d = record { told = d.told }
 both-caused (truth.Failed s) truth.False c d = record { told = tt }
 both-caused (truth.Failed s) truth.True c d = record { told = c.told }
 both-caused (truth.Failed s) truth.Unknown c d = record { told = c.told }
-both-caused (truth.Failed s) (truth.Failed t) c d = record { told = union_left s t c.told }
+both-caused (truth.Failed s) (truth.Failed t) c d = record { told = union-caused s t c.told (inl d.told) }
 
 opposite-caused : (t : Truth) → IsCausedTruth t → IsCausedTruth (opposite t)
 opposite-caused truth.True c = record { told = tt }
@@ -420,12 +451,16 @@ member_of-caused keys sides a others c h = found-caused keys sides a (falsehood_
 pub merged-caused : (a b : Out) → IsCaused a → IsCaused b → IsCaused (merged a b)
 merged-caused (Good v) b c d = d
 merged-caused (Bad s) (Good w) c d = record { told = c.told }
-merged-caused (Bad s) (Bad t) c d = record { told = union_left s t c.told }
+merged-caused (Bad s) (Bad t) c d = record { told = union-caused s t c.told (inl d.told) }
+
+all-clear : (args : List Out) → AreCaused args → IsClear (causes_of_all args)
+all-clear [] c = inr refl
+all-clear (a ∷ rest) c = union-clear (causes_in a) (causes_of_all rest) (causes_in-clear a c.0) (all-clear rest c.1)
 
 on_all-caused : (g : List Value → Out) (args : List Out) → ((vs : List Value) → IsCaused (g vs)) → AreCaused args → IsCaused (on_all g args)
 on_all-caused g [] h c = h []
 on_all-caused g (Good v ∷ rest) h c = on_all-caused (λ vs. g (v ∷ vs)) rest (λ vs. h (v ∷ vs)) c.1
-on_all-caused g (Bad causes ∷ rest) h c = record { told = union_left causes (causes_of_all rest) c.0.told }
+on_all-caused g (Bad causes ∷ rest) h c = record { told = union-caused causes (causes_of_all rest) c.0.told (all-clear rest c.1) }
 
 pub function_by-caused : (key : Collation → Value → List ℕ) (b : Builtin) (collation : Collation) (args : List Out) → AreCaused args → IsCaused (function_by key b collation args)
 function_by-caused key b collation args c = on_all-caused _ args (λ vs. call_of-caused b vs _) c

@@ -1,11 +1,13 @@
 -- What statements do.
-use Rattle.std.proofs.Common.{◌≡◌, ◌↔◌, ◌⊎◌, inl, inr, ℕ, suc, ◌-◌, List, [], ◌∷◌, ◌++◌, Bool, true, false, length, Option, Some, None, Result, Ok, Err, ℤ, pos, ◌+ℤ◌, ◌<ℤ◌, int_le, slice_get, if◌then◌else◌, All, Any, refl, sym, ap, ◌∙◌, subst, arith, append_assoc, append-nil}
+use Rattle.std.proofs.Common.{◌≡◌, ◌<◌, ◌↔◌, ◌⊎◌, inl, inr, ℕ, suc, ◌+◌, ◌-◌, List, [], ◌∷◌, ◌++◌, Bool, true, false, length, Option, Some, None, Result, Ok, Err, ℤ, pos, ◌+ℤ◌, ◌<ℤ◌, int_le, slice_get, slice_set, if◌then◌else◌, All, Any, refl, sym, ap, ◌∙◌, subst, arith, append_assoc, append-nil}
 use Rattle.std.proofs.lemmas.Int.{ints}
+use Rattle.std.proofs.lemmas.List.{get_or-set_same, length-set, set-get_or, set-set}
 use Rattle.eng_number.specs.Numbers.{fits_integer}
 use Rattle.eng_value.specs.Causes.{CauseSet, only}
 use Rattle.eng_value.specs.Environments.{Environment, carried, no_causes}
 use Rattle.eng_value.specs.StoredRows.{StoredRow, next_rowid, rowid_behind}
 use Rattle.eng_value.specs.Truths.{truth_in, truth_of}
+use Rattle.eng_value.specs.Written.{Written}
 use Rattle.eng_value.specs.declared.cause.Cause.TheVariants.{Full}
 use Rattle.eng_value.specs.declared.limits.TheConstants.{MAX_ROWID}
 use Rattle.eng_value.specs.declared.out.Out.{Out}
@@ -15,14 +17,14 @@ use Rattle.eng_value.specs.declared.value.Value.{Value}
 use Rattle.sql_meaning.specs.declared.bound.BoundExpr.{BoundExpr}
 use Rattle.sql_meaning.specs.declared.column.TableEntry.{TableEntry}
 use Rattle.sql_meaning.specs.Binding.{◌>>=◌}
-use Rattle.sql_meaning.specs.Effects.{AreDrawn, IsFull, IsOneMore}
+use Rattle.sql_meaning.specs.Effects.{AreDrawn, IsFull, IsOneMore, last_rowid_of}
 use Rattle.sql_meaning.specs.Expression.{value_of}
 use Rattle.sql_meaning.specs.Names.{is_same_name}
-use Rattle.sql_meaning.specs.Statement.{Item, Row, Failed, after_conjunct, if_some, item_of, item_put, items_at, row_put, row_under, rows_put, sifted, stored}
+use Rattle.sql_meaning.specs.Statement.{Row, after_conjunct, if_some, item_of, items_at, row_put, row_under, rows_put, sifted, stored, with_row}
 use Rattle.sql_meaning.specs.Valid.{AreRowsOf, IsRowOf}
-use Rattle.sql_meaning.specs.World.{rows_of, with_rows}
+use Rattle.sql_meaning.specs.World.{rows_at, rows_of, with_rows}
 use Rattle.sql_meaning.proofs.NameLaws.{is_same_name-left, is_same_name-refl, is_same_name_comm}
-use Rattle.sql_meaning.proofs.StoringLaws.{AreWide, drawn, row_behind}
+use Rattle.sql_meaning.proofs.StoringLaws.{AreWide, PutsRow, drawn, one_behind, row_put-one}
 
 -- ---- conjuncts
 
@@ -106,56 +108,81 @@ none-full t (x ∷ rows) valid = let last = last_of x rows in none_by t x rows l
 
 -- ---- a row that is put
 
-under_full : (t : TableEntry) (rows : List StoredRow) (values : List Value) (rowid : Option ℤ) → next_rowid rows ≡ rowid → ((next_rowid rows ≡ None) ↔ IsFull rows)
-    → ((row_under t rows values rowid ≡ Err (only (Full t.name))) ↔ IsFull rows) × (((all : List StoredRow) × (row_under t rows values rowid ≡ Ok all)) ⊎ IsFull rows)
-under_full t rows values None is full = ((λ e. full.0 is, λ f. refl), inr (full.0 is))
-under_full t rows values (Some n) is full =
+under_full : (t : TableEntry) (table : ℕ) (x : Written) (values : List Value) (rowid : Option ℤ) → next_rowid (rows_at x.world table) ≡ rowid → ((next_rowid (rows_at x.world table) ≡ None) ↔ IsFull (rows_at x.world table))
+    → ((row_under t table x values rowid ≡ Err (only (Full t.name))) ↔ IsFull (rows_at x.world table)) × (((y : Written) × (row_under t table x values rowid ≡ Ok y)) ⊎ IsFull (rows_at x.world table))
+under_full t table x values None is full = ((λ e. full.0 is, λ f. refl), inr (full.0 is))
+under_full t table x values (Some n) is full =
     ((λ e. absurd (cc), λ f. absurd (let bad : Some n ≡ None = sym is ∙ full.1 f in cc)), inl (_, refl))
 
-pub full_exactly : (t : TableEntry) (rows : List StoredRow) (source values : List Value) → AreRowsOf t rows → item_of no_causes (stored t.columns source) ≡ Row values
-    → ((row_put t rows source ≡ Err (only (Full t.name))) ↔ IsFull rows) × (((all : List StoredRow) × (row_put t rows source ≡ Ok all)) ⊎ IsFull rows)
-full_exactly t rows source values valid is = rw is (under_full t rows values (next_rowid rows) refl (none-full t rows valid))
+pub full_exactly : (t : TableEntry) (table : ℕ) (x : Written) (source values : List Value) → AreRowsOf t (rows_at x.world table) → item_of no_causes (stored t.columns source) ≡ Row values
+    → ((row_put t table x source ≡ Err (only (Full t.name))) ↔ IsFull (rows_at x.world table)) × (((y : Written) × (row_put t table x source ≡ Ok y)) ⊎ IsFull (rows_at x.world table))
+full_exactly t table x source values valid is = rw is (under_full t table x values (next_rowid (rows_at x.world table)) refl (none-full t (rows_at x.world table) valid))
 
--- what comes of a row that is put
-record OneMore (rows all : List StoredRow) : Type 0 where
-  row : StoredRow
-  behind : all ≡ rows ++ row ∷ []
-  next : next_rowid rows ≡ Some row.rowid
+-- ---- rows that are put
 
-under_one : (t : TableEntry) (rows all : List StoredRow) (values : List Value) (rowid : Option ℤ) → next_rowid rows ≡ rowid → row_under t rows values rowid ≡ Ok all → OneMore rows all
-under_one t rows all values None is e = absurd (cc)
-under_one t rows all values (Some n) is e = record { row = record { rowid = n; values = values }; behind = (let same : rows ++ record { rowid = n; values = values } ∷ [] ≡ all = cc in sym same); next = is }
-
-item_one : (t : TableEntry) (rows all : List StoredRow) (i : Item) → item_put t rows i ≡ Ok all → OneMore rows all
-item_one t rows all (Row values) e = under_one t rows all values (next_rowid rows) refl e
-item_one t rows all (Failed causes) e = absurd (let bad : Err causes ≡ Ok all = e in cc)
-
--- and of several
-pub record More (rows all : List StoredRow) (given : ℕ) : Type 0 where
+-- so many rows stand behind those of their table, which has no other; they are counted, and nothing is told or returned
+pub record PutsRows (t : TableEntry) (table : ℕ) (x y : Written) (given : ℕ) : Type 0 where
   pub new : List StoredRow
-  pub behind : all ≡ rows ++ new
-  pub drawn : AreDrawn rows new
+  pub world : y.world ≡ slice_set x.world table (rows_at x.world table ++ new)
+  pub drawn : AreDrawn (rows_at x.world table) new
+  pub valid : AreRowsOf t (rows_at x.world table ++ new)
   pub count : length new ≡ given
+  pub changes : y.changes ≡ x.changes + given
+  pub last_rowid : y.last_rowid ≡ last_rowid_of x.last_rowid new
+  pub told : y.told ≡ x.told
+  pub returned : y.returned ≡ x.returned
 
-more_after : (t : TableEntry) (rows all : List StoredRow) (count : ℕ) (first : Result (List StoredRow) CauseSet) (others : List StoredRow → Result (List StoredRow) CauseSet) → AreRowsOf t rows
-    → ((more : List StoredRow) → first ≡ Ok more → OneMore rows more × AreRowsOf t more) → ((more : List StoredRow) → AreRowsOf t more → others more ≡ Ok all → More more all count) → first >>= others ≡ Ok all → More rows all (suc count)
-more_after t rows all count (Err causes) others valid one rest e = absurd (let bad : Err causes ≡ Ok all = e in cc)
-more_after t rows all count (Ok more) others valid one rest e =
-    let first = (one more refl).0 in
-    let later = rest more (one more refl).1 e in
+none_put : (t : TableEntry) (table : ℕ) (x : Written) → AreRowsOf t (rows_at x.world table) → PutsRows t table x x 0
+none_put t table x valid = record {
+  new = [];
+  world = sym (ap (slice_set x.world table) (append-nil (rows_at x.world table)) ∙ set-get_or x.world table []);
+  drawn = tt;
+  valid = subst (AreRowsOf t) (sym (append-nil (rows_at x.world table))) valid;
+  count = refl;
+  changes = omega arith;
+  last_rowid = refl;
+  told = refl;
+  returned = refl;
+}
+
+-- the rows of a table that has one more
+pub rows_at-with_row : (x : Written) (table : ℕ) (r : StoredRow) → table < length x.world → rows_at (with_row x table r).world table ≡ rows_at x.world table ++ r ∷ []
+rows_at-with_row x table r within = get_or-set_same x.world table (rows_at x.world table ++ r ∷ []) [] within
+
+-- one, and then others
+put_then : (t : TableEntry) (table : ℕ) (x y : Written) (r : StoredRow) (count : ℕ) → table < length x.world → AreRowsOf t (rows_at x.world table) → next_rowid (rows_at x.world table) ≡ Some r.rowid → PutsRows t table (with_row x table r) y count → PutsRows t table x y (suc count)
+put_then t table x y r count within valid next rest =
+    let old = rows_at x.world table in
+    let here = rows_at-with_row x table r within in
+    let joined : rows_at (with_row x table r).world table ++ rest.new ≡ old ++ r ∷ rest.new = ap (λ rs. rs ++ rest.new) here ∙ append_assoc old (r ∷ []) rest.new in
     record {
-      new = first.row ∷ later.new;
-      behind = later.behind ∙ ap (λ rs. rs ++ later.new) first.behind ∙ append_assoc rows (first.row ∷ []) later.new;
-      drawn = (one_more t rows first.row.rowid valid first.next, subst (λ rs. AreDrawn rs later.new) first.behind later.drawn);
-      count = omega (arith, later.count);
+      new = r ∷ rest.new;
+      world = rest.world ∙ set-set x.world table (old ++ r ∷ []) (rows_at (with_row x table r).world table ++ rest.new) ∙ ap (slice_set x.world table) joined;
+      drawn = (one_more t old r.rowid valid next, subst (λ rs. AreDrawn rs rest.new) here rest.drawn);
+      valid = subst (AreRowsOf t) joined rest.valid;
+      count = omega (arith, rest.count);
+      changes = omega (arith, rest.changes);
+      last_rowid = rest.last_rowid;
+      told = rest.told;
+      returned = rest.returned;
     }
 
-pub more_behind : (t : TableEntry) (rows all : List StoredRow) (source : List (List Value)) → AreWide (length t.columns) source → AreRowsOf t rows → rows_put t rows source ≡ Ok all → More rows all (length source)
-more_behind t rows all [] wide valid e = record { new = []; behind = (let same : rows ≡ all = cc in sym same ∙ sym (append-nil rows)); drawn = tt; count = refl }
-more_behind t rows all (row ∷ source) wide valid e =
-    more_after t rows all (length source) (row_put t rows row) (λ more. rows_put t more source) valid
-    (λ more is. (item_one t rows more (item_of no_causes (stored t.columns row)) is, row_behind t rows more row wide.0 valid is))
-    (λ more ok is. more_behind t more all source wide.1 ok is) e
+first_put : (t : TableEntry) (table : ℕ) (x y : Written) (count : ℕ) (first : Result Written CauseSet) (others : Written → Result Written CauseSet) → table < length x.world → AreRowsOf t (rows_at x.world table)
+    → ((more : Written) → first ≡ Ok more → PutsRow t table x more) → ((more : Written) → table < length more.world → AreRowsOf t (rows_at more.world table) → others more ≡ Ok y → PutsRows t table more y count) → first >>= others ≡ Ok y → PutsRows t table x y (suc count)
+first_put t table x y count (Err causes) others within valid one rest e = absurd (let bad : Err causes ≡ Ok y = e in cc)
+first_put t table x y count (Ok more) others within valid one rest e =
+    let row = one more refl in
+    let old = rows_at x.world table in
+    let wide : table < length more.world = subst (λ (m : Written). table < length m.world) (sym row.behind) (subst (λ n. table < n) (sym (length-set x.world table (old ++ row.row ∷ []))) within) in
+    let held : AreRowsOf t (rows_at more.world table) =
+    subst (λ (m : Written). AreRowsOf t (rows_at m.world table)) (sym row.behind) (subst (AreRowsOf t) (sym (rows_at-with_row x table row.row within)) (one_behind t old row.row valid row.next row.held)) in
+    put_then t table x y row.row count within valid row.next (subst (λ m. PutsRows t table m y count) row.behind (rest more wide held e))
+
+pub rows_put-all : (t : TableEntry) (table : ℕ) (x y : Written) (source : List (List Value)) → AreWide (length t.columns) source → table < length x.world → AreRowsOf t (rows_at x.world table) → rows_put t table x source ≡ Ok y → PutsRows t table x y (length source)
+rows_put-all t table x y [] wide within valid e = subst (λ m. PutsRows t table x m 0) (let same : x ≡ y = cc in same) (none_put t table x valid)
+rows_put-all t table x y (row ∷ source) wide within valid e =
+    first_put t table x y (length source) (row_put t table x row) (λ more. rows_put t table more source) within valid
+    (λ more is. row_put-one t table x more row wide.0 is) (λ more in_it ok is. rows_put-all t table more y source wide.1 in_it ok is) e
 
 -- ---- tables with other rows
 

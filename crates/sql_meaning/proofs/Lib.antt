@@ -5,8 +5,9 @@ pub mod CausedOperators
 pub mod CausedLaws
 pub mod RefusalLaws
 pub mod StoringLaws
-pub mod ValidLaws
 pub mod EffectLaws
+pub mod TableNumbers
+pub mod ValidLaws
 pub mod DoneLaws
 pub mod TellingLaws
 pub mod OutcomeLaws

@@ -1,14 +1,13 @@
 -- A refused statement keeps the state.
 use Rattle.std.proofs.Common.{◌≡◌, ℕ, List, [], Some, None, Ok, Err, Result, refl}
 use Rattle.std.specs.declared.option.Option.{Option}
-use Rattle.eng_value.specs.Causes.{CauseSet, only}
-use Rattle.eng_value.specs.StoredRows.{StoredRow}
+use Rattle.eng_value.specs.Causes.{CauseSet, named, only}
+use Rattle.eng_value.specs.Written.{Written}
 use Rattle.eng_value.specs.declared.cause.Cause.{Cause}
 use Rattle.eng_value.specs.declared.value.Value.{Value}
 use Rattle.sql_meaning.specs.BoundStatements.{BoundStatement, Creates, Put, Puts, Queries}
-use Rattle.sql_meaning.specs.Statement.{Outcome, all_put, bound_outcome, causes_of, given_of, outcome_of, put_source, refused, rows_put, source_of, text_bound, text_outcome}
-use Rattle.sql_meaning.specs.declared.column.TableEntry.{TableEntry}
-use Rattle.sql_meaning.specs.World.{Context, State, rows_of}
+use Rattle.sql_meaning.specs.Statement.{Outcome, all_put, begun, bound_outcome, causes_of, given_of, outcome_of, put_source, refused, rows_put, source_of, text_bound, text_outcome}
+use Rattle.sql_meaning.specs.World.{Context, State, table_at}
 
 -- where it is a refusal, it changes nothing
 record Keeps (state : State) (o : Outcome) : Type 0 where
@@ -17,14 +16,13 @@ record Keeps (state : State) (o : Outcome) : Type 0 where
 refused-keeps : (state : State) (causes : CauseSet) → Keeps state (refused state causes)
 refused-keeps state causes = record { kept = λ others e. (refl, refl, refl) }
 
-all_put-keeps : (state : State) (t : TableEntry) (changed : ℕ) (r : Result (List StoredRow) CauseSet) → Keeps state (all_put state t changed r)
-all_put-keeps state t changed (Ok rows) = record { kept = λ causes e. absurd (let bad : None ≡ Some causes = e in cc) }
-all_put-keeps state t changed (Err causes) = refused-keeps state causes
+all_put-keeps : (state : State) (r : Result Written CauseSet) → Keeps state (all_put state r)
+all_put-keeps state (Ok x) = record { kept = λ causes e. absurd (let bad : None ≡ Some causes = e in cc) }
+all_put-keeps state (Err causes) = refused-keeps state (named causes)
 
 put_source-keeps : (state : State) (p : Put) (causes : Option CauseSet) (source : List (List Value)) → Keeps state (put_source state p causes source)
 put_source-keeps state p (Some causes) source = refused-keeps state causes
-put_source-keeps state p None source =
-    all_put-keeps state p.table _ (rows_put p.table (rows_of state.world.tables p.table.name) source)
+put_source-keeps state p None source = all_put-keeps state (rows_put p.table (table_at state.world p.table.name) (begun state) source)
 
 outcome_of-keeps : (ctx : Context) (b : BoundStatement) → Keeps ctx.state (outcome_of ctx b)
 outcome_of-keeps ctx (Creates t) = record { kept = λ causes e. absurd (let bad : None ≡ Some causes = e in cc) }

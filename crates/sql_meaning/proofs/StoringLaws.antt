@@ -1,5 +1,5 @@
 -- What a column has stored it stores as it is, and the rows that are put are rows of their table.
-use Rattle.std.proofs.Common.{◌≡◌, ℕ, fold, suc, ◌-◌, List, [], ◌∷◌, ◌++◌, Bool, true, false, length, map, Option, Some, None, Result, Ok, Err, ℤ, pos, ◌+ℤ◌, ◌<ℤ◌, int_le, slice_get, if◌then◌else◌, All, refl, sym, ap, ◌∙◌, subst, arith}
+use Rattle.std.proofs.Common.{◌≡◌, ℕ, fold, suc, ◌-◌, List, [], ◌∷◌, ◌++◌, Bool, true, false, length, map, Option, Some, None, Ok, Err, ℤ, pos, ◌+ℤ◌, ◌<ℤ◌, int_le, slice_get, if◌then◌else◌, All, refl, sym, ap, ◌∙◌, subst, arith}
 use Rattle.std.specs.Bool.{⊤}
 use Rattle.std.specs.List.{AllZip}
 use Rattle.std.proofs.lemmas.Int.{ints}
@@ -10,7 +10,7 @@ use Rattle.eng_number.specs.declared.numbers.TextKind.{TextKind}
 use Rattle.eng_number.specs.declared.numbers.TextKind.TheVariants as kind
 use Rattle.eng_value.specs.Applied.{merged}
 use Rattle.eng_value.specs.Casts.{integer_as_text, numeric_text, store_as, store_number}
-use Rattle.eng_value.specs.Causes.{CauseSet}
+use Rattle.eng_value.specs.Written.{Written}
 use Rattle.eng_value.specs.StoredRows.{StoredRow, next_rowid, rowid_behind}
 use Rattle.eng_value.specs.declared.affinity.Affinity.{Affinity}
 use Rattle.eng_value.specs.declared.affinity.Affinity.TheVariants as affinity
@@ -21,10 +21,10 @@ use Rattle.eng_value.specs.declared.value.Value.{Value}
 use Rattle.eng_value.specs.declared.value.Value.TheVariants as value
 use Rattle.sql_meaning.specs.declared.column.Column.{Column}
 use Rattle.sql_meaning.specs.declared.column.TableEntry.{TableEntry}
-use Rattle.sql_meaning.specs.Binding.{◌>>=◌}
-use Rattle.sql_meaning.specs.Statement.{Item, Row, Failed, good_or_null, item_by, item_of, item_put, row_put, row_under, rows_put, stored}
+use Rattle.sql_meaning.specs.Statement.{Item, Row, Failed, good_or_null, item_by, item_of, item_put, row_put, row_under, stored, with_row}
 use Rattle.eng_value.specs.Environments.{no_causes, with_causes}
 use Rattle.sql_meaning.specs.Valid.{AreRowsOf, IsHeldBy, IsRowOf}
+use Rattle.sql_meaning.specs.World.{rows_at}
 
 -- ---- a value
 
@@ -124,39 +124,41 @@ drawn t (x ∷ y ∷ ys) n valid e =
     let low : x.rowid <ℤ y.rowid = valid.ascending 0 1 x (omega arith) (omega arith) in
     record { above = All-cons (λ (r : StoredRow). r.rowid <ℤ n) x (y ∷ ys) (lt_trans x.rowid y.rowid n low (All-head (λ (r : StoredRow). r.rowid <ℤ n) y ys more.above)) more.above; fits = more.fits }
 
--- ---- rows behind the others
+-- ---- a row behind the others
 
-one_behind : (t : TableEntry) (rows all : List StoredRow) (values : List Value) (rowid : Option ℤ) → next_rowid rows ≡ rowid → AllZip IsHeldBy t.columns values → AreRowsOf t rows → row_under t rows values rowid ≡ Ok all → AreRowsOf t all
-one_behind t rows all values None next held valid e = absurd (cc)
-one_behind t rows all values (Some n) next held valid e =
+-- it is drawn a rowid, and its values are as the columns store them
+pub record PutsRow (t : TableEntry) (table : ℕ) (x y : Written) : Type 0 where
+  pub row : StoredRow
+  pub behind : y ≡ with_row x table row
+  pub next : next_rowid (rows_at x.world table) ≡ Some row.rowid
+  pub held : AllZip IsHeldBy t.columns row.values
+
+one_under : (t : TableEntry) (table : ℕ) (x y : Written) (values : List Value) (rowid : Option ℤ) → next_rowid (rows_at x.world table) ≡ rowid → AllZip IsHeldBy t.columns values → row_under t table x values rowid ≡ Ok y → PutsRow t table x y
+one_under t table x y values None next held e = absurd (cc)
+one_under t table x y values (Some n) next held e =
     let r : StoredRow = record { rowid = n; values = values } in
-    let new = drawn t rows n valid next in
-    let same : rows ++ r ∷ [] ≡ all = cc in
-    subst (AreRowsOf t) same (record {
+    let same : with_row x table r ≡ y = cc in
+    record { row = r; behind = sym same; next = next; held = held }
+
+one_item : (t : TableEntry) (table : ℕ) (x y : Written) (i : Item) → ((ws : List Value) → i ≡ Row ws → AllZip IsHeldBy t.columns ws) → item_put t table x i ≡ Ok y → PutsRow t table x y
+one_item t table x y (Row ws) held e = one_under t table x y ws (next_rowid (rows_at x.world table)) refl (held ws refl) e
+one_item t table x y (Failed causes) held e = absurd (let bad : Err causes ≡ Ok y = e in cc)
+
+-- what is put is one row more
+pub row_put-one : (t : TableEntry) (table : ℕ) (x y : Written) (values : List Value) → length values ≡ length t.columns → row_put t table x values ≡ Ok y → PutsRow t table x y
+row_put-one t table x y values wide e =
+    one_item t table x y (item_of no_causes (stored t.columns values)) (λ ws is. stored-held t.columns values ws wide (item_of-good (stored t.columns values) ws is)) e
+
+-- and they stay rows of their table
+pub one_behind : (t : TableEntry) (rows : List StoredRow) (r : StoredRow) → AreRowsOf t rows → next_rowid rows ≡ Some r.rowid → AllZip IsHeldBy t.columns r.values → AreRowsOf t (rows ++ r ∷ [])
+one_behind t rows r valid next held =
+    let new = drawn t rows r.rowid valid next in
+    record {
       ascending = all_pairs_push (λ (a b : StoredRow). a.rowid <ℤ b.rowid) rows r valid.ascending (λ k d l. new.above k d l);
       each = All-push (IsRowOf t) rows r valid.each (record { rowid = new.fits; values = held });
-    })
-
-item_behind : (t : TableEntry) (rows all : List StoredRow) (i : Item) → ((ws : List Value) → i ≡ Row ws → AllZip IsHeldBy t.columns ws) → AreRowsOf t rows → item_put t rows i ≡ Ok all → AreRowsOf t all
-item_behind t rows all (Row ws) held valid e = one_behind t rows all ws (next_rowid rows) refl (held ws refl) valid e
-item_behind t rows all (Failed causes) held valid e = absurd (let bad : Err causes ≡ Ok all = e in cc)
-
-pub row_behind : (t : TableEntry) (rows all : List StoredRow) (values : List Value) → length values ≡ length t.columns → AreRowsOf t rows → row_put t rows values ≡ Ok all → AreRowsOf t all
-row_behind t rows all values wide valid e =
-    item_behind t rows all (item_of no_causes (stored t.columns values)) (λ ws is. stored-held t.columns values ws wide (item_of-good (stored t.columns values) ws is)) valid e
+    }
 
 -- each of these has so many
 abbrev pub AreWide : {X : Type 0} → ℕ → List (List X) → Type 0
 AreWide n [] = ⊤
 AreWide n (row ∷ rows) = (length row ≡ n) × AreWide n rows
-
-then_behind : (t : TableEntry) (first : Result (List StoredRow) CauseSet) (others : List StoredRow → Result (List StoredRow) CauseSet) (all : List StoredRow) → ((more : List StoredRow) → first ≡ Ok more → AreRowsOf t more) → ((more : List StoredRow) → AreRowsOf t more → others more ≡ Ok all → AreRowsOf t all) → first >>= others ≡ Ok all → AreRowsOf t all
-then_behind t (Ok more) others all one rest e = rest more (one more refl) e
-then_behind t (Err causes) others all one rest e = absurd (let bad : Err causes ≡ Ok all = e in cc)
-
--- rows that are put stand behind the others as rows of their table
-pub rows_behind : (t : TableEntry) (rows all : List StoredRow) (source : List (List Value)) → AreWide (length t.columns) source → AreRowsOf t rows → rows_put t rows source ≡ Ok all → AreRowsOf t all
-rows_behind t rows all [] wide valid e = subst (AreRowsOf t) (let same : rows ≡ all = cc in same) valid
-rows_behind t rows all (row ∷ source) wide valid e =
-    then_behind t (row_put t rows row) (λ more. rows_put t more source) all (λ more is. row_behind t rows more row wide.0 valid is)
-    (λ more ok is. rows_behind t more all source wide.1 ok is) e

@@ -1,6 +1,5 @@
 -- Where there is no host, none is named that does not tell.
-use Rattle.std.proofs.Common.{◌≡◌, ℕ, List, [], ◌∷◌, All, Some, None}
-use Rattle.std.specs.Bool.{⊤}
+use Rattle.std.proofs.Common.{ℕ, List, [], ◌∷◌, All}
 use Rattle.std.proofs.lemmas.List.Elements.{All-cons, All-nil}
 use Rattle.eng_value.specs.HostMeanings.{Aggregate, CollationAt, HostName, Module, NamesTold, Scalar, Tells, no_hosts}
 use Rattle.eng_value.specs.declared.value.Value.{Value}

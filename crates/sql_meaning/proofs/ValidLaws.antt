@@ -1,7 +1,8 @@
 -- States stay valid.
-use Rattle.std.proofs.Common.{◌≡◌, ℕ, suc, List, [], ◌∷◌, ◌++◌, Bool, true, false, cond, length, map, drop, Option, Some, None, Result, Ok, Err, ℤ, nat_eq, if◌then◌else◌, All, codes, refl, sym, ap, ◌∙◌, subst, arith}
+use Rattle.std.proofs.Common.{◌≡◌, ◌<◌, ℕ, ◌+◌, List, [], ◌∷◌, ◌++◌, Bool, true, false, not, cond, length, map, Option, Some, None, Result, Ok, Err, ℤ, nat_eq, if◌then◌else◌, All, codes, refl, sym, ap, ◌∙◌, subst, arith}
 use Rattle.std.specs.Bool.{⊤}
 use Rattle.std.specs.List.{AllZip}
+use Rattle.std.proofs.Math.Seq.{drop-append_seam}
 use Rattle.std.proofs.lemmas.Bool.{eqb-true}
 use Rattle.std.proofs.lemmas.List.{length-map}
 use Rattle.std.proofs.lemmas.List.Elements.{All-cons, All-drop, All-head, All-nil, All-tail}
@@ -10,6 +11,7 @@ use Rattle.eng_number.specs.Numbers.{fits_integer}
 use Rattle.eng_value.specs.Causes.{CauseSet}
 use Rattle.eng_value.specs.Environments.{no_causes}
 use Rattle.eng_value.specs.StoredRows.{StoredRow}
+use Rattle.eng_value.specs.Written.{Written}
 use Rattle.eng_value.specs.declared.cause.Cause.{Cause}
 use Rattle.eng_value.specs.declared.cause.Cause.TheVariants as cause
 use Rattle.eng_value.specs.declared.out.Out.TheVariants.{Good}
@@ -36,14 +38,17 @@ use Rattle.sql_meaning.specs.declared.column.TableEntry.{TableEntry}
 use Rattle.sql_meaning.specs.Binding.{◌>>=◌, in_turn}
 use Rattle.sql_meaning.specs.BoundStatements.{BoundStatement, Creates, Put, Puts, Queries}
 use Rattle.sql_meaning.specs.Built.{is_built, signed_of}
+use Rattle.sql_meaning.specs.Effects.{last_rowid_of}
 use Rattle.sql_meaning.specs.Expression.{literal_out}
 use Rattle.sql_meaning.specs.Names.{is_reserved_name, is_same_name}
 use Rattle.sql_meaning.specs.Spelled.{name_at}
-use Rattle.sql_meaning.specs.Statement.{Item, Outcome, Row, Failed, all_put, answer_bound, answer_of, bound_outcome, causes_of, columns_behind, command_bound, count_of, create_outcome, created_entry, entry_with, fitting, found_table, given_of, is_free_name, is_new_table, item_of, last_rowid_of, limit_kind, literal_in, outcome_of, part_rows, put_bound, put_outcome, put_source, query_bound, row_of, rows_bound, rows_in, rows_put, source_of, source_rows, table_named, text_bound, text_outcome, where_built, width_of, with_created, within_columns, written}
-use Rattle.sql_meaning.specs.Valid.{AreRowsOf, IsRowOf, IsTable, IsValid}
-use Rattle.sql_meaning.specs.World.{Context, State, entry_named, rows_of, with_rows}
+use Rattle.sql_meaning.specs.Statement.{Item, Row, Failed, all_put, answer_bound, answer_of, begun, bound_outcome, causes_of, columns_behind, command_bound, count_of, create_outcome, created_entry, entry_with, fitting, found_table, given_of, is_free_name, is_new_table, item_of, limit_kind, literal_in, outcome_of, part_rows, put_bound, put_outcome, put_source, query_bound, row_of, rows_bound, rows_put, source_of, source_rows, table_named, text_bound, text_outcome, where_built, width_of, with_created, within_columns, written}
+use Rattle.sql_meaning.specs.Valid.{AreRowsOf, IsRowOf, IsTable, IsValid, IsWorld}
+use Rattle.sql_meaning.specs.World.{Context, State, entry_named, lists_of, rows_at, rows_of, table_at, with_lists, with_rows}
 use Rattle.sql_meaning.proofs.NameLaws.{is_same_name-left, is_same_name-refl}
-use Rattle.sql_meaning.proofs.StoringLaws.{AreWide, item_of-good, rows_behind}
+use Rattle.sql_meaning.proofs.EffectLaws.{PutsRows, rows_put-all}
+use Rattle.sql_meaning.proofs.StoringLaws.{AreWide, item_of-good}
+use Rattle.sql_meaning.proofs.TableNumbers.{place_of, rows_at-table_at, with_lists-table_at}
 
 -- ---- what is bound
 
@@ -118,6 +123,23 @@ tables_with (x ∷ catalog) (r ∷ tables) name t rows valid e held = by (is_sam
     by false is rest f =
         let there : is_same_name r.0 t.name ≡ false = ap (λ n. is_same_name n t.name) valid.0.0 ∙ other-name x t name (found-same catalog name t f) is in
         rw there (valid.0, rest f)
+
+-- and it is one of the tables
+found-there : (catalog : List TableEntry) (tables : List (List ℕ × List StoredRow)) (name : List ℕ) (t : TableEntry) → AllZip IsTable catalog tables → entry_named catalog name ≡ Some t → place_of tables t.name < length tables
+found-there [] [] name t valid e = absurd (let none : None ≡ Some t = e in cc)
+found-there [] (r ∷ tables) name t valid e = absurd valid
+found-there (x ∷ catalog) [] name t valid e = absurd valid
+found-there (x ∷ catalog) (r ∷ tables) name t valid e = by (is_same_name x.name name) refl (found-there catalog tables name t valid.1) e
+  where
+    by : (b : Bool) → is_same_name x.name name ≡ b → (entry_named catalog name ≡ Some t → place_of tables t.name < length tables) → cond b (Some x) (entry_named catalog name) ≡ Some t → cond (not (is_same_name r.0 t.name)) (1 + place_of tables t.name) 0 < length (r ∷ tables)
+    by true is rest f =
+        let same : x ≡ t = cc in
+        let here : is_same_name r.0 t.name ≡ true = ap (λ n. is_same_name n t.name) (valid.0.0 ∙ ap (λ (u : TableEntry). u.name) same) ∙ is_same_name-refl t.name in
+        rw here (omega arith)
+    by false is rest f =
+        let there : is_same_name r.0 t.name ≡ false = ap (λ n. is_same_name n t.name) valid.0.0 ∙ other-name x t name (found-same catalog name t f) is in
+        let within : place_of tables t.name < length tables = rest f in
+        rw there (omega arith)
 
 -- ---- CREATE TABLE
 
@@ -299,30 +321,45 @@ last_fits t n [] fits each = fits
 last_fits t n (r ∷ rows) fits each = last_fits t r.rowid rows (All-head (IsRowOf t) r rows each).rowid (All-tail (IsRowOf t) r rows each)
 
 module _ (state : State) (valid : IsValid state) where
-  write-valid : (name : List ℕ) (t : TableEntry) (changed : ℕ) (rows : List StoredRow) → entry_named state.world.catalog name ≡ Some t → AreRowsOf t rows → IsValid (written state t changed rows).next
-  write-valid name t changed rows found held = record {
-    world = record { names = valid.world.names; tables = tables_with state.world.catalog state.world.tables name t rows valid.world.tables found held };
-    marks = valid.marks;
-    last_rowid = last_fits t state.last_rowid (drop (length (rows_of state.world.tables t.name)) rows) valid.last_rowid (All-drop (IsRowOf t) (length (rows_of state.world.tables t.name)) rows held.each);
-  }
+  -- the table of a write is one of the tables
+  pub table_there : (t : TableEntry) → entry_named state.world.catalog t.name ≡ Some t → table_at state.world t.name < length state.world.tables
+  table_there t found = found-there state.world.catalog state.world.tables t.name t valid.world.tables found
 
-  all_put-valid : (name : List ℕ) (t : TableEntry) (changed : ℕ) (r : Result (List StoredRow) CauseSet) → entry_named state.world.catalog name ≡ Some t → ((rows : List StoredRow) → r ≡ Ok rows → AreRowsOf t rows) → IsValid (all_put state t changed r).next
-  all_put-valid name t changed (Ok rows) found held = write-valid name t changed rows found (held rows refl)
-  all_put-valid name t changed (Err causes) found held = valid
+  -- what a write without a failure puts
+  pub source_put : (p : Put) (x : Written) (source : List (List Value)) → entry_named state.world.catalog p.table.name ≡ Some p.table → AreWide (length p.table.columns) source
+      → rows_put p.table (table_at state.world p.table.name) (begun state) source ≡ Ok x → PutsRows p.table (table_at state.world p.table.name) (begun state) x (length source)
+  source_put p x source found wide e =
+      rows_put-all p.table (table_at state.world p.table.name) (begun state) x source wide
+      (subst (λ n. table_at state.world p.table.name < n) (sym (length-map state.world.tables (λ (t : List ℕ × List StoredRow). t.1))) (table_there p.table found))
+      (subst (AreRowsOf p.table) (sym (rows_at-table_at state.world p.table.name)) (found-rows state.world.catalog state.world.tables p.table.name p.table valid.world.tables found)) e
 
-  put_source-valid : (name : List ℕ) (p : Put) (causes : Option CauseSet) (source : List (List Value)) → entry_named state.world.catalog name ≡ Some p.table → AreWide (length p.table.columns) source → IsValid (put_source state p causes source).next
-  put_source-valid name p (Some causes) source found wide = valid
-  put_source-valid name p None source found wide =
-      let old = found-rows state.world.catalog state.world.tables name p.table valid.world.tables found in
-      all_put-valid name p.table (length source) (rows_put p.table (rows_of state.world.tables p.table.name) source) found
-      (λ rows is. rows_behind p.table (rows_of state.world.tables p.table.name) rows source wide old is)
+  write-valid : (t : TableEntry) (x : Written) (count : ℕ) → entry_named state.world.catalog t.name ≡ Some t → PutsRows t (table_at state.world t.name) (begun state) x count → IsValid (written state x).next
+  write-valid t x count found put =
+      let old = rows_at (lists_of state.world) (table_at state.world t.name) in
+      let world_is : with_lists state.world x.world ≡ record state.world { tables = with_rows state.world.tables t.name (old ++ put.new) } =
+      ap (with_lists state.world) put.world ∙ with_lists-table_at state.world t.name (old ++ put.new) (table_there t found) in
+      let new_held : All (IsRowOf t) put.new = subst (All (IsRowOf t)) (drop-append_seam old put.new) (All-drop (IsRowOf t) (length old) (old ++ put.new) put.valid.each) in
+      record {
+        world = subst IsWorld (sym world_is) (record { names = valid.world.names; tables = tables_with state.world.catalog state.world.tables t.name t (old ++ put.new) valid.world.tables found put.valid });
+        marks = valid.marks;
+        last_rowid = subst (λ n. fits_integer n ≡ true) (sym put.last_rowid) (last_fits t state.last_rowid put.new valid.last_rowid new_held);
+      }
+
+  all_put-valid : (t : TableEntry) (count : ℕ) (r : Result Written CauseSet) → entry_named state.world.catalog t.name ≡ Some t → ((x : Written) → r ≡ Ok x → PutsRows t (table_at state.world t.name) (begun state) x count) → IsValid (all_put state r).next
+  all_put-valid t count (Ok x) found put = write-valid t x count found (put x refl)
+  all_put-valid t count (Err causes) found put = valid
+
+  put_source-valid : (p : Put) (causes : Option CauseSet) (source : List (List Value)) → entry_named state.world.catalog p.table.name ≡ Some p.table → AreWide (length p.table.columns) source → IsValid (put_source state p causes source).next
+  put_source-valid p (Some causes) source found wide = valid
+  put_source-valid p None source found wide =
+      all_put-valid p.table (length source) (rows_put p.table (table_at state.world p.table.name) (begun state) source) found (λ x is. source_put p x source found wide is)
 
   -- ---- any statement
 
   outcome-valid : (ctx : Context) (b : BoundStatement) → ctx.state ≡ state → FitsIn state.world.catalog b → IsValid (outcome_of ctx b).next
   outcome-valid ctx (Creates t) is fits = subst (λ x. IsValid (create_outcome x t).next) (sym is) (create-valid state t fits valid)
   outcome-valid ctx (Puts p) is fits =
-      subst (λ x. IsValid (put_outcome x p).next) (sym is) (put_source-valid p.table.name p (causes_of (source_of p)) (given_of (source_of p)) fits.found (given_wide (length p.table.columns) p.rows fits.wide))
+      subst (λ x. IsValid (put_outcome x p).next) (sym is) (put_source-valid p (causes_of (source_of p)) (given_of (source_of p)) fits.found (given_wide (length p.table.columns) p.rows fits.wide))
   outcome-valid ctx (Queries q) is fits = subst IsValid (sym is) valid
 
 bound-valid : (ctx : Context) (r : Result BoundStatement Cause) → IsValid ctx.state → ((b : BoundStatement) → r ≡ Ok b → FitsIn ctx.state.world.catalog b) → IsValid (bound_outcome ctx r).next

@@ -4,7 +4,7 @@ use Rattle.eng_value.specs.StoredRows.{StoredRow}
 use Rattle.eng_value.specs.declared.limits.TheConstants.{MAX_ROWID}
 use Rattle.sql_meaning.specs.declared.column.TableEntry.{TableEntry}
 use Rattle.sql_meaning.specs.Names.{is_same_name}
-use Rattle.sql_meaning.specs.Statement.{Outcome, last_rowid_of}
+use Rattle.sql_meaning.specs.Statement.{Outcome}
 use Rattle.sql_meaning.specs.World.{State, entry_named, rows_of}
 
 -- the rowid is one more than the largest of these rows, and 1 where there is none
@@ -15,6 +15,11 @@ IsOneMore rows n = ((rows ≡ []) × (n ≡ pos 1)) ⊎ (Any (λ (r : StoredRow)
 abbrev pub AreDrawn : List StoredRow → List StoredRow → Type 0
 AreDrawn rows [] = ⊤
 AreDrawn rows (r ∷ new) = IsOneMore rows r.rowid × AreDrawn (rows ++ r ∷ []) new
+
+-- the rowid of the last of these rows; where there is none it is as it was
+abbrev pub last_rowid_of : ℤ → List StoredRow → ℤ
+last_rowid_of rowid [] = rowid
+last_rowid_of rowid (r ∷ rows) = last_rowid_of r.rowid rows
 
 -- the largest rowid is taken
 abbrev pub IsFull : List StoredRow → Type 0

@@ -1,14 +1,16 @@
 -- Statements with what they come to, computed by the definitions.
 use Rattle.std.specs.Prelude.{◌≡◌, ℕ, ℤ, List, [], ◌∷◌, pos, negsuc, Some, codes, refl}
+use Rattle.std.proofs.Common.{◌∙◌, ap}
 use Rattle.std.specs.FinSet as set
 use Rattle.std.specs.Fmt.{digits}
 use Rattle.eng_number.specs.Numbers.{text_kind}
 use Rattle.eng_value.specs.Casts.{store_as}
-use Rattle.eng_value.specs.Causes.{only}
+use Rattle.eng_value.specs.Causes.{named, only}
+use Rattle.eng_value.proofs.CauseLaws.{named-only}
 use Rattle.eng_value.specs.HostMeanings.{no_hosts}
 use Rattle.eng_value.specs.declared.affinity.Affinity.TheVariants as affinity
 use Rattle.eng_value.specs.declared.cause.Cause.TheVariants as cause
-use Rattle.eng_value.specs.declared.cause.NameKind.TheVariants as named
+use Rattle.eng_value.specs.declared.cause.NameKind.TheVariants as name_kind
 use Rattle.eng_value.specs.declared.value.Value.TheVariants as value
 use Rattle.sql_grammar.specs.Marks.{count}
 use Rattle.sql_grammar.specs.Statements.{all_statement_rules}
@@ -53,14 +55,14 @@ rows_after = refl
 refused_rows : ((put_outcome created (put ((number (pos 1) ∷ number (pos 2) ∷ number (pos 3) ∷ []) ∷ (number (pos 4) ∷ number (pos 5) ∷ literal.Bad cause.Real ∷ []) ∷ []))).refusal ≡ Some (only cause.Real))
     × ((put_outcome created (put ((number (pos 1) ∷ number (pos 2) ∷ number (pos 3) ∷ []) ∷ (text (codes "1.5") ∷ number (pos 5) ∷ number (pos 6) ∷ []) ∷ []))).next ≡ created)
 unfolding all_statement_rules count tokens_of word_kind the_text_test store_as text_kind digits
-refused_rows = (refl, refl)
+refused_rows = (ap Some (named-only cause.Real), refl)
 
 -- of several bad rows any may be named
 bad_rows : (put_outcome created (put ((number (pos 1) ∷ number (pos 2) ∷ literal.Bad cause.Real ∷ []) ∷ (number (pos 4) ∷ number (pos 5) ∷ literal.Bad cause.TooBig ∷ []) ∷ []))).refusal ≡ Some (set.union (only cause.Real) (only cause.TooBig))
 unfolding all_statement_rules count tokens_of word_kind the_text_test store_as text_kind digits
-bad_rows = refl
+bad_rows = ap Some (ap (λ s. set.union s (named (only cause.TooBig))) (named-only cause.Real) ∙ ap (set.union (only cause.Real)) (named-only cause.TooBig))
 
-refused_names : ((run created (codes "CREATE TABLE T(x)")).refusal ≡ Some (only (cause.Exists named.Table (codes "t")))) × ((run created (codes "CREATE TABLE sqlite_x(a, a)")).refusal ≡ Some (only (cause.Reserved (codes "sqlite_x")))) × ((run created (codes "CREATE TABLE u(a, A)")).refusal ≡ Some (only (cause.Exists named.Column (codes "a")))) × ((run created (codes "CREATE TABLE u(a DOUBLE)")).refusal ≡ Some (only cause.Real))
+refused_names : ((run created (codes "CREATE TABLE T(x)")).refusal ≡ Some (only (cause.Exists name_kind.Table (codes "t")))) × ((run created (codes "CREATE TABLE sqlite_x(a, a)")).refusal ≡ Some (only (cause.Reserved (codes "sqlite_x")))) × ((run created (codes "CREATE TABLE u(a, A)")).refusal ≡ Some (only (cause.Exists name_kind.Column (codes "a")))) × ((run created (codes "CREATE TABLE u(a DOUBLE)")).refusal ≡ Some (only cause.Real))
 unfolding all_statement_rules count tokens_of word_kind the_text_test
 refused_names = (refl, refl, refl, refl)
 

@@ -1,5 +1,5 @@
 -- The hosts that a statement names.
-use Rattle.std.specs.Prelude.{ℕ, List, [], ◌∷◌, ◌++◌, map, Result, Ok, Err}
+use Rattle.std.specs.Prelude.{ℕ, List, [], ◌∷◌, ◌++◌, Result, Ok, Err}
 use Rattle.std.specs.List.{flat_map}
 use Rattle.eng_value.specs.HostMeanings.{HostName, NamesTold, CollationAt}
 use Rattle.eng_value.specs.declared.cause.Cause.{Cause}

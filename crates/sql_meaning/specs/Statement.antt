@@ -1,24 +1,24 @@
 -- The outcome of a statement.
-use Rattle.std.specs.Prelude.{◌≡◌, ⊤, ℕ, suc, nat_le, nat_eq, Bool, true, false, List, [], ◌∷◌, ◌++◌, length, map, fold, drop, ◌-◌, ◌^◌, ℤ, negsuc, neg_ℤ, Option, Some, None, Result, Ok, Err, option_map, if◌then◌else◌, codes, slice_get}
+use Rattle.std.specs.Prelude.{◌≡◌, ⊤, ℕ, suc, nat_le, nat_eq, Bool, true, false, List, [], ◌∷◌, ◌++◌, length, map, fold, ◌+◌, ◌-◌, ◌^◌, ℤ, negsuc, neg_ℤ, Option, Some, None, Result, Ok, Err, option_map, if◌then◌else◌, codes, slice_get, slice_set}
 use Rattle.std.specs.FinSet as set
 use Rattle.std.specs.List.{flat_map}
 use Rattle.std.specs.Option.{option_to_list}
 use Rattle.eng_number.specs.Numbers.{fits_integer}
 use Rattle.eng_value.specs.Applied.{merged}
 use Rattle.eng_value.specs.Casts.{store_as}
-use Rattle.eng_value.specs.Causes.{CauseSet, has_cause, only}
+use Rattle.eng_value.specs.Causes.{CauseSet, has_cause, named, only}
 use Rattle.eng_value.specs.Environments.{Environment, ItemRow, carried, ignoring, no_causes, table_row, with_causes}
 use Rattle.eng_value.specs.StoredRows.{StoredRow, next_rowid}
 use Rattle.eng_value.specs.Truths.{truth_in, truth_of}
+use Rattle.eng_value.specs.Written.{Told, Written, unwritten}
 use Rattle.eng_value.specs.declared.affinity.Affinity.{Affinity}
 use Rattle.eng_value.specs.declared.affinity.Affinity.TheVariants as affinity
 use Rattle.eng_value.specs.declared.cause.Cause.{Cause}
 use Rattle.eng_value.specs.declared.cause.Cause.TheVariants as cause
 use Rattle.eng_value.specs.declared.cause.LimitKind.{LimitKind}
 use Rattle.eng_value.specs.declared.cause.LimitKind.TheVariants as limit
-use Rattle.eng_value.specs.declared.cause.NameKind.TheVariants as named
+use Rattle.eng_value.specs.declared.cause.NameKind.TheVariants as name_kind
 use Rattle.eng_value.specs.declared.limits.TheConstants.{MAX_COLUMNS}
-use Rattle.eng_value.specs.declared.modules.RowOp.{RowOp}
 use Rattle.eng_value.specs.declared.out.Out.{Out}
 use Rattle.eng_value.specs.declared.out.Out.TheVariants.{Good, Bad}
 use Rattle.eng_value.specs.declared.truth.Truth.{Truth}
@@ -64,13 +64,7 @@ use Rattle.sql_meaning.specs.declared.bound.SignedLiteral.{SignedLiteral}
 use Rattle.sql_meaning.specs.Expression.{value_of, literal_out}
 use Rattle.sql_meaning.specs.Names.{is_same_name, is_reserved_name}
 use Rattle.sql_meaning.specs.Spelled.{name_at, literal_at, is_least_magnitude}
-use Rattle.sql_meaning.specs.World.{Context, State, entry_named, environment_at, rows_of, with_rows}
-
--- a row that the update hook is told of
-pub record Told : Type 0 where
-  pub change : RowOp
-  pub table : List ℕ
-  pub rowid : ℤ
+use Rattle.sql_meaning.specs.World.{Context, State, entry_named, environment_at, lists_of, rows_at, rows_of, table_at, with_lists, with_rows}
 
 -- what a statement means: the causes why it is refused, if it is, any of which may be named; the rows that it gives, unless these are those of its plan, which are no part of the meaning; what the update hook is told; how many rows it changes, and what the connection then holds
 pub record Outcome : Type 0 where
@@ -89,6 +83,10 @@ nothing state = record { refusal = None; given = []; shows_plan = false; told = 
 abbrev pub refused : State → CauseSet → Outcome
 refused state causes = record (nothing state) { refusal = Some causes }
 
+-- what is bad is refused: of its causes those count that may be named
+abbrev pub failed : State → CauseSet → Outcome
+failed state causes = refused state (named causes)
+
 -- a query, or a change of the catalog
 abbrev pub done : List (List Value) → State → Outcome
 done given next = record (nothing next) { given = given }
@@ -96,15 +94,11 @@ done given next = record (nothing next) { given = given }
 -- ---- tables
 
 abbrev pub found_table : List ℕ → Option TableEntry → Result TableEntry Cause
-found_table name None = Err (cause.Unknown named.Table name)
+found_table name None = Err (cause.Unknown name_kind.Table name)
 found_table name (Some t) = Ok t
 
 abbrev pub table_named : List TableEntry → List ℕ → Result TableEntry Cause
 table_named catalog name = found_table name (entry_named catalog name)
-
--- the state in which the table of this name has these rows
-abbrev pub with_table : State → List ℕ → List StoredRow → State
-with_table state name rows = record state { world = record state.world { tables = with_rows state.world.tables name rows } }
 
 abbrev pub within_columns : {X : Type 0} → List X → Result (List X) Cause
 within_columns xs = if nat_le (length xs) MAX_COLUMNS then Ok xs else Err (cause.Limit limit.Columns)
@@ -126,7 +120,7 @@ column_named (c ∷ columns) name = if is_same_name c.name name then Some c else
 
 abbrev pub is_new_column : Option Column → Result (Unit {0}) Cause
 is_new_column None = Ok tt
-is_new_column (Some c) = Err (cause.Exists named.Column c.name)
+is_new_column (Some c) = Err (cause.Exists name_kind.Column c.name)
 
 -- one more column behind those that were declared
 abbrev pub with_column : List ℕ → List Column → ColumnDefinition → Result (List Column) Cause
@@ -140,7 +134,7 @@ columns_behind text columns (d ∷ ds) = with_column text columns d >>= λ more.
 
 abbrev pub is_new_table : Option TableEntry → Result (Unit {0}) Cause
 is_new_table None = Ok tt
-is_new_table (Some t) = Err (cause.Exists named.Table t.name)
+is_new_table (Some t) = Err (cause.Exists name_kind.Table t.name)
 
 abbrev pub is_free_name : List TableEntry → List ℕ → Result (Unit {0}) Cause
 is_free_name catalog name = if is_reserved_name name then Err (cause.Reserved name) else is_new_table (entry_named catalog name)
@@ -290,7 +284,7 @@ items_of ctx q = flat_map (λ rows. items_at q.conjuncts q.results (environment_
 
 -- a query changes nothing; it gives its good items up to the first bad one
 abbrev pub query_outcome : State → List Item → Outcome
-query_outcome state items = record (nothing state) { refusal = refusal_of items; given = given_of items }
+query_outcome state items = record (nothing state) { refusal = option_map named (refusal_of items); given = given_of items }
 
 -- ---- INSERT: the table, and then each row in turn
 
@@ -352,42 +346,47 @@ stored [] values = []
 stored (c ∷ columns) [] = []
 stored (c ∷ columns) (v ∷ values) = store_as c.affinity v ∷ stored columns values
 
-abbrev pub row_under : TableEntry → List StoredRow → List Value → Option ℤ → Result (List StoredRow) CauseSet
-row_under t rows values None = Err (only (cause.Full t.name))
-row_under t rows values (Some rowid) = Ok (rows ++ record { rowid = rowid; values = values } ∷ [])
+-- one row more, behind the others of its table
+abbrev pub with_row : Written → ℕ → StoredRow → Written
+with_row x table r = record x { world = slice_set x.world table (rows_at x.world table ++ r ∷ []); changes = x.changes + 1; last_rowid = r.rowid }
 
-abbrev pub item_put : TableEntry → List StoredRow → Item → Result (List StoredRow) CauseSet
-item_put t rows (Row values) = row_under t rows values (next_rowid rows)
-item_put t rows (Failed causes) = Err causes
+abbrev pub row_under : TableEntry → ℕ → Written → List Value → Option ℤ → Result Written CauseSet
+row_under t table x values None = Err (only (cause.Full t.name))
+row_under t table x values (Some rowid) = Ok (with_row x table (record { rowid = rowid; values = values }))
 
--- one row more behind the others, stored and then under the next rowid
-abbrev pub row_put : TableEntry → List StoredRow → List Value → Result (List StoredRow) CauseSet
-row_put t rows values = item_put t rows (item_of no_causes (stored t.columns values))
+abbrev pub item_put : TableEntry → ℕ → Written → Item → Result Written CauseSet
+item_put t table x (Row values) = row_under t table x values (next_rowid (rows_at x.world table))
+item_put t table x (Failed causes) = Err causes
+
+-- one row more in the table of this number, stored and then under the next rowid
+abbrev pub row_put : TableEntry → ℕ → Written → List Value → Result Written CauseSet
+row_put t table x values = item_put t table x (item_of no_causes (stored t.columns values))
 
 -- one row after another
-abbrev pub rows_put : TableEntry → List StoredRow → List (List Value) → Result (List StoredRow) CauseSet
-rows_put t rows [] = Ok rows
-rows_put t rows (row ∷ source) = row_put t rows row >>= λ more. rows_put t more source
+abbrev pub rows_put : TableEntry → ℕ → Written → List (List Value) → Result Written CauseSet
+rows_put t table x [] = Ok x
+rows_put t table x (row ∷ source) = row_put t table x row >>= λ more. rows_put t table more source
 
--- the rowid of the last row
-abbrev pub last_rowid_of : ℤ → List StoredRow → ℤ
-last_rowid_of rowid [] = rowid
-last_rowid_of rowid (r ∷ rows) = last_rowid_of r.rowid rows
+-- what a write begins with
+abbrev pub begun : State → Written
+begun state = unwritten (lists_of state.world) state.last_rowid
 
--- a write counts the rows that it changes and keeps the last rowid that it put
-abbrev pub written : State → TableEntry → ℕ → List StoredRow → Outcome
-written state t changed rows =
+-- what a write leaves that is not refused
+abbrev pub written : State → Written → Outcome
+written state x =
     record (nothing state) {
-      changed = changed;
-      next = record (with_table state t.name rows) { changes = changed; last_rowid = last_rowid_of state.last_rowid (drop (length (rows_of state.world.tables t.name)) rows) };
+      given = x.returned;
+      told = x.told;
+      changed = x.changes;
+      next = record state { world = with_lists state.world x.world; changes = x.changes; last_rowid = x.last_rowid };
     }
 
 -- what the rows come to that are put one after another
-abbrev pub all_put : State → TableEntry → ℕ → Result (List StoredRow) CauseSet → Outcome
-all_put state t changed (Ok rows) = written state t changed rows
-all_put state t changed (Err causes) = refused state causes
+abbrev pub all_put : State → Result Written CauseSet → Outcome
+all_put state (Ok x) = written state x
+all_put state (Err causes) = failed state causes
 
--- the causes of all bad items
+-- the causes of all bad items, of each those that may be named
 abbrev pub with_others : CauseSet → Option CauseSet → CauseSet
 with_others causes None = causes
 with_others causes (Some others) = set.union causes others
@@ -395,12 +394,12 @@ with_others causes (Some others) = set.union causes others
 abbrev pub causes_of : List Item → Option CauseSet
 causes_of [] = None
 causes_of (Row row ∷ items) = causes_of items
-causes_of (Failed causes ∷ items) = Some (with_others causes (causes_of items))
+causes_of (Failed causes ∷ items) = Some (with_others (named causes) (causes_of items))
 
 -- a bad row in a source fails the write before any row is put, and the cause of any bad one may be named
 abbrev pub put_source : State → Put → Option CauseSet → List (List Value) → Outcome
 put_source state p (Some causes) source = refused state causes
-put_source state p None source = all_put state p.table (length source) (rows_put p.table (rows_of state.world.tables p.table.name) source)
+put_source state p None source = all_put state (rows_put p.table (table_at state.world p.table.name) (begun state) source)
 
 abbrev pub source_of : Put → List Item
 source_of p = map (λ row. item_of no_causes (map literal_out row)) p.rows

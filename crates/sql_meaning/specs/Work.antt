@@ -1,11 +1,14 @@
 -- The size of a statement and the work that it asks for. Together they bound the instructions that it runs, whatever its plan.
-use Rattle.std.specs.Prelude.{ℕ, zero, suc, ◌+◌, ◌*◌, List, [], ◌∷◌, length, map, sum, Result, Ok, Err}
+use Rattle.std.specs.Prelude.{ℕ, ◌+◌, ◌*◌, List, [], ◌∷◌, length, map, sum, Option, Some, None, Result, Ok, Err}
+use Rattle.eng_value.specs.Causes.{CauseSet}
+use Rattle.eng_value.specs.Written.{Written}
 use Rattle.eng_value.specs.declared.cause.Cause.{Cause}
+use Rattle.eng_value.specs.declared.value.Value.{Value}
 use Rattle.sql_lex.specs.Tokens.{tokens_of}
 use Rattle.sql_meaning.specs.declared.column.TableEntry.{TableEntry}
-use Rattle.sql_meaning.specs.BoundStatements.{BoundStatement, Creates, FromItem, Puts, Queries}
-use Rattle.sql_meaning.specs.Statement.{item_rows, text_bound}
-use Rattle.sql_meaning.specs.World.{Context}
+use Rattle.sql_meaning.specs.BoundStatements.{BoundStatement, Creates, FromItem, Put, Puts, Queries}
+use Rattle.sql_meaning.specs.Statement.{begun, causes_of, given_of, item_rows, row_put, source_of, text_bound}
+use Rattle.sql_meaning.specs.World.{Context, State, table_at}
 
 -- ---- size
 
@@ -29,10 +32,25 @@ abbrev pub from_work : Context → List FromItem → ℕ
 from_work ctx [] = 1
 from_work ctx (i ∷ items) = (1 + length (item_rows ctx i)) * from_work ctx items
 
--- no expression holds another query yet, so that a query has the work of its FROM; a write has that of its source, and 1 for each row that it takes; what is neither query nor write has none
+-- the work behind a row: that in what it left, and none where it failed
+abbrev pub work_behind : Result Written CauseSet → (Written → ℕ) → ℕ
+work_behind (Ok x) work = work x
+work_behind (Err causes) work = 0
+
+-- the turns of a write: 1 for each row of its source, in the state that the rows in front of it left; behind one that fails there is none
+abbrev pub turns_work : TableEntry → ℕ → Written → List (List Value) → ℕ
+turns_work t table x [] = 0
+turns_work t table x (row ∷ source) = 1 + work_behind (row_put t table x row) (λ more. turns_work t table more source)
+
+-- a bad source has no turn
+abbrev pub source_work : State → Put → Option CauseSet → List (List Value) → ℕ
+source_work state p (Some causes) source = 0
+source_work state p None source = turns_work p.table (table_at state.world p.table.name) (begun state) source
+
+-- no expression holds another query yet, so that a query has the work of its FROM; a write has that of its source, which is 1, and its turns; what is neither query nor write has none
 abbrev pub work_of : Context → BoundStatement → ℕ
 work_of ctx (Creates t) = 0
-work_of ctx (Puts p) = 1 + length p.rows
+work_of ctx (Puts p) = 1 + source_work ctx.state p (causes_of (source_of p)) (given_of (source_of p))
 work_of ctx (Queries q) = from_work ctx q.from
 
 -- ---- the bound

@@ -1,6 +1,6 @@
 -- Tables and what they hold.
-use Rattle.std.specs.Prelude.{ℕ, List, [], ◌∷◌, Bool, false, ℤ, pos, nat_lt, if◌then◌else◌, length, map}
-use Rattle.std.specs.List.{find}
+use Rattle.std.specs.Prelude.{ℕ, List, [], ◌∷◌, Bool, false, ℤ, pos, nat_lt, if◌then◌else◌, length, map, slice_index_or, zip}
+use Rattle.std.specs.List.{find, position_or_len}
 use Rattle.std.specs.Option.{option_map}
 use Rattle.std.specs.declared.option.Option.{Option}
 use Rattle.eng_value.specs.Environments.{Environment, ItemRow, Lists, Surroundings, environment}
@@ -70,6 +70,26 @@ abbrev pub with_rows : List (List ℕ × List StoredRow) → List ℕ → List S
 with_rows [] name rows = (name, rows) ∷ []
 with_rows (t ∷ tables) name rows = if is_same_name t.0 name then (t.0, rows) ∷ tables else t ∷ with_rows tables name rows
 
+-- ---- tables by their numbers
+
+-- the number of a table: its place among the tables, and their number where it is none of them
+abbrev pub table_at : World → List ℕ → ℕ
+table_at world name = position_or_len (λ (t : List ℕ × List StoredRow). is_same_name t.0 name) world.tables
+
+-- the rows of each table, by its number
+abbrev pub lists_of : World → Lists
+lists_of world = map (λ (t : List ℕ × List StoredRow). t.1) world.tables
+
+-- the rows of the table of this number; none where there is no such table
+abbrev pub rows_at : Lists → ℕ → List StoredRow
+rows_at lists table = slice_index_or lists table []
+
+-- the world in which the tables have these rows
+abbrev pub with_lists : World → Lists → World
+with_lists world lists = record world { tables = zip (map (λ (t : List ℕ × List StoredRow). t.0) world.tables) lists }
+
+-- ---- what a connection shows of its tables
+
 -- a row with its rowid in front
 abbrev pub with_rowid : StoredRow → List Value
 with_rowid r = Integer r.rowid ∷ r.values
@@ -105,10 +125,6 @@ pub record Context : Type 0 where
 -- of a statement that is run for itself: no function of a host asks yet, so that nobody answers
 abbrev pub context : HostMeanings → State → List Value → Context
 context hosts state params = record { hosts = hosts; ask = nobody; state = state; params = params }
-
--- the rows of each table, by its place in the catalog
-abbrev pub lists_of : World → Lists
-lists_of world = map (λ (t : List ℕ × List StoredRow). t.1) world.tables
 
 abbrev pub surroundings_of : Context → Surroundings
 surroundings_of ctx = record { params = ctx.params; hosts = ctx.hosts; world = lists_of ctx.state.world; ask = ctx.ask }

@@ -2,8 +2,8 @@
 ghost use Rattle.std.specs.Prelude.{◌≡◌, ◌↔◌, ◌⊎◌, ◌∷◌, ◌++◌, ℕ, List, Some, None, Ok, Err, [], length};
 ghost use Rattle.eng_value.specs.Causes.{only};
 ghost use Rattle.eng_value.specs.Environments.{Environment, no_causes};
-ghost use Rattle.eng_value.specs.StoredRows.{StoredRow};
 ghost use Rattle.eng_value.specs.Truths.{truth_in, truth_of};
+ghost use Rattle.eng_value.specs.Written.{Written};
 ghost use Rattle.eng_value.specs.declared.cause.Cause.TheVariants.{Full};
 ghost use Rattle.eng_value.specs.declared.truth.Truth.TheVariants as truth;
 ghost use Rattle.eng_value.specs.declared.value.Value.{Value};
@@ -14,7 +14,7 @@ ghost use Rattle.sql_meaning.specs.Expression.{value_of};
 ghost use Rattle.sql_meaning.specs.BoundStatements.{Creates, Put, Puts, Queries, Query};
 ghost use Rattle.sql_meaning.specs.Statement.{Row, item_of, items_at, row_put, stored, text_bound, text_outcome};
 ghost use Rattle.sql_meaning.specs.Valid.{AreRowsOf, IsValid};
-ghost use Rattle.sql_meaning.specs.World.{Context, new_state};
+ghost use Rattle.sql_meaning.specs.World.{Context, new_state, rows_at};
 
 /// The state of a new connection is valid, and every statement leaves a valid state valid.
 pub fn states_stay_valid()
@@ -36,10 +36,10 @@ pub fn statements_do_what_they_say()
 
 /// A row whose values can be stored is refused exactly where the largest rowid is taken, as a full table and for nothing else.
 pub fn a_table_is_full_at_the_largest_rowid()
-    ensures { (t : TableEntry) (rows : List StoredRow) (source values : List Value)
-        → AreRowsOf t rows → item_of no_causes (stored t.columns source) ≡ Row values
-        → ((row_put t rows source ≡ Err (only (Full t.name))) ↔ IsFull rows)
-        × (((all : List StoredRow) × (row_put t rows source ≡ Ok all)) ⊎ IsFull rows) }
+    ensures { (t : TableEntry) (table : ℕ) (x : Written) (source values : List Value)
+        → AreRowsOf t (rows_at x.world table) → item_of no_causes (stored t.columns source) ≡ Row values
+        → ((row_put t table x source ≡ Err (only (Full t.name))) ↔ IsFull (rows_at x.world table))
+        × (((y : Written) × (row_put t table x source ≡ Ok y)) ⊎ IsFull (rows_at x.world table)) }
 {}
 
 /// A conjunct that is false or NULL rejects a row, whatever the others are: values, or bad.

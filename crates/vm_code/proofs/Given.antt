@@ -1,26 +1,24 @@
 -- Rows that were given before change nothing of a run, and a run has one end.
-use Rattle.std.proofs.Common.{◌≡◌, ℕ, zero, suc, ◌+◌, ◌-◌, ◌<◌, List, [], ◌∷◌, ◌++◌, Bool, true, false, Some, None, ℤ, refl, sym, ap, ◌∙◌, arith, append_assoc, append-nil, ⊎_elim, if◌then◌else◌}
+use Rattle.std.proofs.Common.{◌≡◌, ℕ, zero, suc, ◌+◌, ◌-◌, ◌<◌, List, [], ◌∷◌, Bool, true, false, Some, None, ℤ, map, refl, sym, ap, ◌∙◌, arith, append_assoc, append-nil, ⊎_elim, if◌then◌else◌}
 use Rattle.std.specs.Prelude.{slice_get}
 use Rattle.std.specs.declared.option.Option.{Option}
 use Rattle.std.proofs.lemmas.Bool.{cases_lt}
+use Rattle.eng_key.specs.Values.{value_keys}
+use Rattle.eng_value.specs.Applied.{binary_of, function_by, unary_of}
+use Rattle.eng_value.specs.Causes.{CauseSet, is_skip, only}
+use Rattle.eng_value.specs.Collations.{keys_of}
+use Rattle.eng_value.specs.Comparisons.{like_escaped_of}
 use Rattle.eng_value.specs.StoredRows.{StoredRow, next_rowid}
+use Rattle.eng_value.specs.declared.cause.Cause.TheVariants.{Full}
 use Rattle.eng_value.specs.declared.out.Out.{Out}
 use Rattle.vm_code.specs.declared.op.Op.{Op}
 use Rattle.vm_code.specs.declared.op.Op.TheVariants as op
+use Rattle.vm_code.specs.declared.operand.Operand.{Operand}
+use Rattle.vm_code.specs.declared.operand.Operand.TheVariants as operand
 use Rattle.vm_code.specs.declared.program.Unit.{Unit}
-use Rattle.vm_code.specs.Machine.{Row, rows_of, is_free, Cursor, Closed, Open, Shared, Frame, State, Ending, Setting, Next, On, End, act, step, go_on, after, code_of, unit_at, read, outs_from, values_from, integer_in, jump_if, is_accepted, is_rejected, is_null, is_known, is_bad, rewound, rewound_to, advanced, advanced_to, drawn, inserted, called, returned, cursor_at, cursor_rows, row_behind}
+use Rattle.vm_code.specs.Machine.{Row, rows_of, Cursor, Closed, Open, Holding, Standing, Shared, Frame, State, Ending, Leaving, Halts, GivesUp, Setting, Next, On, End, act, step, go_on, after, code_of, unit_at, read, put, operand_of, outs_from, values_from, jump_if, is_accepted, is_rejected, is_null, is_known, is_bad, rewound, rewound_to, advanced, advanced_to, drawn, called, returned, given_up, leads_to, leaving_of, cursor_at, cursor_rows, row_behind, world_of}
+use Rattle.vm_code.specs.Reading.{below, prepend, under}
 use Rattle.vm_code.proofs.Runs.{after_add}
-
--- behind other rows
-abbrev pub below : List Row → Shared → Shared
-below g x = record x { given = g ++ x.given }
-
-abbrev pub under : List Row → State → State
-under g s = record s { shared = below g s.shared }
-
-abbrev pub prepend : List Row → Next → Next
-prepend g (On s) = On (under g s)
-prepend g (End e x) = End e (below g x)
 
 module _ (g : List Row) where
   jump_given : (b : Bool) (s : State) (target : ℕ) → jump_if b (under g s) target ≡ prepend g (jump_if b s target)
@@ -31,9 +29,21 @@ module _ (g : List Row) where
   called_given None s u args to = refl
   called_given (Some x) s u args to = refl
 
-  returned_given : (fs : List Frame) (x : Shared) (v : Out) → returned fs (below g x) v ≡ prepend g (returned fs x v)
-  returned_given [] x v = refl
-  returned_given (f ∷ fs) x v = refl
+  returned_given : (fs : List Frame) (x : Shared) (results : List Out) → returned fs (below g x) results ≡ prepend g (returned fs x results)
+  returned_given [] x results = refl
+  returned_given (f ∷ fs) x results = refl
+
+  either_given : (b : Bool) (n n' k k' : Next) → n' ≡ prepend g n → k' ≡ prepend g k → (if b then n' else k') ≡ prepend g (if b then n else k)
+  either_given true n n' k k' e f = e
+  either_given false n n' k k' e f = f
+
+  given_up_given : (fs : List Frame) (x : Shared) (causes : CauseSet) → given_up fs (below g x) causes ≡ prepend g (given_up fs x causes)
+  given_up_given [] x causes = refl
+  given_up_given (f ∷ fs) x causes = either_given (is_skip causes) _ _ _ _ refl refl
+
+  leads_to_given : (o : Leaving) (fs : List Frame) (x : Shared) → leads_to o fs (below g x) ≡ prepend g (leads_to o fs x)
+  leads_to_given Halts fs x = refl
+  leads_to_given (GivesUp causes) fs x = given_up_given fs x causes
 
   rewound_to_given : (s : State) (c target t : ℕ) (rows : List StoredRow) → rewound_to (under g s) c target t rows ≡ prepend g (rewound_to s c target t rows)
   rewound_to_given s c target t [] = refl
@@ -41,7 +51,9 @@ module _ (g : List Row) where
 
   rewound_given : (x : Cursor) (s : State) (c target : ℕ) → rewound x (under g s) c target ≡ prepend g (rewound x s c target)
   rewound_given Closed s c target = refl
-  rewound_given (Open t place) s c target = rewound_to_given s c target t (rows_of s.shared.world t)
+  rewound_given (Open t place) s c target = rewound_to_given s c target t (rows_of (world_of s.shared) t)
+  rewound_given (Holding rows) s c target = refl
+  rewound_given (Standing row rest) s c target = refl
 
   advanced_to_given : (s : State) (c target t : ℕ) (r : Option StoredRow) → advanced_to (under g s) c target t r ≡ prepend g (advanced_to s c target t r)
   advanced_to_given s c target t None = refl
@@ -50,19 +62,26 @@ module _ (g : List Row) where
   advanced_given : (x : Cursor) (s : State) (c target : ℕ) → advanced x (under g s) c target ≡ prepend g (advanced x s c target)
   advanced_given Closed s c target = refl
   advanced_given (Open t None) s c target = refl
-  advanced_given (Open t (Some n)) s c target = advanced_to_given s c target t (row_behind (rows_of s.shared.world t) n)
+  advanced_given (Open t (Some n)) s c target = advanced_to_given s c target t (row_behind (rows_of (world_of s.shared) t) n)
+  advanced_given (Holding rows) s c target = refl
+  advanced_given (Standing row []) s c target = refl
+  advanced_given (Standing row (next ∷ rest)) s c target = refl
 
   drawn_given : (s : State) (r : ℕ) (name : List ℕ) (n : Option ℤ) → drawn (under g s) r name n ≡ prepend g (drawn s r name n)
-  drawn_given s r name None = refl
+  drawn_given s r name None = given_up_given s.stack s.shared (only (Full name))
   drawn_given s r name (Some n) = refl
 
-  with_row_given : (b : Bool) (x y : Shared) → (if b then below g y else below g x) ≡ below g (if b then y else x)
-  with_row_given true x y = refl
-  with_row_given false x y = refl
+  operand_given : (m : Setting) (s : State) (o : Operand) → operand_of m (under g s) o ≡ operand_of m s o
+  operand_given m s (operand.Register r) = refl
+  operand_given m s (operand.Constant out) = refl
+  operand_given m s (operand.Parameter k) = refl
+  operand_given m s (operand.Argument k) = refl
+  operand_given m s (operand.Column c k) = refl
 
-  inserted_given : (x : Cursor) (y : Shared) (r : StoredRow) → inserted x (below g y) r ≡ below g (inserted x y r)
-  inserted_given Closed y r = refl
-  inserted_given (Open t place) y r = with_row_given (is_free y.world t r.rowid) y _
+  operands_given : (m : Setting) (s : State) (os : List Operand) → map (operand_of m (under g s)) os ≡ map (operand_of m s) os
+  operands_given m s [] = refl
+  operands_given m s (o ∷ os) =
+      ap (λ v. v ∷ map (operand_of m (under g s)) os) (operand_given m s o) ∙ ap (λ vs. operand_of m s o ∷ vs) (operands_given m s os)
 
   pub act_given : (m : Setting) (o : Option Op) (s : State) → act m o (under g s) ≡ prepend g (act m o s)
   act_given m None s = refl
@@ -73,9 +92,9 @@ module _ (g : List Row) where
   act_given m (Some (op.NotNull r target)) s = jump_given (is_known (read s.regs r)) s target
   act_given m (Some (op.IsBad r target)) s = jump_given (is_bad (read s.regs r)) s target
   act_given m (Some op.Halt) s = refl
-  act_given m (Some (op.HaltBad r)) s = refl
+  act_given m (Some (op.HaltBad r)) s = leads_to_given (leaving_of (read s.regs r)) s.stack s.shared
   act_given m (Some (op.Call u first n to)) s = called_given (unit_at m.prog u) s u (outs_from s.regs first n) to
-  act_given m (Some (op.Ret r)) s = returned_given s.stack s.shared (read s.regs r)
+  act_given m (Some (op.Ret first n)) s = returned_given s.stack s.shared (outs_from s.regs first n)
   act_given m (Some (op.Argument k to)) s = refl
   act_given m (Some (op.ResultRow first n)) s =
       ap (λ l. On (record s { pc = s.pc + 1; shared = record s.shared { given = l } })) (append_assoc g s.shared.given (values_from s.regs first n ∷ []))
@@ -87,20 +106,26 @@ module _ (g : List Row) where
   act_given m (Some (op.Variable k to)) s = refl
   act_given m (Some (op.Copy from to)) s = refl
   act_given m (Some (op.Affinity r affinity)) s = refl
-  act_given m (Some (op.Unary o from to)) s = refl
-  act_given m (Some (op.Binary o a b to)) s = refl
-  act_given m (Some (op.LikeEscaped a b c to)) s = refl
-  act_given m (Some (op.Function f collation first n to)) s = refl
+  act_given m (Some (op.Unary o a to)) s = ap (λ v. put (under g s) to (unary_of o v)) (operand_given m s a)
+  act_given m (Some (op.Binary o a b to)) s =
+      ap (λ v. put (under g s) to (binary_of (keys_of m.hosts) o v (operand_of m (under g s) b))) (operand_given m s a)
+      ∙ ap (λ v. put (under g s) to (binary_of (keys_of m.hosts) o (operand_of m s a) v)) (operand_given m s b)
+  act_given m (Some (op.LikeEscaped a b c to)) s =
+      ap (λ v. put (under g s) to (like_escaped_of v (operand_of m (under g s) b) (operand_of m (under g s) c))) (operand_given m s a)
+      ∙ ap (λ v. put (under g s) to (like_escaped_of (operand_of m s a) v (operand_of m (under g s) c))) (operand_given m s b)
+      ∙ ap (λ v. put (under g s) to (like_escaped_of (operand_of m s a) (operand_of m s b) v)) (operand_given m s c)
+  act_given m (Some (op.Function f collation args to)) s =
+      ap (λ vs. put (under g s) to (function_by (value_keys (keys_of m.hosts)) f collation vs)) (operands_given m s args)
   act_given m (Some (op.Merge from to)) s = refl
   act_given m (Some (op.OpenRead c t)) s = refl
   act_given m (Some (op.OpenWrite c t)) s = refl
   act_given m (Some (op.Close c)) s = refl
-  act_given m (Some (op.Rewind c target)) s = rewound_given (cursor_at s.cursors c) s c target
-  act_given m (Some (op.Next c target)) s = advanced_given (cursor_at s.cursors c) s c target
+  act_given m (Some (op.CloseFrom c)) s = refl
+  act_given m (Some (op.Rewind c target)) s = rewound_given (cursor_at s.scene.cursors c) s c target
+  act_given m (Some (op.Next c target)) s = advanced_given (cursor_at s.scene.cursors c) s c target
   act_given m (Some (op.Column c k to)) s = refl
-  act_given m (Some (op.NewRowid c to name)) s = drawn_given s to name (next_rowid (cursor_rows s.shared.world (cursor_at s.cursors c)))
-  act_given m (Some (op.Insert c rowid first n)) s =
-      ap (λ x. On (record s { pc = s.pc + 1; shared = x })) (inserted_given (cursor_at s.cursors c) s.shared (record { rowid = integer_in s.regs rowid; values = values_from s.regs first n }))
+  act_given m (Some (op.NewRowid c to name)) s = drawn_given s to name (next_rowid (cursor_rows (world_of s.shared) (cursor_at s.scene.cursors c)))
+  act_given m (Some (op.Insert c rowid first n)) s = refl
   act_given m (Some op.Schema) s = refl
 
   go_on_given : (m : Setting) (n : ℕ) (x : Next) → ((s : State) → after m n (under g s) ≡ prepend g (after m n s)) → go_on (prepend g x) (after m n) ≡ prepend g (go_on x (after m n))

@@ -5,20 +5,34 @@ pub mod Rows
 pub mod Runs
 pub mod Kept
 pub mod Given
--- How a draft grows with each call of the Builder, and what registers and rows under cursors read:
+-- How a draft grows with each call of the Builder, what is open along it (`Steady`: `st_then` puts one stretch behind another, `st_op`, `st_fork`,
+-- `st_use`, `st_goto`, `st_leave` are the single instructions, `st_loop` is a loop), and what registers and rows under cursors read:
 pub mod Drafts
+pub mod Tracks
 pub mod Registers
+-- What a run looks at of the tables:
+pub mod Reading
 -- Stretches of code by claims. `t_seq` puts one behind another, `t_use` turns claims, `t_more` allows more instructions; `t_op`,
 -- `t_test`, `t_goto`, `t_halt`, `t_halt_bad` are the single instructions, and a jump goes by what holds at its label:
 pub mod Triples
 -- Expressions, bodies of loops and calls (`Leaves`, `Does`) as stretches, and stretches as those:
 pub mod Effects
--- Values by the values of their parts (`leaves_one`, `leaves_two`), and values in registers one after another (`Fills`):
+-- Values by an instruction (`leaves_op`, `leaves_one`), operands and what is made of them (`offers_then`, `leaves_by`), and values in
+-- registers one after another (`Fills`):
 pub mod Values
+pub mod Operands
 pub mod Fills
+-- Tests one after another, each of which may go to a label (`Sifts`: `sifts_then`):
+pub mod Sifting
 -- A loop over the rows of a table, whose body does its work once for each row in their order (`t_loop`):
 pub mod Loops
+-- A loop over rows that a cursor stands on, whose turns cost what they cost in the state that each of them finds, as those do whose bodies
+-- change the tables that later ones look at (`t_along`):
+pub mod Along
+-- Bodies that are left in their middle, and what stands behind them goes on (`caught_does`):
+pub mod Caught
 -- Calls of units that change what is shared (`t_work`):
 pub mod Calls
--- From the code of a main unit to what its program performs (`performs_of`):
+-- From the code of a main unit to what its program performs (`performs_of`), and to a unit in which what is open agrees (`balanced_of`):
 pub mod Whole
+pub mod Balancing

@@ -1,12 +1,12 @@
 -- The machine over lists: what a program does with tables that are lists of rows.
-use Rattle.std.specs.Prelude.{◌≡◌, ℕ, zero, suc, ◌+◌, ◌≤◌, length, Bool, true, false, not, ◌&&◌, List, [], ◌∷◌, ◌++◌, ℤ, pos, int_lt, nat_lt, replicate, Some, None, All, is_some, if◌then◌else◌, slice_get, slice_index_or, slice_set}
+use Rattle.std.specs.Prelude.{◌≡◌, ℕ, zero, suc, ◌+◌, ◌≤◌, length, Bool, true, false, not, ◌&&◌, List, [], ◌∷◌, ◌++◌, ℤ, pos, int_lt, nat_lt, map, replicate, Result, Some, None, All, is_some, if◌then◌else◌, slice_get, slice_index_or, slice_set}
 use Rattle.std.specs.List.{find}
 use Rattle.std.specs.Ordering.{int_eq}
 use Rattle.std.specs.declared.option.Option.{Option}
 use Rattle.eng_key.specs.Values.{value_keys}
 use Rattle.eng_value.specs.Applied.{unary_of, binary_of, function_by, merged}
 use Rattle.eng_value.specs.Casts.{store_as}
-use Rattle.eng_value.specs.Causes.{CauseSet, only}
+use Rattle.eng_value.specs.Causes.{CauseSet, is_skip, named, only}
 use Rattle.eng_value.specs.Collations.{keys_of}
 use Rattle.eng_value.specs.Comparisons.{like_escaped_of}
 use Rattle.eng_value.specs.Environments.{ItemRow, Lists, Surroundings, column_of, null_row, table_row}
@@ -15,6 +15,7 @@ use Rattle.eng_value.specs.Operators.{made}
 use Rattle.eng_value.specs.Outs.{bad, turned}
 use Rattle.eng_value.specs.Truths.{truth_in, truth_of}
 use Rattle.eng_value.specs.StoredRows.{StoredRow, IsAscending, next_rowid}
+use Rattle.eng_value.specs.Written.{Written, unwritten}
 use Rattle.eng_value.specs.declared.cause.Cause.TheVariants.{Full}
 use Rattle.eng_value.specs.declared.out.Out.{Out}
 use Rattle.eng_value.specs.declared.out.Out.TheVariants.{Good, Bad}
@@ -22,10 +23,10 @@ use Rattle.eng_value.specs.declared.truth.Truth.{Truth}
 use Rattle.eng_value.specs.declared.truth.Truth.TheVariants as truth
 use Rattle.eng_value.specs.declared.value.Value.{Value}
 use Rattle.eng_value.specs.declared.value.Value.TheVariants.{Null, Integer, Text, Blob}
-use Rattle.vm_code.specs.declared.change.Change.{Change}
-use Rattle.vm_code.specs.declared.change.Change.TheVariants.{RowPut, TableAdded}
 use Rattle.vm_code.specs.declared.op.Op.{Op}
 use Rattle.vm_code.specs.declared.op.Op.TheVariants as op
+use Rattle.vm_code.specs.declared.operand.Operand.{Operand}
+use Rattle.vm_code.specs.declared.operand.Operand.TheVariants as operand
 use Rattle.vm_code.specs.declared.program.Program.{Program}
 use Rattle.vm_code.specs.declared.program.Unit.{Unit}
 
@@ -38,9 +39,9 @@ Row = List Value
 abbrev pub World : Type 0
 World = Lists
 
--- the rows of each table ascend by their rowids
-abbrev pub IsOrdered : World → Type 0
-IsOrdered w = All IsAscending w
+-- what is true of the tables between any two instructions: the rows of each ascend by their rowids
+pub record IsSound (w : World) : Type 0 where
+  pub ordered : All IsAscending w
 
 -- a table's rows; none where there is no such table
 abbrev pub rows_of : World → ℕ → List StoredRow
@@ -65,10 +66,12 @@ is_free w table rowid = nat_lt table (length w) && not (is_some (row_under (rows
 
 -- ---- cursors
 
--- closed, or open on a table, where it is on the row of a rowid or on none
+-- closed; open on a table, and there on the row of a rowid or on none; holding rows for others to walk; or standing on a row that is no table's, with the rows behind it
 pub data Cursor : Type 0 where
   Closed : Cursor
   Open : ℕ → Option ℤ → Cursor
+  Holding : List ItemRow → Cursor
+  Standing : ItemRow → List ItemRow → Cursor
 
 -- the row that is there, and NULL where there is none
 abbrev pub row_read : Option StoredRow → ItemRow
@@ -80,31 +83,74 @@ abbrev pub current : World → Cursor → ItemRow
 current w Closed = null_row
 current w (Open table None) = null_row
 current w (Open table (Some rowid)) = row_read (row_under (rows_of w table) rowid)
+current w (Holding rows) = null_row
+current w (Standing row rest) = row
 
 -- the rows of a cursor's table
 abbrev pub cursor_rows : World → Cursor → List StoredRow
 cursor_rows w Closed = []
 cursor_rows w (Open table place) = rows_of w table
+cursor_rows w (Holding rows) = []
+cursor_rows w (Standing row rest) = []
+
+-- the rows that a cursor holds
+abbrev pub held : Cursor → List ItemRow
+held Closed = []
+held (Open table place) = []
+held (Holding rows) = rows
+held (Standing row rest) = []
 
 abbrev pub cursor_at : List Cursor → ℕ → Cursor
 cursor_at cursors c = slice_index_or cursors c Closed
 
+-- the cursors from one on are closed
+abbrev pub closed_from : ℕ → List Cursor → List Cursor
+closed_from c [] = []
+closed_from zero (x ∷ cursors) = Closed ∷ closed_from zero cursors
+closed_from (suc c) (x ∷ cursors) = x ∷ closed_from c cursors
+
 -- ---- states
 
--- what all frames share: the parameters, the tables, the rows given so far, and what was changed so far, oldest first
-pub record Shared : Type 0 where
-  pub params : List Value
-  pub world : World
-  pub given : List Row
-  pub changes : List Change
+-- what a unit was called with: its arguments, and the numbers of the triggers that run, the last one first
+pub record Inputs : Type 0 where
+  pub args : List Out
+  pub running : List ℕ
 
--- a unit that waits for the result of another, and the register that it goes to
+-- what the code of a frame looks at: its cursors, and what stands in its slots, as aggregates do
+pub record Scene : Type 0 where
+  pub cursors : List Cursor
+  pub slots : List Out
+
+-- a group: its key, and for each aggregate its state, or why that is bad
+pub record Group : Type 0 where
+  pub key : Row
+  pub states : List (Result Row CauseSet)
+
+-- what a frame puts aside: lists of rows, of which sorters are some; groups by first appearance; and the rows that its unit gives to the one that waits for it
+pub record Store : Type 0 where
+  pub lists : List (List ItemRow)
+  pub groups : List Group
+  pub rows : List ItemRow
+
+abbrev pub no_store : Store
+no_store = record { lists = []; groups = []; rows = [] }
+
+-- what all frames share: the rows given so far, and what was written so far
+pub record Shared : Type 0 where
+  pub given : List Row
+  pub written : Written
+
+abbrev pub world_of : Shared → World
+world_of x = x.written.world
+
+-- a unit that waits for the results of another, and the first of the registers that they go to
 pub record Frame : Type 0 where
   pub unit : ℕ
   pub pc : ℕ
   pub regs : List Out
-  pub args : List Out
-  pub cursors : List Cursor
+  pub inputs : Inputs
+  pub scene : Scene
+  pub store : Store
   pub to : ℕ
 
 -- the frame that runs, the frames that wait, the last first, and what they share
@@ -112,8 +158,9 @@ pub record State : Type 0 where
   pub unit : ℕ
   pub pc : ℕ
   pub regs : List Out
-  pub args : List Out
-  pub cursors : List Cursor
+  pub inputs : Inputs
+  pub scene : Scene
+  pub store : Store
   pub stack : List Frame
   pub shared : Shared
 
@@ -121,24 +168,35 @@ pub data Ending : Type 0 where
   Finished : Ending
   Failed : CauseSet → Ending
 
+-- a run that fails, if it does, fails for the causes that may be named
+abbrev pub ending_by : Option CauseSet → Ending
+ending_by None = Finished
+ending_by (Some causes) = Failed (named causes)
+
 -- where an instruction leads
 pub data Next : Type 0 where
   On : State → Next
   End : Ending → Shared → Next
 
--- what a run goes by: what the hosts mean, who answers what their functions ask, and the program
+-- what a run goes by: what the hosts mean, who answers what their functions ask, the parameters, and the program
 pub record Setting : Type 0 where
   pub hosts : HostMeanings
   pub ask : Oracle
+  pub params : List Value
   pub prog : Program
 
-abbrev pub setting : HostMeanings → Oracle → Program → Setting
-setting hosts ask prog = record { hosts = hosts; ask = ask; prog = prog }
+abbrev pub setting : HostMeanings → Oracle → List Value → Program → Setting
+setting hosts ask params prog = record { hosts = hosts; ask = ask; params = params; prog = prog }
+
+-- a number that was taken and got no unit has none
+abbrev pub unit_in : Option (Option Unit) → Option Unit
+unit_in None = None
+unit_in (Some x) = x
 
 -- the main unit is number 0, and the units that are called come behind it
 abbrev pub unit_at : Program → ℕ → Option Unit
 unit_at p zero = Some p.main
-unit_at p (suc k) = slice_get p.units k
+unit_at p (suc k) = unit_in (slice_get p.units k)
 
 abbrev pub code_in : Option Unit → List Op
 code_in None = []
@@ -204,11 +262,6 @@ abbrev pub parameter_at : List Value → ℕ → Out
 parameter_at params zero = Good Null
 parameter_at params (suc k) = made (slice_index_or params k Null)
 
--- how a run ends with what a register came to
-abbrev pub ending_of : Out → Ending
-ending_of (Good v) = Finished
-ending_of (Bad causes) = Failed causes
-
 abbrev pub good_or_null : Out → Value
 good_or_null (Good v) = v
 good_or_null (Bad c) = Null
@@ -233,8 +286,11 @@ integer_of (Blob bytes) = pos 0
 abbrev pub integer_in : List Out → ℕ → ℤ
 integer_in regs r = integer_of (good_or_null (read regs r))
 
+abbrev pub with_cursors : State → List Cursor → State
+with_cursors s cursors = record s { scene = record s.scene { cursors = cursors } }
+
 abbrev pub with_cursor : State → ℕ → Cursor → State
-with_cursor s c x = record s { cursors = slice_set s.cursors c x }
+with_cursor s c x = with_cursors s (slice_set s.scene.cursors c x)
 
 -- on the first row of its table
 abbrev pub rewound_to : State → ℕ → ℕ → ℕ → List StoredRow → Next
@@ -243,7 +299,9 @@ rewound_to s c target table (r ∷ rs) = skip (with_cursor s c (Open table (Some
 
 abbrev pub rewound : Cursor → State → ℕ → ℕ → Next
 rewound Closed s c target = jump s target
-rewound (Open table place) s c target = rewound_to s c target table (rows_of s.shared.world table)
+rewound (Open table place) s c target = rewound_to s c target table (rows_of (world_of s.shared) table)
+rewound (Holding rows) s c target = jump s target
+rewound (Standing row rest) s c target = jump s target
 
 -- on the row behind its own
 abbrev pub advanced_to : State → ℕ → ℕ → ℕ → Option StoredRow → Next
@@ -253,61 +311,117 @@ advanced_to s c target table (Some r) = jump (with_cursor s c (Open table (Some 
 abbrev pub advanced : Cursor → State → ℕ → ℕ → Next
 advanced Closed s c target = skip s
 advanced (Open table None) s c target = skip s
-advanced (Open table (Some rowid)) s c target = advanced_to s c target table (row_behind (rows_of s.shared.world table) rowid)
+advanced (Open table (Some rowid)) s c target = advanced_to s c target table (row_behind (rows_of (world_of s.shared) table) rowid)
+advanced (Holding rows) s c target = skip s
+advanced (Standing row []) s c target = skip (with_cursor s c Closed)
+advanced (Standing row (next ∷ rest)) s c target = jump (with_cursor s c (Standing next rest)) target
 
--- a rowid that is free, or why there is none
-abbrev pub drawn : State → ℕ → List ℕ → Option ℤ → Next
-drawn s r table None = End (Failed (only (Full table))) s.shared
-drawn s r table (Some rowid) = put s r (Good (Integer rowid))
+-- what an operand reads
+abbrev pub operand_in : Setting → List Out → Inputs → Scene → Shared → Operand → Out
+operand_in m regs inputs scene shared (operand.Register r) = read regs r
+operand_in m regs inputs scene shared (operand.Constant out) = out
+operand_in m regs inputs scene shared (operand.Parameter k) = parameter_at m.params k
+operand_in m regs inputs scene shared (operand.Argument k) = read inputs.args k
+operand_in m regs inputs scene shared (operand.Column c k) = column_of (current (world_of shared) (cursor_at scene.cursors c)) k
 
--- a row more in a table, where its rowid is free
-abbrev pub with_row : Shared → ℕ → StoredRow → Shared
+abbrev pub operand_of : Setting → State → Operand → Out
+operand_of m s o = operand_in m s.regs s.inputs s.scene s.shared o
+
+-- a row more in a table, where its rowid is free: it counts, and its rowid is the last one that was put
+abbrev pub with_row : Written → ℕ → StoredRow → Written
 with_row x table r =
     if is_free x.world table r.rowid
-    then record x { world = slice_set x.world table (put_row (rows_of x.world table) r); changes = x.changes ++ RowPut table r.rowid ∷ [] }
+    then record x { world = slice_set x.world table (put_row (rows_of x.world table) r); changes = x.changes + 1; last_rowid = r.rowid }
     else x
 
-abbrev pub inserted : Cursor → Shared → StoredRow → Shared
+abbrev pub inserted : Cursor → Written → StoredRow → Written
 inserted Closed x r = x
 inserted (Open table place) x r = with_row x table r
+inserted (Holding rows) x r = x
+inserted (Standing row rest) x r = x
 
 -- a table more, which has no row
-abbrev pub with_table : Shared → Shared
-with_table x = record x { world = x.world ++ [] ∷ []; changes = x.changes ++ TableAdded ∷ [] }
+abbrev pub with_table : Written → Written
+with_table x = record x { world = x.world ++ [] ∷ [] }
 
--- the state at a unit's start, and the one behind its end
-abbrev pub entered : Unit → ℕ → List Out → Frame → List Frame → Shared → State
-entered x u args f fs shared = record {
+abbrev pub with_given : Shared → Row → Shared
+with_given x row = record x { given = x.given ++ row ∷ [] }
+
+abbrev pub wrote : State → Written → Next
+wrote s x = skip (record s { shared = record s.shared { written = x } })
+
+-- ---- units that are called
+
+-- the state at a unit's start
+abbrev pub entered : Unit → ℕ → Inputs → Frame → List Frame → Shared → State
+entered x u inputs f fs shared = record {
   unit = u;
   pc = 0;
   regs = replicate x.registers (Good Null);
-  args = args;
-  cursors = replicate x.cursors Closed;
+  inputs = inputs;
+  scene = record { cursors = replicate x.cursors Closed; slots = [] };
+  store = no_store;
   stack = f ∷ fs;
   shared = shared;
 }
 
-abbrev pub resumed : Frame → List Frame → Shared → Out → State
-resumed f fs shared v = record {
+-- registers one after another, from a place on
+abbrev pub put_all : List Out → ℕ → List Out → List Out
+put_all regs to [] = regs
+put_all regs to (v ∷ vs) = put_all (slice_set regs to v) (to + 1) vs
+
+-- the state behind a unit's end, with its results
+abbrev pub resumed : Frame → List Frame → Shared → List Out → State
+resumed f fs shared results = record {
   unit = f.unit;
   pc = f.pc;
-  regs = slice_set f.regs f.to v;
-  args = f.args;
-  cursors = f.cursors;
+  regs = put_all f.regs f.to results;
+  inputs = f.inputs;
+  scene = f.scene;
+  store = f.store;
   stack = fs;
   shared = shared;
 }
 
 abbrev pub frame_of : State → ℕ → Frame
-frame_of s to = record { unit = s.unit; pc = s.pc + 1; regs = s.regs; args = s.args; cursors = s.cursors; to = to }
+frame_of s to = record { unit = s.unit; pc = s.pc + 1; regs = s.regs; inputs = s.inputs; scene = s.scene; store = s.store; to = to }
+
+-- what a unit that this one calls is called with: the triggers that run are the same
+abbrev pub inputs_with : Inputs → List Out → Inputs
+inputs_with inputs args = record inputs { args = args }
 
 abbrev pub called : Option Unit → State → ℕ → List Out → ℕ → Next
 called None s u args to = put s to (Good Null)
-called (Some x) s u args to = On (entered x u args (frame_of s to) s.stack s.shared)
+called (Some x) s u args to = On (entered x u (inputs_with s.inputs args) (frame_of s to) s.stack s.shared)
 
-abbrev pub returned : List Frame → Shared → Out → Next
-returned [] shared v = End Finished shared
-returned (f ∷ fs) shared v = On (resumed f fs shared v)
+abbrev pub returned : List Frame → Shared → List Out → Next
+returned [] shared results = End Finished shared
+returned (f ∷ fs) shared results = On (resumed f fs shared results)
+
+-- a unit gives up for causes. Where they say no more than that the row is left, it answers 1 to the one that waits; else the run fails, for those that may be named
+abbrev pub given_up : List Frame → Shared → CauseSet → Next
+given_up [] shared causes = End (Failed (named causes)) shared
+given_up (f ∷ fs) shared causes =
+    if is_skip causes then On (resumed f fs shared (Good (Integer (pos 1)) ∷ [])) else End (Failed (named causes)) shared
+
+-- how a stretch of code leaves its unit: the run is at its end, or the unit gives up
+pub data Leaving : Type 0 where
+  Halts : Leaving
+  GivesUp : CauseSet → Leaving
+
+abbrev pub leads_to : Leaving → List Frame → Shared → Next
+leads_to Halts stack shared = End Finished shared
+leads_to (GivesUp causes) stack shared = given_up stack shared causes
+
+-- by what a register came to
+abbrev pub leaving_of : Out → Leaving
+leaving_of (Good v) = Halts
+leaving_of (Bad causes) = GivesUp causes
+
+-- a rowid that is free, or why there is none
+abbrev pub drawn : State → ℕ → List ℕ → Option ℤ → Next
+drawn s r table None = given_up s.stack s.shared (only (Full table))
+drawn s r table (Some rowid) = put s r (Good (Integer rowid))
 
 -- ---- the instructions
 
@@ -320,33 +434,34 @@ act m (Some (op.IsNull r target)) s = jump_if (is_null (read s.regs r)) s target
 act m (Some (op.NotNull r target)) s = jump_if (is_known (read s.regs r)) s target
 act m (Some (op.IsBad r target)) s = jump_if (is_bad (read s.regs r)) s target
 act m (Some op.Halt) s = End Finished s.shared
-act m (Some (op.HaltBad r)) s = End (ending_of (read s.regs r)) s.shared
+act m (Some (op.HaltBad r)) s = leads_to (leaving_of (read s.regs r)) s.stack s.shared
 act m (Some (op.Call u first n to)) s = called (unit_at m.prog u) s u (outs_from s.regs first n) to
-act m (Some (op.Ret r)) s = returned s.stack s.shared (read s.regs r)
-act m (Some (op.Argument k to)) s = put s to (read s.args k)
-act m (Some (op.ResultRow first n)) s = skip (record s { shared = record s.shared { given = s.shared.given ++ values_from s.regs first n ∷ [] } })
+act m (Some (op.Ret first n)) s = returned s.stack s.shared (outs_from s.regs first n)
+act m (Some (op.Argument k to)) s = put s to (read s.inputs.args k)
+act m (Some (op.ResultRow first n)) s = skip (record s { shared = with_given s.shared (values_from s.regs first n) })
 act m (Some (op.Null to)) s = put s to (Good Null)
 act m (Some (op.Integer n to)) s = put s to (Good (Integer n))
 act m (Some (op.String8 text to)) s = put s to (Good (Text text))
 act m (Some (op.Blob bytes to)) s = put s to (Good (Blob bytes))
 act m (Some (op.Bad cause to)) s = put s to (bad cause)
-act m (Some (op.Variable k to)) s = put s to (parameter_at s.shared.params k)
+act m (Some (op.Variable k to)) s = put s to (parameter_at m.params k)
 act m (Some (op.Copy from to)) s = put s to (read s.regs from)
 act m (Some (op.Affinity r affinity)) s = put s r (turned (store_as affinity) (read s.regs r))
-act m (Some (op.Unary o from to)) s = put s to (unary_of o (read s.regs from))
-act m (Some (op.Binary o a b to)) s = put s to (binary_of (keys_of m.hosts) o (read s.regs a) (read s.regs b))
-act m (Some (op.LikeEscaped a b c to)) s = put s to (like_escaped_of (read s.regs a) (read s.regs b) (read s.regs c))
-act m (Some (op.Function f collation first n to)) s = put s to (function_by (value_keys (keys_of m.hosts)) f collation (outs_from s.regs first n))
+act m (Some (op.Unary o a to)) s = put s to (unary_of o (operand_of m s a))
+act m (Some (op.Binary o a b to)) s = put s to (binary_of (keys_of m.hosts) o (operand_of m s a) (operand_of m s b))
+act m (Some (op.LikeEscaped a b c to)) s = put s to (like_escaped_of (operand_of m s a) (operand_of m s b) (operand_of m s c))
+act m (Some (op.Function f collation args to)) s = put s to (function_by (value_keys (keys_of m.hosts)) f collation (map (operand_of m s) args))
 act m (Some (op.Merge from to)) s = put s to (merged (read s.regs from) (read s.regs to))
 act m (Some (op.OpenRead c table)) s = skip (with_cursor s c (Open table None))
 act m (Some (op.OpenWrite c table)) s = skip (with_cursor s c (Open table None))
 act m (Some (op.Close c)) s = skip (with_cursor s c Closed)
-act m (Some (op.Rewind c target)) s = rewound (cursor_at s.cursors c) s c target
-act m (Some (op.Next c target)) s = advanced (cursor_at s.cursors c) s c target
-act m (Some (op.Column c k to)) s = put s to (column_of (current s.shared.world (cursor_at s.cursors c)) k)
-act m (Some (op.NewRowid c to table)) s = drawn s to table (next_rowid (cursor_rows s.shared.world (cursor_at s.cursors c)))
-act m (Some (op.Insert c rowid first n)) s = skip (record s { shared = inserted (cursor_at s.cursors c) s.shared (record { rowid = integer_in s.regs rowid; values = values_from s.regs first n }) })
-act m (Some op.Schema) s = skip (record s { shared = with_table s.shared })
+act m (Some (op.CloseFrom c)) s = skip (with_cursors s (closed_from c s.scene.cursors))
+act m (Some (op.Rewind c target)) s = rewound (cursor_at s.scene.cursors c) s c target
+act m (Some (op.Next c target)) s = advanced (cursor_at s.scene.cursors c) s c target
+act m (Some (op.Column c k to)) s = put s to (column_of (current (world_of s.shared) (cursor_at s.scene.cursors c)) k)
+act m (Some (op.NewRowid c to table)) s = drawn s to table (next_rowid (cursor_rows (world_of s.shared) (cursor_at s.scene.cursors c)))
+act m (Some (op.Insert c rowid first n)) s = wrote s (inserted (cursor_at s.scene.cursors c) s.shared.written (record { rowid = integer_in s.regs rowid; values = values_from s.regs first n }))
+act m (Some op.Schema) s = wrote s (with_table s.shared.written)
 
 -- ---- runs
 
@@ -362,28 +477,31 @@ abbrev pub after : Setting → ℕ → State → Next
 after m zero s = On s
 after m (suc n) s = go_on (step m s) (after m n)
 
--- the machine comes from one state to another in at most so many instructions
-pub record Reaches (m : Setting) (most : ℕ) (s t : State) : Type 0 where
+-- so many instructions at most lead from a state to where this is
+pub record Leads (m : Setting) (most : ℕ) (s : State) (n : Next) : Type 0 where
   pub steps : ℕ
   pub within : steps ≤ most
-  pub is : after m steps s ≡ On t
+  pub is : after m steps s ≡ n
 
--- a run ends in at most so many instructions
-pub record Ends (m : Setting) (most : ℕ) (s : State) (e : Ending) (shared : Shared) : Type 0 where
-  pub steps : ℕ
-  pub within : steps ≤ most
-  pub is : after m steps s ≡ End e shared
+-- the machine comes from one state to another
+abbrev pub Reaches : Setting → ℕ → State → State → Type 0
+Reaches m most s t = Leads m most s (On t)
+
+-- a run ends
+abbrev pub Ends : Setting → ℕ → State → Ending → Shared → Type 0
+Ends m most s e shared = Leads m most s (End e shared)
 
 -- the state at a program's start
-abbrev pub start : Program → List Value → World → State
-start p params w = record {
+abbrev pub start : Program → World → ℤ → State
+start p w last_rowid = record {
   unit = 0;
   pc = 0;
   regs = replicate p.main.registers (Good Null);
-  args = [];
-  cursors = replicate p.main.cursors Closed;
+  inputs = record { args = []; running = [] };
+  scene = record { cursors = replicate p.main.cursors Closed; slots = [] };
+  store = no_store;
   stack = [];
-  shared = record { params = params; world = w; given = []; changes = [] };
+  shared = record { given = []; written = unwritten w last_rowid };
 }
 
 -- how a run ends, and what is shared then
@@ -391,7 +509,8 @@ pub record Run : Type 0 where
   pub ending : Ending
   pub shared : Shared
 
--- whatever surrounds the program: its run from a world whose tables are in order ends so, in at most so many instructions
-abbrev pub Performs : Program → (Surroundings → Run) → (World → ℕ) → Type 0
+-- whatever surrounds the program, and whatever rowid was put last: its run from sound tables ends so, in at most so many instructions
+abbrev pub Performs : Program → (Surroundings → ℤ → Run) → (Surroundings → ℕ) → Type 0
 Performs p run most =
-    (x : Surroundings) → IsOrdered x.world → Ends (setting x.hosts x.ask p) (most x.world) (start p x.params x.world) (run x).ending (run x).shared
+    (x : Surroundings) (last_rowid : ℤ) → IsSound x.world
+    → Ends (setting x.hosts x.ask x.params p) (most x) (start p x.world last_rowid) (run x last_rowid).ending (run x last_rowid).shared

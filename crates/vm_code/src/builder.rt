@@ -1,15 +1,17 @@
 // The builder of a unit.
 ghost use Rattle.std.specs.Prelude.{◌≡◌, ◌+◌, ◌-◌, ◌<◌, ◌≤◌, [], ◌∷◌, ◌++◌, length, map, max, slice_get, slice_set, IfOk, None, Some};
-ghost use Rattle.vm_code.specs.Draft.{Draft, begun, bound, given_back, released, taken, with_cursor, with_label, with_op};
-ghost use Rattle.vm_code.specs.Frames.{IsProgramOf, IsUnitOf, place_in, placed};
+ghost use Rattle.vm_code.specs.Draft.{Draft, begun, bound, given_back, released, taken, with_cursor, with_label, with_number, with_op};
+ghost use Rattle.vm_code.specs.Frames.{IsProgramOf, IsUnitOf, IsUnitUnder, place_in, placed};
 
+use crate::track::Track;
+use crate::way::way_of;
 use crate::{Op, Program, Unit};
 use sqlite_items::Items;
 use std::alloc::{AllocError, Global};
 use std::marker::Model;
 
 /// A unit under construction: instructions whose jumps go to labels, registers and cursors that are taken, and the units that
-/// are ready. Code is only added behind the other, and a label gets its place once.
+/// are ready or have a number. Code is only added behind the other, a label gets its place once, and so does a number its unit.
 #[derive(Drop)]
 pub struct Builder {
     code: Vec<Op>,
@@ -17,13 +19,19 @@ pub struct Builder {
     next: u32,
     most: u32,
     cursors: u32,
-    units: Items<Unit>,
+    units: Items<Option<Unit>>,
+    track: Track,
 }
 
 impl Model for Builder {
     ghost use Rattle.vm_code.specs.Draft.{Draft};
 
     ghost Value = { Draft };
+
+    ghost use Rattle.std.specs.Coded.{codes};
+    ghost use Rattle.eng_value.specs.contracts.out.Out as out;
+
+    ghost coded = { Prim.hlevel (codes, out.the_row.coded) };
 
     ghost view = { λ b.
         record {
@@ -33,12 +41,13 @@ impl Model for Builder {
           most = b.most;
           cursors = b.cursors;
           units = b.units;
+          track = b.track;
         } };
 }
 
 impl Builder {
     /// The start of a unit, beside the units that are ready.
-    pub fn new(alloc: Global, units: Items<Unit>) -> Builder
+    pub fn new(alloc: Global, units: Items<Option<Unit>>) -> Builder
         ensures { result ≡ begun units }
     {
         Builder {
@@ -48,32 +57,37 @@ impl Builder {
             most: 0,
             cursors: 0,
             units,
+            track: Track::new(alloc),
         }
     }
 
-    /// One more instruction, whose jump, if it has one, goes to a label.
+    /// One more instruction, whose jump, if it has one, goes to a label. What is open in front of it and behind it is noted.
     pub fn op(&mut self, op: Op) -> Result<(), AllocError>
         ensures { IfOk result (λ _. self.new ≡ with_op self.old op) }
     {
+        self.track.pass(way_of(&op))?;
         self.code.push(op)?;
         Ok(())
     }
 
-    /// A label whose place is not known yet.
+    /// A label whose place is not known yet. At its place the same is open as where it is made.
     pub fn label(&mut self) -> Result<usize, AllocError>
         ensures { IfOk result (λ l. (l ≡ length self.old.labels) × (self.new ≡ with_label self.old)) }
     {
         let label = self.labels.len();
         self.labels.push(None)?;
+        self.track.label()?;
         Ok(label)
     }
 
-    /// The label's place is behind the last instruction so far.
-    pub fn bind(&mut self, label: usize)
+    /// The label's place is behind the last instruction so far. What is open there is what was open
+    /// where it was made.
+    pub fn bind(&mut self, label: usize) -> Result<(), AllocError>
         requires { slice_get self.old.labels label ≡ Some None }
-        ensures { self.new ≡ bound self.old label }
+        ensures { IfOk result (λ _. self.new ≡ bound self.old label) }
     {
         self.labels[label] = Some(self.code.len());
+        self.track.arrive(label)
     }
 
     /// The first register that is free.
@@ -124,8 +138,20 @@ impl Builder {
         Ok(cursor)
     }
 
-    /// The ready units and this one behind them, with places in the stead of labels. A label without a place stands for 0.
-    pub fn finish_unit(self) -> Result<Items<Unit>, AllocError>
+    /// The number of a unit that will be written later, so that code can call it already, as units do that call one another. There are
+    /// fewer than 2 ^ 32 of them.
+    pub fn number(&mut self) -> Result<u32, AllocError>
+        ensures { IfOk result (λ k. (k ≡ length self.old.units) × (self.new ≡ with_number self.old)) }
+    {
+        let Ok(number) = u32::try_from(self.units.len()) else {
+            return Err(AllocError);
+        };
+        self.units.push(None)?;
+        Ok(number)
+    }
+
+    /// The units and this one behind them, with places in the stead of labels. A label without a place stands for 0.
+    pub fn finish_unit(self) -> Result<Items<Option<Unit>>, AllocError>
         ensures { IfOk result (λ units. IsUnitOf self units) }
     {
         let Builder {
@@ -135,9 +161,31 @@ impl Builder {
             most,
             cursors,
             mut units,
+            track: _,
         } = self;
-        units.push(finished(code, &labels, most, cursors))?;
+        units.push(Some(finished(code, &labels, most, cursors)))?;
         Ok(units)
+    }
+
+    /// The units with this one under a number that was taken for it.
+    pub fn finish_numbered(self, number: u32) -> Items<Option<Unit>>
+        requires { slice_get self.units number ≡ Some None }
+        ensures { IsUnitUnder self number result }
+    {
+        let Builder {
+            code,
+            labels,
+            next: _,
+            most,
+            cursors,
+            mut units,
+            track: _,
+        } = self;
+        units.set(
+            number as usize,
+            Some(finished(code, &labels, most, cursors)),
+        );
+        units
     }
 
     /// The program whose main unit this is, with places in the stead of labels. A label without a place stands for 0.
@@ -151,6 +199,7 @@ impl Builder {
             most,
             cursors,
             units,
+            track: _,
         } = self;
         Program {
             main: finished(code, &labels, most, cursors),

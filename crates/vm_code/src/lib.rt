@@ -8,11 +8,18 @@
 #![tactic(auto)]
 
 mod builder;
-mod change;
+mod laws;
 mod op;
+mod operand;
 mod program;
+mod track;
+mod way;
 
 pub use builder::Builder;
-pub use change::Change;
+pub use laws::{
+    a_program_reads_only_the_tables_that_it_opens, a_run_has_one_end, runs_add_up,
+    what_was_given_before_has_no_influence,
+};
 pub use op::Op;
+pub use operand::Operand;
 pub use program::{Program, Unit};

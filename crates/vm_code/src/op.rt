@@ -1,11 +1,15 @@
 // The instructions.
+use crate::Operand;
 use eng_value::{Affinity, BinaryOperator, Blob, Builtin, Cause, Collation, Text, UnaryOperator};
+use sqlite_items::Items;
 
 /// An instruction (The SQLite Bytecode Engine). Its operands are numbers of registers, cursors, columns, tables and units,
 /// and places in the unit's code; `r` is the registers of the frame, each of which holds a value or is bad. A register, a
 /// cursor, a unit or an instruction that is not there never stops the machine: a missing register reads NULL and takes
 /// nothing, a cursor that is not open reads NULL and has no row, and behind the last instruction the run ends as at `Halt`.
 /// What is bad is carried along, with its causes, until `HaltBad` or the query decides what becomes of it.
+/// Operators and functions read operands: a register, what is always the same, or what stands in a row, so that nothing is brought into
+/// a register only to be read once.
 ///
 /// Where the table of opcodes numbers the operands, the comment does too: p1, p2, p3, p4 and p5.
 #[derive(Drop)]
@@ -45,21 +49,23 @@ pub enum Op {
     },
     /// Ends the run.
     Halt,
-    /// Ends the run with the causes of r[`register`], as a failure where it is bad and as `Halt` does where it is good.
+    /// Gives up with the causes of r[`register`] where it is bad: the run fails for those that may be named, or, where nothing is said but
+    /// that the row is left, the unit answers 1 to the one that waits for it. Where it is good the run ends as at `Halt`.
     HaltBad {
         register: u32,
     },
     /// Runs the unit of number `unit` (p1) in a new frame, with the `count` registers from `first` (p2) on as its arguments.
-    /// Its result goes to r[`to`] (p3). A unit that is not there leaves NULL.
+    /// Its results go to the registers from r[`to`] (p3) on. A unit that is not there leaves NULL.
     Call {
         unit: u32,
         first: u32,
         count: u32,
         to: u32,
     },
-    /// Leaves the unit with r[`from`] (p1) as its result. In the main unit it ends the run.
+    /// Leaves the unit with the `count` registers from `first` (p1) on as its results. In the main unit it ends the run.
     Ret {
-        from: u32,
+        first: u32,
+        count: u32,
     },
     /// r[`to`] (p2) is the argument of number `number` (p1).
     Argument {
@@ -111,35 +117,33 @@ pub enum Op {
         register: u32,
         affinity: Affinity,
     },
-    /// r[`to`] (p2) is what the operator gives for r[`from`] (p1). It stands for the opcodes of the operators with one operand, as
+    /// r[`to`] (p2) is what the operator gives for its operand (p1). It stands for the opcodes of the operators with one operand, as
     /// Not, BitNot and Cast.
     Unary {
         operator: UnaryOperator,
-        from: u32,
+        operand: Operand,
         to: u32,
     },
-    /// r[`to`] (p3) is what the operator gives for r[`left`] and r[`right`]. It stands for the opcodes of the operators with two
-    /// operands, as Add, Concat and Lt.
+    /// r[`to`] (p3) is what the operator gives for its operands. It stands for the opcodes of the operators with two operands, as
+    /// Add, Concat and Lt.
     Binary {
         operator: BinaryOperator,
-        left: u32,
-        right: u32,
+        left: Operand,
+        right: Operand,
         to: u32,
     },
-    /// r[`to`] is whether the text in r[`text`] is like the pattern in r[`pattern`], whose character of escape is r[`escape`].
+    /// r[`to`] is whether a text is like a pattern with a character of escape.
     LikeEscaped {
-        text: u32,
-        pattern: u32,
-        escape: u32,
+        text: Operand,
+        pattern: Operand,
+        escape: Operand,
         to: u32,
     },
-    /// r[`to`] (p3) is what the function (p4) gives for the `count` (p5) registers from `first` (p2) on, where texts are compared under
-    /// the collation.
+    /// r[`to`] (p3) is what the function (p4) gives for its arguments (p2, p5), where texts are compared under the collation.
     Function {
         function: Builtin,
         collation: Collation,
-        first: u32,
-        count: u32,
+        args: Items<Operand>,
         to: u32,
     },
     /// Where r[`from`] is bad r[`to`] becomes bad, with the causes of both; where it is good r[`to`] stays as it is.
@@ -161,6 +165,10 @@ pub enum Op {
     Close {
         cursor: u32,
     },
+    /// Closes the cursors from a number (p1) on: stands where loops are left in their middle.
+    CloseFrom {
+        cursor: u32,
+    },
     /// The cursor (p1) comes to the first row of its table. Jumps to `target` (p2) where there is none.
     Rewind {
         cursor: u32,
@@ -177,7 +185,7 @@ pub enum Op {
         column: u32,
         to: u32,
     },
-    /// r[`to`] (p2) is the rowid behind the last of the cursor's (p1) table. Where there is none the run ends with `Full`, which
+    /// r[`to`] (p2) is the rowid behind the last of the cursor's (p1) table. Where there is none the unit gives up for `Full`, which
     /// names the table (p4).
     NewRowid {
         cursor: u32,

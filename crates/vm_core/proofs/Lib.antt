@@ -1,5 +1,10 @@
+mod RowsLess
 mod Stored
 mod Puts
+mod TakingBack
+mod Marks
 mod Steps
 mod RegisterLaws
 mod Columns
+mod OperandLaws
+mod Closing

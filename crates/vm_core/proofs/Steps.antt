@@ -1,17 +1,15 @@
 -- One instruction more.
-use Rattle.std.proofs.Common.{◌≡◌, ℕ, zero, suc, ◌+◌, List, [], Ok, Err, Result, Option, IfOk, OnErr, refl, sym, ap, ◌∙◌, subst, arith, rules}
+use Rattle.std.proofs.Common.{◌≡◌, ℕ, zero, suc, ◌+◌, List, [], Ok, Err, Result, IfOk, refl, sym, ap, ◌∙◌, subst, arith, rules}
 use Rattle.std.specs.declared.alloc.AllocError.{AllocError}
 use Rattle.eng_value.specs.HostMeanings.{HostMeanings, Oracle, no_hosts}
-use Rattle.vm_code.specs.declared.op.Op.{Op}
+use Rattle.eng_value.specs.declared.value.Value.{Value}
 use Rattle.vm_code.specs.declared.program.Program.{Program}
-use Rattle.vm_code.specs.Changes.{before}
-use Rattle.vm_code.specs.Machine.{Row, World, Setting, State, Next, On, End, act, step, go_on, after, setting}
-use Rattle.vm_code.proofs.Kept.{shared_of, from_act}
+use Rattle.vm_code.specs.Machine.{Row, World, Setting, State, Next, On, End, step, go_on, after, setting}
 use Rattle.vm_core.specs.declared.event.Event.{Event}
 use Rattle.vm_core.specs.declared.event.Event.TheVariants as event
 use Rattle.vm_core.specs.declared.pace.Pace.{Pace}
 use Rattle.vm_core.specs.declared.pace.Pace.TheVariants as pace
-use Rattle.vm_core.specs.Events.{EventIs, Leads, NamesBudget, NoneInVain, StopsFor}
+use Rattle.vm_core.specs.Events.{ActsOver, EventIs, LeadsTo, NamesBudget, NoneInVain, PausesFor, StopsFor}
 use Rattle.vm_core.specs.Paused.{Progress, Paused, paused, state_at, state_of}
 
 module _ (m : Setting) where
@@ -54,43 +52,56 @@ names_stops whole t (event.Bad c) x stops = search rules
 names_stops whole t (event.Interrupted n) x stops = absurd stops
 names_stops whole t event.Mem x stops = absurd stops
 
--- what taking the changes back gives is the same behind an instruction
-module _ (m : Setting) (o : Option Op) (p q : Progress) (w v : World) where
-  abbrev undone_in : Next → World
-  undone_in n = before (shared_of n).changes (shared_of n).world
+-- an event for which an instruction was not done says no more than that the machine goes on
+pub event_pauses : (m : Setting) (n : ℕ) (s u : State) (t : List Row → State) (all : Type 0) (e : Event) → PausesFor e u t → after m n s ≡ On u → EventIs m n s t all e
+event_pauses m n s u t all (event.Row row) pauses is = absurd pauses
+event_pauses m n s u t all event.Done pauses is = absurd pauses
+event_pauses m n s u t all (event.Bad c) pauses is = absurd pauses
+event_pauses m n s u t all (event.Interrupted whole) pauses is = absurd pauses
+event_pauses m n s u t all event.Mem pauses is = (u, is)
 
-  kept : undone_in (act m o (state_at p w [])) ≡ before p.changes w
-  kept = from_act (before p.changes w) m o (state_at p w []) refl
+pub names_pauses : (whole : ℕ) (u : State) (t : List Row → State) (e : Event) → PausesFor e u t → NamesBudget whole e
+names_pauses whole u t (event.Row row) pauses = absurd pauses
+names_pauses whole u t event.Done pauses = absurd pauses
+names_pauses whole u t (event.Bad c) pauses = absurd pauses
+names_pauses whole u t (event.Interrupted n) pauses = absurd pauses
+names_pauses whole u t event.Mem pauses = tt
 
-  undo_stops : (e : Event) → StopsFor e (state_at q v) (act m o (state_at p w [])) → before q.changes v ≡ before p.changes w
-  undo_stops (event.Row row) e = sym (ap undone_in e) ∙ kept
-  undo_stops event.Done e = sym (ap undone_in e) ∙ kept
-  undo_stops (event.Bad c) e = sym (ap undone_in e) ∙ kept
-  undo_stops (event.Interrupted n) e = absurd e
-  undo_stops event.Mem e = absurd e
+-- where an instruction leads is said in other words
+pub acts_as : (r : Result Pace AllocError) (e : Event) (old : Progress) (w : World) (new : Progress) (v : World) (f g : State → Next) → f (state_at old w []) ≡ g (state_at old w []) → ActsOver r e old w new v f → ActsOver r e old w new v g
+acts_as r e old w new v f g same acts =
+    subst (λ (n : Next). IfOk r (λ p. LeadsTo p e (state_at old w []) (state_at new v) n)) same acts
 
-  undo_leads : (f : Pace) (e : Event) → Leads f e (state_at q v) (act m o (state_at p w [])) → before q.changes v ≡ before p.changes w
-  undo_leads pace.Going e leads = sym (ap undone_in leads) ∙ kept
-  undo_leads pace.Stopping e leads = undo_stops e leads
+pauses_alike : (e : Event) (s u : State) (t : List Row → State) → PausesFor e s t → PausesFor e u t
+pauses_alike (event.Row row) s u t pauses = absurd pauses
+pauses_alike event.Done s u t pauses = absurd pauses
+pauses_alike (event.Bad c) s u t pauses = absurd pauses
+pauses_alike (event.Interrupted n) s u t pauses = absurd pauses
+pauses_alike event.Mem s u t pauses = tt
 
-  pub undo_either : (r : Result Pace AllocError) (e : Event) → IfOk r (λ f. Leads f e (state_at q v) (act m o (state_at p w []))) → OnErr r (q.changes ≡ p.changes) → OnErr r (v ≡ w) → before q.changes v ≡ before p.changes w
-  undo_either (Ok f) e leads log tables = undo_leads f e leads
-  undo_either (Err x) e leads log tables = ap (λ cs. before cs v) log ∙ ap (before p.changes) tables
+leads_alike : (p : Pace) (e : Event) (s u : State) (t : List Row → State) (n : Next) → LeadsTo p e s t n → LeadsTo p e u t n
+leads_alike pace.Going e s u t n leads = leads
+leads_alike pace.Stopping e s u t n leads = leads
+leads_alike pace.Pausing e s u t n leads = pauses_alike e s u t leads
+
+-- the same, behind a part of the instruction
+pub acts_behind : (r : Result Pace AllocError) (e : Event) (part old : Progress) (w : World) (new : Progress) (v : World) (f g : State → Next) → f (state_at part w []) ≡ g (state_at old w []) → ActsOver r e part w new v f → ActsOver r e old w new v g
+acts_behind (Ok p) e part old w new v f g same acts =
+    subst (LeadsTo p e (state_at old w []) (state_at new v)) same (leads_alike p e (state_at part w []) (state_at old w []) (state_at new v) (f (state_at part w [])) acts)
+acts_behind (Err x) e part old w new v f g same acts = search rules
 
 -- one instruction, where the hosts that tell these meanings are none
-pub same_step : (hosts : HostMeanings) → no_hosts ≡ hosts → (ask : Oracle) (p q : Program) → q ≡ p → (s : State) → step (setting hosts ask p) s ≡ step (setting no_hosts ask q) s
-same_step hosts told ask p q same s =
-    ap (λ h. step (setting h ask p) s) (sym told) ∙ ap (λ y. step (setting no_hosts ask y) s) (sym same)
+pub same_step : (hosts : HostMeanings) → no_hosts ≡ hosts → (ask : Oracle) (xs ys : List Value) → ys ≡ xs → (p q : Program) → q ≡ p → (s : State) → step (setting hosts ask xs p) s ≡ step (setting no_hosts ask ys q) s
+same_step hosts told ask xs ys alike p q same s =
+    ap (λ h. step (setting h ask xs p) s) (sym told)
+    ∙ ap (λ zs. step (setting no_hosts ask zs p) s) (sym alike)
+    ∙ ap (λ y. step (setting no_hosts ask ys y) s) (sym same)
 
 -- the same from a machine that is seen as another
-pub seen_as : (hosts : HostMeanings) (ask : Oracle) (p : Program) (r : Progress) (q : Paused) → paused p r ≡ q → (n : ℕ) (w : World) (x : Next) → after (setting hosts ask p) n (state_at r w []) ≡ x → after (setting hosts ask q.prog) n (state_of q w []) ≡ x
-seen_as hosts ask p r q e n w x h =
-    subst (λ (y : Paused). after (setting hosts ask y.prog) n (state_of y w []) ≡ x) e h
+pub seen_as : (hosts : HostMeanings) (ask : Oracle) (p : Program) (params : List Value) (r : Progress) (q : Paused) → paused p params r ≡ q → (n : ℕ) (w : World) (x : Next) → after (setting hosts ask params p) n (state_at r w []) ≡ x → after (setting hosts ask q.params q.prog) n (state_of q w []) ≡ x
+seen_as hosts ask p params r q e n w x h =
+    subst (λ (y : Paused). after (setting hosts ask y.params y.prog) n (state_of y w []) ≡ x) e h
 
-pub needed_as : (hosts : HostMeanings) (ask : Oracle) (p : Program) (r : Progress) (q : Paused) → paused p r ≡ q → (n : ℕ) (w : World) → NoneInVain (setting hosts ask p) n (state_at r w []) → NoneInVain (setting hosts ask q.prog) n (state_of q w [])
-needed_as hosts ask p r q e n w h = subst (λ (y : Paused). NoneInVain (setting hosts ask y.prog) n (state_of y w [])) e h
-
--- what is the same stays so where memory is wanting
-pub same_err : {A : Type 0} (r : Result Pace AllocError) (x : A) → OnErr r (x ≡ x)
-same_err (Ok f) x = search rules
-same_err (Err e) x = refl
+pub needed_as : (hosts : HostMeanings) (ask : Oracle) (p : Program) (params : List Value) (r : Progress) (q : Paused) → paused p params r ≡ q → (n : ℕ) (w : World) → NoneInVain (setting hosts ask params p) n (state_at r w []) → NoneInVain (setting hosts ask q.params q.prog) n (state_of q w [])
+needed_as hosts ask p params r q e n w h =
+    subst (λ (y : Paused). NoneInVain (setting hosts ask y.params y.prog) n (state_of y w [])) e h

@@ -18,9 +18,10 @@ use Rattle.eng_tree.proofs.Places.{greatest_at_end}
 use Rattle.eng_value.specs.StoredRows.{StoredRow, IsAscending, rowid_behind}
 use Rattle.eng_value.specs.declared.limits.TheConstants.{MAX_ROWID}
 use Rattle.vm_code.specs.Machine.{row_under, row_behind, put_row}
-use Rattle.vm_code.specs.Changes.{drop_row}
-use Rattle.vm_code.proofs.Rows.{All-head, All-tail, All-cons, All-nil, All-by, lt_trans, IsBelow, ascending_nil, ascending_cons, ascending_head, ascending_tail, lt_is, lt_back, eq_self, eq_below, drop_row-absent, row_under-between, row_behind-between, first_of}
+use Rattle.vm_core.specs.Changes.{drop_row}
+use Rattle.vm_code.proofs.Rows.{All-head, All-tail, All-cons, All-nil, All-by, lt_trans, IsBelow, ascending_nil, ascending_cons, ascending_head, ascending_tail, lt_is, lt_back, eq_self, eq_below, row_under-between, row_behind-between, first_of}
 use Rattle.vm_core.specs.Cursors.{on_row, values_of}
+use Rattle.vm_core.proofs.RowsLess.{drop_row-absent}
 use Rattle.vm_core.specs.Stored.{pair_of, row_of, rows_in, row_from, IsKept, AreKept, IsStored}
 
 -- ---- integers

@@ -1,14 +1,15 @@
 -- Where a cursor comes to, and what stands in its row.
-use Rattle.std.specs.Prelude.{ℕ, ℤ, Bool, true, false, [], Some, None, slice_get}
+use Rattle.std.specs.Prelude.{◌≡◌, ℕ, ℤ, Bool, true, false, [], ◌∷◌, Some, None, is_some, slice_get}
 use Rattle.std.specs.Option.{option_map}
 use Rattle.std.specs.declared.option.Option.{Option}
+use Rattle.eng_record.specs.declared.columns.Lent.{Lent}
+use Rattle.eng_record.specs.declared.columns.Lent.TheVariants as lent
 use Rattle.eng_value.specs.StoredRows.{StoredRow}
-use Rattle.vm_code.specs.Machine.{Row, World, Cursor, Closed, Open, rows_of, row_behind, row_under}
-
-abbrev pub is_on_row : Cursor → Bool
-is_on_row Closed = false
-is_on_row (Open table None) = false
-is_on_row (Open table (Some rowid)) = true
+use Rattle.eng_value.specs.declared.out.Out.{Out}
+use Rattle.eng_value.specs.declared.out.Out.TheVariants.{Good}
+use Rattle.eng_value.specs.declared.value.Value.TheVariants.{Integer, Text}
+use Rattle.vm_code.specs.Machine.{Row, World, Cursor, Closed, Open, Holding, Standing, rows_of, row_behind}
+use Rattle.vm_store.specs.Held.{held_integer, held_text}
 
 abbrev pub on_row : Option StoredRow → Option ℤ
 on_row row = option_map (λ (r : StoredRow). r.rowid) row
@@ -16,25 +17,48 @@ on_row row = option_map (λ (r : StoredRow). r.rowid) row
 abbrev pub table_of : Cursor → Option ℕ
 table_of Closed = None
 table_of (Open table place) = Some table
+table_of (Holding rows) = None
+table_of (Standing row rest) = None
 
 -- on the first row of its table, or on none
 abbrev pub on_first : World → Cursor → Cursor
 on_first w Closed = Closed
 on_first w (Open table place) = Open table (on_row (slice_get (rows_of w table) 0))
+on_first w (Holding rows) = Holding rows
+on_first w (Standing row rest) = Standing row rest
+
+-- its table has a row
+abbrev pub has_first : World → Cursor → Bool
+has_first w Closed = false
+has_first w (Open table place) = is_some (slice_get (rows_of w table) 0)
+has_first w (Holding rows) = false
+has_first w (Standing row rest) = false
 
 -- on the row behind its own, or on none
 abbrev pub on_next : World → Cursor → Cursor
 on_next w Closed = Closed
 on_next w (Open table None) = Open table None
 on_next w (Open table (Some rowid)) = Open table (on_row (row_behind (rows_of w table) rowid))
+on_next w (Holding rows) = Holding rows
+on_next w (Standing row []) = Closed
+on_next w (Standing row (next ∷ rest)) = Standing next rest
+
+-- there is a row behind its own
+abbrev pub has_next : World → Cursor → Bool
+has_next w Closed = false
+has_next w (Open table None) = false
+has_next w (Open table (Some rowid)) = is_some (row_behind (rows_of w table) rowid)
+has_next w (Holding rows) = false
+has_next w (Standing row []) = false
+has_next w (Standing row (next ∷ rest)) = true
 
 -- the values of a row; none where there is no row
 abbrev pub values_of : Option StoredRow → Row
 values_of None = []
 values_of (Some r) = r.values
 
--- the values of a cursor's row; none where it is on none
-abbrev pub values_at : World → Cursor → Row
-values_at w Closed = []
-values_at w (Open table None) = []
-values_at w (Open table (Some rowid)) = values_of (row_under (rows_of w table) rowid)
+-- of a column an integer is lent and a text is, and nothing else
+abbrev pub LendsColumn : Lent → Out → Type 0
+LendsColumn (lent.Integer n) out = out ≡ Good (Integer n)
+LendsColumn (lent.Text text) out = out ≡ Good (Text text.now)
+LendsColumn lent.Other out = (held_integer out ≡ None) × (held_text out ≡ None)

@@ -1,5 +1,5 @@
 -- What a run says of the machine over lists.
-use Rattle.std.specs.Prelude.{◌≡◌, ℕ, suc, List, [], ◌∷◌, IfOk}
+use Rattle.std.specs.Prelude.{◌≡◌, ⊤, ℕ, suc, List, [], ◌∷◌, IfOk}
 use Rattle.std.specs.declared.alloc.AllocError.{AllocError}
 use Rattle.std.specs.declared.result.Result.{Result}
 use Rattle.vm_code.specs.Machine.{Row, World, Setting, State, Next, On, End, Finished, Failed, after}
@@ -17,15 +17,29 @@ StopsFor (event.Bad c) t n = n ≡ End (Failed c) (t []).shared
 StopsFor (event.Interrupted whole) t n = ⊥
 StopsFor event.Mem t n = ⊥
 
--- where an instruction leads: on, or to an event
-abbrev pub Leads : Pace → Event → (List Row → State) → Next → Type 0
-Leads pace.Going e t n = n ≡ On (t [])
-Leads pace.Stopping e t n = StopsFor e t n
+-- why an instruction was not done, from the state `s`; `t` is what stands there now, by the rows that were given. Where memory is
+-- wanting the instruction may have done a part
+abbrev pub PausesFor : Event → State → (List Row → State) → Type 0
+PausesFor (event.Row row) s t = ⊥
+PausesFor event.Done s t = ⊥
+PausesFor (event.Bad c) s t = ⊥
+PausesFor (event.Interrupted whole) s t = ⊥
+PausesFor event.Mem s t = ⊤
 
--- what an instruction did, unless memory was wanting: from what the run had come to over the tables `w` it led to where `next` does,
--- and the run came to `new`, over the tables `v`, with the event `e` where it stopped
+-- where an instruction leads from a state: on, or to an event, or nowhere, since it was not done
+abbrev pub LeadsTo : Pace → Event → State → (List Row → State) → Next → Type 0
+LeadsTo pace.Going e s t n = n ≡ On (t [])
+LeadsTo pace.Stopping e s t n = StopsFor e t n
+LeadsTo pace.Pausing e s t n = PausesFor e s t
+
+-- what an instruction did: from what the run had come to over the tables `w` it led to where `next` does, and the run came to `new`, over
+-- the tables `v`, with the event `e` where it stopped
+abbrev pub ActsAs : Pace → Event → Progress → World → Progress → World → (State → Next) → Type 0
+ActsAs pace e old w new v next = LeadsTo pace e (state_at old w []) (state_at new v) (next (state_at old w []))
+
+-- the same, unless memory was wanting
 abbrev pub ActsOver : Result Pace AllocError → Event → Progress → World → Progress → World → (State → Next) → Type 0
-ActsOver result e old w new v next = IfOk result (λ p. Leads p e (state_at new v) (next (state_at old w [])))
+ActsOver result e old w new v next = IfOk result (λ p. ActsAs p e old w new v next)
 
 -- the same of one that reads no table and changes none, whatever the tables are
 abbrev pub StopsOrActs : Result Pace AllocError → Event → Progress → Progress → (State → Next) → Type 0
@@ -39,13 +53,13 @@ abbrev pub ActsOn : Result Pace AllocError → Progress → World → Progress �
 ActsOn result old w new v next = (e : Event) → ActsOver result e old w new v next
 
 -- an event is the next one of the machine over lists, after so many instructions from the state `s`; `t` is the state then, by
--- the rows that were given, and `all` says that the budget is used up
+-- the rows that were given, and `all` says that the budget is used up. Where memory was wanting the machine over lists goes on there
 abbrev pub EventIs : Setting → ℕ → State → (List Row → State) → Type 0 → Event → Type 0
 EventIs m n s t all (event.Row row) = after m n s ≡ On (t (row ∷ []))
 EventIs m n s t all event.Done = after m n s ≡ End Finished (t []).shared
 EventIs m n s t all (event.Bad c) = after m n s ≡ End (Failed c) (t []).shared
 EventIs m n s t all (event.Interrupted whole) = (after m n s ≡ On (t [])) × all
-EventIs m n s t all event.Mem = Unit {0}
+EventIs m n s t all event.Mem = (u : State) × (after m n s ≡ On u)
 
 -- in front of the last of so many instructions the machine over lists goes on, so none is run behind its end
 abbrev pub NoneInVain : Setting → ℕ → State → Type 0
@@ -53,8 +67,8 @@ NoneInVain m n s = (k : ℕ) → suc k ≡ n → (t : State) × (after m k s ≡
 
 -- an interruption names the budget
 abbrev pub NamesBudget : ℕ → Event → Type 0
-NamesBudget whole (event.Row row) = Unit {0}
-NamesBudget whole event.Done = Unit {0}
-NamesBudget whole (event.Bad c) = Unit {0}
+NamesBudget whole (event.Row row) = ⊤
+NamesBudget whole event.Done = ⊤
+NamesBudget whole (event.Bad c) = ⊤
 NamesBudget whole (event.Interrupted n) = n ≡ whole
-NamesBudget whole event.Mem = Unit {0}
+NamesBudget whole event.Mem = ⊤

@@ -1,6 +1,9 @@
 pub mod Meant
 pub mod Stored
 pub mod Cursors
+pub mod Changes
+pub mod Marked
 pub mod Paused
+pub mod Operands
 pub mod Events
 pub mod Tests

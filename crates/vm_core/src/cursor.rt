@@ -1,19 +1,27 @@
 // Cursors over the tables.
-ghost use Rattle.std.specs.Prelude.{◌≡◌, IfOk, slice_index_or};
-ghost use Rattle.eng_record.specs.Lent.{Lends};
+ghost use Rattle.std.specs.Prelude.{◌≡◌, replicate, IfOk};
+ghost use Rattle.eng_value.specs.Environments.{column_of};
 ghost use Rattle.eng_value.specs.StoredRows.{next_rowid};
-ghost use Rattle.eng_value.specs.declared.value.Value.TheVariants.{Null};
-ghost use Rattle.vm_code.specs.Machine.{cursor_rows};
-ghost use Rattle.vm_core.specs.Cursors.{is_on_row, on_first, on_next, table_of, values_at};
+ghost use Rattle.vm_code.specs.Machine.{Closed, closed_from, current, cursor_at, cursor_rows};
+ghost use Rattle.vm_core.specs.Cursors.{LendsColumn, has_first, has_next, on_first, on_next, table_of};
 
 use crate::Tables;
 use eng_record::Lent;
-use eng_value::Value;
+use eng_value::{Out, Value};
 use std::alloc::{AllocError, Global};
 use vm_store::{Cursor, Spot};
 
-/// A cursor's table; none where it is closed.
-pub(crate) fn table(cursor: &Cursor) -> Option<u32>
+/// The table of a cursor of this number; none where it is closed.
+pub(crate) fn table_at(cursors: &[Cursor], number: usize) -> Option<u32>
+    ensures { result ≡ table_of (cursor_at cursors.now number) }
+{
+    match cursors.get(number) {
+        None => None,
+        Some(cursor) => table(cursor),
+    }
+}
+
+fn table(cursor: &Cursor) -> Option<u32>
     ensures { result ≡ table_of cursor.now }
 {
     match cursor.spot() {
@@ -24,7 +32,7 @@ pub(crate) fn table(cursor: &Cursor) -> Option<u32>
 
 /// The rowid behind the last of a cursor's table, if there is one.
 pub(crate) fn next_rowid(cursor: &Cursor, tables: &Tables) -> Option<i64>
-    ensures { result ≡ next_rowid (cursor_rows tables.now cursor.now) }
+    ensures { result ≡ next_rowid (cursor_rows tables.now.world cursor.now) }
 {
     match cursor.spot() {
         Spot::Closed => Some(1),
@@ -38,35 +46,46 @@ pub(crate) fn column(
     alloc: Global,
     tables: &Tables,
     number: usize,
-) -> Result<Value, AllocError>
-    ensures { IfOk result (λ v. v ≡ slice_index_or (values_at tables.now cursor.now) number Null) }
+) -> Result<Out, AllocError>
+    ensures { IfOk result (λ out. out ≡ column_of (current tables.now.world cursor.now) number) }
 {
     match cursor.spot() {
+        Spot::Closed => Ok(Out::Good(Value::Null)),
+        Spot::Open {
+            table: _,
+            place: None,
+        } => Ok(Out::Good(Value::Null)),
         Spot::Open {
             table,
             place: Some(place),
-        } => tables.column(alloc, table, place.rowid, number, place.near),
-        _ => Ok(Value::Null),
+        } => {
+            let value = tables.column(alloc, table, place.rowid, number, place.near)?;
+            Ok(Out::Good(value))
+        }
     }
 }
 
 /// The integer or the text in a column of a cursor's row, where there is one.
 pub(crate) fn lent<'t>(cursor: &Cursor, tables: &'t Tables, number: usize) -> Lent<'t>
-    ensures { Lends result (slice_index_or (values_at tables.now cursor.now) number Null) }
+    ensures { LendsColumn result (column_of (current tables.now.world cursor.now) number) }
 {
     match cursor.spot() {
+        Spot::Closed => Lent::Other,
+        Spot::Open {
+            table: _,
+            place: None,
+        } => Lent::Other,
         Spot::Open {
             table,
             place: Some(place),
         } => tables.lent(table, place.rowid, number, place.near),
-        _ => Lent::Other,
     }
 }
 
 /// Brings a cursor to the first row of its table, and says whether there is one.
 pub(crate) fn rewind(cursor: &mut Cursor, tables: &Tables) -> bool
-    ensures cursor { cursor.new ≡ on_first tables.now cursor.old }
-    ensures found { result ≡ is_on_row cursor.new }
+    ensures cursor { cursor.new ≡ on_first tables.now.world cursor.old }
+    ensures found { result ≡ has_first tables.now.world cursor.old }
 {
     match cursor.spot() {
         Spot::Closed => false,
@@ -81,8 +100,8 @@ pub(crate) fn rewind(cursor: &mut Cursor, tables: &Tables) -> bool
 
 /// Brings a cursor to the row behind its own, and says whether there is one.
 pub(crate) fn advance(cursor: &mut Cursor, tables: &Tables) -> bool
-    ensures cursor { cursor.new ≡ on_next tables.now cursor.old }
-    ensures found { result ≡ is_on_row cursor.new }
+    ensures cursor { cursor.new ≡ on_next tables.now.world cursor.old }
+    ensures found { result ≡ has_next tables.now.world cursor.old }
 {
     match cursor.spot() {
         Spot::Open {
@@ -96,4 +115,24 @@ pub(crate) fn advance(cursor: &mut Cursor, tables: &Tables) -> bool
         }
         _ => false,
     }
+}
+
+/// Closes the cursors from a number on.
+pub(crate) fn close_from(cursors: &mut Vec<Cursor>, first: usize)
+    ensures { cursors.new.items ≡ closed_from first cursors.old.items }
+{
+    for number in first..cursors.len() {
+        cursors[number] = Cursor::closed();
+    }
+}
+
+/// So many cursors that are closed.
+pub(crate) fn closed(alloc: Global, count: u32) -> Result<Vec<Cursor>, AllocError>
+    ensures { IfOk result (λ cursors. cursors.items ≡ replicate count Closed) }
+{
+    let mut cursors = Vec::new(alloc);
+    for _ in 0..count {
+        cursors.push(Cursor::closed())?;
+    }
+    Ok(cursors)
 }

@@ -19,6 +19,7 @@ pub enum Event {
     Bad(Causes),
     /// The budget, of so many instructions, is used up.
     Interrupted(u64),
-    /// No memory was found. Only `Machine::undo` says more of a machine that came to this.
+    /// No memory was found. The instruction that wanted it was not done and does not count; what it may have left of itself is for
+    /// `Tables::undo` to take back.
     Mem,
 }

@@ -1,36 +1,42 @@
 // One instruction.
-ghost use Rattle.std.specs.Prelude.{◌≡◌, ◌+◌, ◌^◌, ◌<◌, [], Some, IfOk, OnErr};
-ghost use Rattle.vm_code.specs.Changes.{before};
-ghost use Rattle.vm_code.specs.Machine.{act, cursor_at, cursor_rows, drawn, setting, step};
+ghost use Rattle.std.specs.Prelude.{◌≡◌, ◌+◌, ◌^◌, ◌<◌, [], Some, IfOk};
+ghost use Rattle.vm_code.specs.Machine.{act, cursor_at, cursor_rows, drawn, setting, step, world_of};
 ghost use Rattle.eng_value.specs.HostMeanings.{Oracle, no_hosts};
 ghost use Rattle.eng_value.specs.StoredRows.{next_rowid};
-ghost use Rattle.vm_core.specs.Events.{ActsOver, Leads};
-ghost use Rattle.vm_core.specs.Paused.{state_at};
+ghost use Rattle.vm_core.specs.Events.{ActsAs, ActsOver};
 
 use crate::jumping::Test;
 use crate::pace::Pace;
 use crate::running::Running;
 use crate::{Event, Tables};
-use eng_value::{Cause, Causes, Text};
+use eng_value::{Cause, Causes, Row, Text};
 use std::alloc::{AllocError, Global};
 use vm_code::{Op, Program};
 
-/// Runs the instruction that comes next. Where the run stops for an event, that is left in `event`. Where it fails for want of
-/// memory, nothing was changed in the tables.
+/// Runs the instruction that comes next. Where the run stops or pauses for an event, that is left in `event`.
 pub(crate) fn instruction(
     running: &mut Running,
     alloc: Global,
     program: &Program,
+    params: &Row,
     tables: &mut Tables,
     event: &mut Event,
-) -> Result<Pace, AllocError>
-    ensures leads { (ask : Oracle) → IfOk result (λ pace. Leads pace event.new (state_at running.new tables.new)
-        (step (setting no_hosts ask program.now) (state_at running.old tables.old []))) }
-    ensures undo { before running.new.changes tables.new ≡ before running.old.changes tables.old }
+) -> Pace
+    ensures leads { (ask : Oracle) → ActsAs result event.new running.old tables.old.world running.new tables.new.world (step (setting no_hosts ask params.now program.now)) }
+    ensures marks { tables.new.marks ≡ tables.old.marks }
 {
     match running.op(program) {
-        None => running.finish(event),
-        Some(op) => execute(running, alloc, program, op, tables, event),
+        None => {
+            *event = Event::Done;
+            Pace::Stopping
+        }
+        Some(op) => match execute(running, alloc, program, params, op, tables, event) {
+            Ok(pace) => pace,
+            Err(_) => {
+                *event = Event::Mem;
+                Pace::Pausing
+            }
+        },
     }
 }
 
@@ -40,15 +46,14 @@ fn execute(
     running: &mut Running,
     alloc: Global,
     program: &Program,
+    params: &Row,
     op: &Op,
     tables: &mut Tables,
     event: &mut Event,
 ) -> Result<Pace, AllocError>
     requires { running.old.pc + 1 < 2 ^ 64 }
-    ensures leads { (ask : Oracle) → IfOk result (λ pace. Leads pace event.new (state_at running.new tables.new)
-        (act (setting no_hosts ask program.now) (Some op.now) (state_at running.old tables.old []))) }
-    ensures log { OnErr result (running.new.changes ≡ running.old.changes) }
-    ensures tables { OnErr result (tables.new ≡ tables.old) }
+    ensures leads { (ask : Oracle) → ActsOver result event.new running.old tables.old.world running.new tables.new.world (act (setting no_hosts ask params.now program.now) (Some op.now)) }
+    ensures marks { tables.new.marks ≡ tables.old.marks }
 {
     match op {
         Op::Goto { target } => running.go_to(*target),
@@ -83,7 +88,7 @@ fn execute(
             count,
             to,
         } => running.call(alloc, program, *unit, *first, *count, *to),
-        Op::Ret { from } => running.ret(*from, event),
+        Op::Ret { first, count } => running.ret(*first, *count, event),
         Op::Argument { number, to } => running.put_argument(*number, *to),
         Op::ResultRow { first, count } => running.give(alloc, *first, *count, event),
         Op::Null { to } => running.put_null(*to),
@@ -91,33 +96,45 @@ fn execute(
         Op::String8 { text, to } => running.put_text(text, *to),
         Op::Blob { blob, to } => running.put_blob(blob, *to),
         Op::Bad { cause, to } => running.put_bad(alloc, cause, *to),
-        Op::Variable { number, to } => running.put_parameter(alloc, *number, *to),
+        Op::Variable { number, to } => running.put_parameter(alloc, params, *number, *to),
         Op::Copy { from, to } => running.put_copy(*from, *to),
         Op::Affinity { register, affinity } => running.store_as(alloc, *register, *affinity),
-        Op::Unary { operator, from, to } => running.put_unary(alloc, *operator, *from, *to),
+        Op::Unary {
+            operator,
+            operand,
+            to,
+        } => running.put_unary(alloc, params, tables, *operator, operand, *to),
         Op::Binary {
             operator,
             left,
             right,
             to,
-        } => running.put_binary(alloc, operator, *left, *right, *to),
+        } => running.put_binary(alloc, params, tables, operator, left, right, *to),
         Op::LikeEscaped {
             text,
             pattern,
             escape,
             to,
-        } => running.put_like_escaped(alloc, *text, *pattern, *escape, *to),
+        } => running.put_like_escaped(alloc, params, tables, text, pattern, escape, *to),
         Op::Function {
             function: name,
             collation,
-            first,
-            count,
+            args,
             to,
-        } => running.put_call(alloc, *name, *collation, *first, *count, *to),
+        } => running.put_call(
+            alloc,
+            params,
+            tables,
+            *name,
+            *collation,
+            args.as_slice(),
+            *to,
+        ),
         Op::Merge { from, to } => running.put_merged(*from, *to),
         Op::OpenRead { cursor, table } => running.open(*cursor, *table),
         Op::OpenWrite { cursor, table } => running.open(*cursor, *table),
         Op::Close { cursor } => running.close(*cursor),
+        Op::CloseFrom { cursor } => running.close_from(*cursor),
         Op::Rewind { cursor, target } => running.jump_where_empty(tables, *cursor, *target),
         Op::Next { cursor, target } => running.jump_where_next(tables, *cursor, *target),
         Op::Column { cursor, column, to } => running.put_column(
@@ -136,7 +153,7 @@ fn execute(
     }
 }
 
-/// Writes the rowid behind the last of a cursor's table into a register, or fails, naming the table.
+/// Writes the rowid behind the last of a cursor's table into a register, or gives up, naming the table.
 #[inline(never)]
 fn new_rowid(
     running: &mut Running,
@@ -148,15 +165,13 @@ fn new_rowid(
     event: &mut Event,
 ) -> Result<Pace, AllocError>
     requires { running.old.pc + 1 < 2 ^ 64 }
-    ensures leads { ActsOver result event.new running.old tables.now running.new tables.now
-        (λ s. drawn s to table.now (next_rowid (cursor_rows s.shared.world (cursor_at s.cursors cursor)))) }
-    ensures log { OnErr result (running.new.changes ≡ running.old.changes) }
+    ensures { ActsOver result event.new running.old tables.now.world running.new tables.now.world
+        (λ s. drawn s to table.now (next_rowid (cursor_rows (world_of s.shared) (cursor_at s.scene.cursors cursor)))) }
 {
     match running.next_rowid(tables, cursor) {
         None => {
             let cause = Cause::Full(table.clone()?);
-            *event = Event::Bad(Causes::one(alloc, cause));
-            Ok(Pace::Stopping)
+            running.give_up(Causes::one(alloc, cause), event)
         }
         Some(rowid) => running.put_integer(rowid, to),
     }

@@ -1,5 +1,5 @@
 // The instructions that jump. Each has a method of its own that is not inlined, so that it alone pays for the locals that it needs.
-ghost use Rattle.std.specs.Prelude.{◌≡◌, ◌+◌, ◌^◌, ◌<◌, OnErr};
+ghost use Rattle.std.specs.Prelude.{◌≡◌, ◌+◌, ◌^◌, ◌<◌};
 ghost use Rattle.vm_code.specs.Machine.{advanced, cursor_at, jump_if, read as read_of, rewound};
 ghost use Rattle.vm_core.specs.Events.{Acts, ActsOn};
 ghost use Rattle.vm_core.specs.Tests.{passes};
@@ -52,8 +52,7 @@ impl Running {
         target: usize,
     ) -> Result<Pace, AllocError>
         requires { self.old.pc + 1 < 2 ^ 64 }
-        ensures leads { Acts result self.old self.new (λ s. jump_if (passes test (read_of s.regs register)) s target) }
-        ensures log { OnErr result (self.new.changes ≡ self.old.changes) }
+        ensures { Acts result self.old self.new (λ s. jump_if (passes test (read_of s.regs register)) s target) }
     {
         let jumps = self.passes(alloc, test, register);
         self.jump_if(jumps, target);
@@ -69,8 +68,7 @@ impl Running {
         target: usize,
     ) -> Result<Pace, AllocError>
         requires { self.old.pc + 1 < 2 ^ 64 }
-        ensures leads { ActsOn result self.old tables.now self.new tables.now (λ s. rewound (cursor_at s.cursors cursor) s cursor target) }
-        ensures log { OnErr result (self.new.changes ≡ self.old.changes) }
+        ensures { ActsOn result self.old tables.now.world self.new tables.now.world (λ s. rewound (cursor_at s.scene.cursors cursor) s cursor target) }
     {
         let found = self.rewind(tables, cursor);
         self.jump_if(!found, target);
@@ -86,8 +84,7 @@ impl Running {
         target: usize,
     ) -> Result<Pace, AllocError>
         requires { self.old.pc + 1 < 2 ^ 64 }
-        ensures leads { ActsOn result self.old tables.now self.new tables.now (λ s. advanced (cursor_at s.cursors cursor) s cursor target) }
-        ensures log { OnErr result (self.new.changes ≡ self.old.changes) }
+        ensures { ActsOn result self.old tables.now.world self.new tables.now.world (λ s. advanced (cursor_at s.scene.cursors cursor) s cursor target) }
     {
         let found = self.advance(tables, cursor);
         self.jump_if(found, target);

@@ -2,18 +2,23 @@
 //!
 //! vm_code says what each instruction does, over tables that are lists (specs/Machine.antt there). Here the same runs over
 //! tables in memory, and the contract of `Machine::step` says that it is the same, event by event: the event is the next one
-//! of the machine over lists after exactly as many instructions as were counted. `Machine::undo` takes back what a run
-//! changed. Begin with `machine`; `execute` has one arm for each instruction, whose method stands in `jumping`, `writing` or `running`, and
-//! `values`, `cursor` and `tables` do the work; what registers, cursors and frames hold is vm_store's.
-//! `table` alone knows that a table's rows stand in a tree, as records under the keys of their rowids (specs/Stored.antt).
+//! of the machine over lists after exactly as many instructions as were counted. An instruction counts when it was done: one that
+//! finds no memory counts nothing. `Tables` keeps marks, and goes back to the last by `undo`, whatever a run did since.
+//! Begin with `machine`; `execute` has one arm for each instruction, whose method stands in `jumping`, `writing`, `calling` or
+//! `running`, and `operands`, `values`, `cursor` and `tables` do the work; what registers, cursors and frames hold is vm_store's.
+//! `table` alone knows that a table's rows stand in a tree, as records under the keys of their rowids (specs/Stored.antt), and `change`
+//! how a change is taken back (specs/Changes.antt).
 #![tactic(auto)]
 
+mod calling;
+mod change;
 mod cursor;
 mod event;
 mod execute;
 mod hosts;
 mod jumping;
 mod machine;
+mod operands;
 mod pace;
 mod running;
 mod table;

@@ -1,7 +1,6 @@
 // The machine.
-ghost use Rattle.std.specs.Prelude.{◌≡◌, ◌+◌, ◌-◌, ◌≤◌, [], IfOk};
+ghost use Rattle.std.specs.Prelude.{◌≡◌, ◌+◌, ◌-◌, ◌≤◌, ◌<◌, [], IfOk};
 ghost use Rattle.eng_value.specs.HostMeanings.{Oracle};
-ghost use Rattle.vm_code.specs.Changes.{before};
 ghost use Rattle.vm_code.specs.Honesty.{ProgramIsTold};
 ghost use Rattle.vm_code.specs.Machine.{setting};
 ghost use Rattle.vm_core.specs.Events.{EventIs, NamesBudget, NoneInVain};
@@ -16,12 +15,13 @@ use eng_value::{Meanings, Row, Steps};
 use std::alloc::{AllocError, Global};
 use std::marker::Model;
 use std::sync::ledger::Ledger;
-use vm_code::{Change, Program};
+use vm_code::Program;
 
-/// A program and what its run has come to, between two instructions.
+/// A program, its parameters, and what its run has come to, between two instructions.
 #[derive(Drop)]
 pub struct Machine {
     program: Program,
+    params: Row,
     running: Running,
 }
 
@@ -31,24 +31,35 @@ impl Model for Machine {
     ghost Value = { Paused };
 
     ghost use Rattle.std.specs.Coded.{codes};
+    ghost use Rattle.eng_value.specs.contracts.causes.Causes as causes;
     ghost use Rattle.eng_value.specs.contracts.out.Out as out;
 
-    ghost coded = { Prim.hlevel (codes, out.the_row.coded) };
+    ghost coded = { Prim.hlevel (codes, causes.the_row.coded, out.the_row.coded) };
 
-    ghost view = { λ m. paused m.program m.running };
+    ghost view = { λ m. paused m.program m.params m.running };
 }
 
 impl Machine {
-    /// A machine in front of a program's first instruction, with the values of the parameters 1, 2 and so on.
-    pub fn new(alloc: Global, program: Program, params: Row) -> Result<Machine, AllocError>
-        ensures { IfOk result (λ m. m ≡ at_start program params) }
+    /// A machine in front of a program's first instruction, with the values of the parameters 1, 2 and so on, where `last_rowid` is the
+    /// rowid of the row that was put last.
+    pub fn new(
+        alloc: Global,
+        program: Program,
+        params: Row,
+        last_rowid: i64,
+    ) -> Result<Machine, AllocError>
+        ensures { IfOk result (λ m. m ≡ at_start program params last_rowid) }
     {
-        let running = Running::new(alloc, &program.main, params)?;
-        Ok(Machine { program, running })
+        let running = Running::new(alloc, &program.main, last_rowid)?;
+        Ok(Machine {
+            program,
+            params,
+            running,
+        })
     }
 
-    /// Runs to the next event. Each instruction counts once against the budget and ticks once; where the budget is used up
-    /// none is run. Where each host that the program names tells what it means, the event is the one of the machine over lists,
+    /// Runs to the next event. Each instruction that was done counts once against the budget and ticks once; where the budget is used
+    /// up none is run. Where each host that the program names tells what it means, the event is the one of the machine over lists,
     /// whoever answers what the hosts ask.
     pub fn step<M: Meanings, L: Ledger>(
         &mut self,
@@ -65,42 +76,59 @@ impl Machine {
         ensures whole { budget.new.whole ≡ budget.old.whole }
         ensures counted { steps.new ≡ steps.old + (budget.new.ran - budget.old.ran) }
         ensures program { self.new.prog ≡ self.old.prog }
+        ensures params { self.new.params ≡ self.old.params }
         ensures event { ProgramIsTold M.hosts self.old.prog → (ask : Oracle) →
-            EventIs (setting M.hosts ask self.old.prog) (budget.new.ran - budget.old.ran)
-            (state_of self.old tables.old []) (state_of self.new tables.new) (budget.new.ran ≡ budget.old.whole) result }
+            EventIs (setting M.hosts ask self.old.params self.old.prog) (budget.new.ran - budget.old.ran)
+            (state_of self.old tables.old.world []) (state_of self.new tables.new.world) (budget.new.ran ≡ budget.old.whole) result }
         ensures needed { ProgramIsTold M.hosts self.old.prog → (ask : Oracle) →
-            NoneInVain (setting M.hosts ask self.old.prog) (budget.new.ran - budget.old.ran) (state_of self.old tables.old []) }
+            NoneInVain (setting M.hosts ask self.old.params self.old.prog) (budget.new.ran - budget.old.ran)
+            (state_of self.old tables.old.world []) }
         ensures interrupted { NamesBudget budget.old.whole result }
-        ensures undo { before self.new.changes tables.new ≡ before self.old.changes tables.old }
+        ensures marks { tables.new.marks ≡ tables.old.marks }
         ensures told { meant hosts.new ≡ M.hosts }
     {
         let mut event = Event::Done;
         while budget.ran < budget.whole {
-            budget.ran += 1;
-            steps.tick();
-            match instruction(&mut self.running, alloc, &self.program, tables, &mut event) {
-                Ok(Pace::Going) => {}
-                Ok(Pace::Stopping) => return event,
-                Err(_) => return Event::Mem,
+            match instruction(
+                &mut self.running,
+                alloc,
+                &self.program,
+                &self.params,
+                tables,
+                &mut event,
+            ) {
+                Pace::Pausing => return event,
+                Pace::Going => count(budget, steps),
+                Pace::Stopping => {
+                    count(budget, steps);
+                    return event;
+                }
             }
         }
         Event::Interrupted(budget.whole)
     }
 
-    /// What the run changed, oldest first.
-    pub fn changes(&self) -> &[Change]
-        ensures { result.now ≡ self.now.changes }
+    /// How many rows the run changed.
+    pub fn changes(&self) -> u64
+        ensures { result ≡ self.now.changes }
     {
         self.running.changes()
     }
 
-    /// Takes back what the run changed, the last change first. Takes no memory.
-    pub fn undo(self, tables: &mut Tables)
-        ensures { tables.new ≡ before self.changes tables.old }
+    /// The rowid of the row that was put last, by the run or before it.
+    pub fn last_rowid(&self) -> i64
+        ensures { result ≡ self.now.last_rowid }
     {
-        let mut changes = self.running.into_changes();
-        while let Some(change) = changes.pop() {
-            tables.undo(change);
-        }
+        self.running.last_rowid()
     }
+}
+
+/// Counts an instruction that was done.
+fn count<L: Ledger>(budget: &mut Budget, steps: &mut Steps<L>)
+    requires { budget.old.ran < budget.old.whole }
+    ensures budget { budget.new ≡ record budget.old { ran = budget.old.ran + 1 } }
+    ensures steps { steps.new ≡ steps.old + 1 }
+{
+    budget.ran += 1;
+    steps.tick();
 }

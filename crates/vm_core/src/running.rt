@@ -1,7 +1,6 @@
 // What a run has come to, and the parts of which instructions are made.
-ghost use Rattle.std.specs.Prelude.{◌≡◌, ◌+◌, ◌^◌, ◌<◌, if◌then◌else◌, [], ◌∷◌, ◌++◌, None, replicate, slice_get, slice_index_or, slice_set, IfOk, OnOk, OnErr, OnSome};
+ghost use Rattle.std.specs.Prelude.{◌≡◌, ◌+◌, ◌^◌, ◌<◌, if◌then◌else◌, [], ◌∷◌, ◌++◌, None, slice_get, slice_index_or, slice_set, IfOk, OnOk, OnSome};
 ghost use Rattle.std.specs.Option.{option_copied};
-ghost use Rattle.eng_record.specs.Lent.{Lends};
 ghost use Rattle.eng_value.specs.Casts.{store_as};
 ghost use Rattle.eng_value.specs.Environments.{column_of};
 ghost use Rattle.eng_value.specs.Outs.{turned};
@@ -10,75 +9,70 @@ ghost use Rattle.eng_value.specs.declared.out.Out.{Out as MeantOut};
 ghost use Rattle.eng_value.specs.declared.out.Out.TheVariants.{Good};
 ghost use Rattle.eng_value.specs.declared.value.Value.TheVariants as sql;
 ghost use Rattle.eng_value.specs.declared.value.Value.TheVariants.{Integer, Null};
-ghost use Rattle.vm_code.specs.Machine.{Closed, End, Finished, Open, called, code_of, current, cursor_at, cursor_rows, ending_of, inserted, integer_in, jump, outs_from, put, read as read_of, returned, skip, unit_at, values_from, with_cursor, with_table};
-ghost use Rattle.vm_core.specs.Cursors.{is_on_row, on_first, on_next, table_of, values_at};
+ghost use Rattle.vm_code.specs.Machine.{Closed, Open, closed_from, code_of, current, cursor_at, cursor_rows, inserted, jump, put, read as read_of, skip, values_from, with_cursor, with_cursors, with_given, with_row, with_table, wrote};
+ghost use Rattle.vm_core.specs.Cursors.{LendsColumn, has_first, has_next, on_first, on_next};
 ghost use Rattle.vm_core.specs.Events.{Acts, ActsOn, StopsOrActs};
-ghost use Rattle.vm_core.specs.Paused.{shared_of, state_at};
+ghost use Rattle.vm_core.specs.Paused.{first_progress, state_at, written_of};
 ghost use Rattle.vm_core.specs.Tests.{passes};
 
-use crate::cursor::{advance, column, lent, next_rowid, rewind, table};
+use crate::calling::unit_at;
+use crate::cursor::{advance, close_from, closed, column, lent, next_rowid, rewind, table_at};
 use crate::jumping::Test;
 use crate::pace::Pace;
 use crate::values::stored;
 use crate::{Event, Tables};
 use eng_record::Lent;
-use eng_value::{Affinity, Out, Row, StoredRow, Text, Value};
+use eng_value::{Affinity, Out, StoredRow, Text, Value};
 use std::alloc::{AllocError, Global};
 use std::marker::Model;
-use std::mem;
-use vm_code::{Change, Op, Program, Unit};
-use vm_store::{Cursor, Frame, Frames, Registers};
+use vm_code::{Op, Program, Unit};
+use vm_store::{Cursor, Frames, Registers};
 
-/// The frame that runs, the frames that wait, the parameters, and what was changed, oldest first. A register, an argument, a
-/// cursor or an instruction that is not there counts as the machine over lists says.
+/// The frame that runs, the frames that wait, how many rows were changed, and the rowid of the last row that was put. A register, an
+/// argument, a cursor or an instruction that is not there counts as the machine over lists says.
 #[derive(Drop)]
 pub(crate) struct Running {
-    unit: u32,
-    pc: usize,
-    registers: Registers,
-    args: Registers,
-    cursors: Vec<Cursor>,
-    frames: Frames,
-    params: Row,
-    changes: Vec<Change>,
+    pub(crate) unit: u32,
+    pub(crate) pc: usize,
+    pub(crate) registers: Registers,
+    pub(crate) args: Registers,
+    pub(crate) cursors: Vec<Cursor>,
+    pub(crate) frames: Frames,
+    changes: u64,
+    last_rowid: i64,
 }
 
 impl Model for Running {
+    ghost use Rattle.std.specs.Prelude.{[]};
+    ghost use Rattle.vm_code.specs.Machine.{no_store};
     ghost use Rattle.vm_core.specs.Paused.{Progress};
 
     ghost Value = { Progress };
 
     ghost use Rattle.std.specs.Coded.{codes};
+    ghost use Rattle.eng_value.specs.contracts.causes.Causes as causes;
     ghost use Rattle.eng_value.specs.contracts.out.Out as out;
 
-    ghost coded = { Prim.hlevel (codes, out.the_row.coded) };
+    ghost coded = { Prim.hlevel (codes, causes.the_row.coded, out.the_row.coded) };
 
     ghost view = { λ r.
         record {
           unit = r.unit;
           pc = r.pc;
           regs = r.registers;
-          args = r.args;
-          cursors = r.cursors.items;
+          inputs = record { args = r.args; running = [] };
+          scene = record { cursors = r.cursors.items; slots = [] };
+          store = no_store;
           stack = r.frames;
-          params = r.params;
-          changes = r.changes.items;
+          changes = r.changes;
+          last_rowid = r.last_rowid;
         } };
 }
 
 impl Running {
-    /// At the start of a program's main unit, with these parameters.
-    pub fn new(alloc: Global, main: &Unit, params: Row) -> Result<Running, AllocError>
-        ensures { IfOk result (λ r. r ≡ record {
-          unit = 0;
-          pc = 0;
-          regs = replicate main.now.registers (Good Null);
-          args = [];
-          cursors = replicate main.now.cursors Closed;
-          stack = [];
-          params = params;
-          changes = [];
-        }) }
+    /// At the start of a program's main unit, where this rowid was put last.
+    pub fn new(alloc: Global, main: &Unit, last_rowid: i64) -> Result<Running, AllocError>
+        ensures { IfOk result (λ r. r ≡ first_progress main.now.registers main.now.cursors last_rowid) }
     {
         Ok(Running {
             unit: 0,
@@ -87,22 +81,23 @@ impl Running {
             args: Registers::empty(alloc),
             cursors: closed(alloc, main.cursors)?,
             frames: Frames::new(alloc),
-            params,
-            changes: Vec::new(alloc),
+            changes: 0,
+            last_rowid,
         })
     }
 
-    /// What was changed, oldest first.
-    pub fn changes(&self) -> &[Change]
-        ensures { result.now ≡ self.now.changes }
-    {
-        &self.changes
-    }
-
-    pub fn into_changes(self) -> Vec<Change>
-        ensures { result.items ≡ self.changes }
+    /// How many rows were changed.
+    pub fn changes(&self) -> u64
+        ensures { result ≡ self.now.changes }
     {
         self.changes
+    }
+
+    /// The rowid of the last row that was put.
+    pub fn last_rowid(&self) -> i64
+        ensures { result ≡ self.now.last_rowid }
+    {
+        self.last_rowid
     }
 
     /// The instruction that comes next.
@@ -126,8 +121,7 @@ impl Running {
 
     /// Goes on at a place, as an instruction.
     pub fn go_to(&mut self, target: usize) -> Result<Pace, AllocError>
-        ensures leads { Acts result self.old self.new (λ s. jump s target) }
-        ensures log { OnErr result (self.new.changes ≡ self.old.changes) }
+        ensures { Acts result self.old self.new (λ s. jump s target) }
     {
         self.jump(target);
         Ok(Pace::Going)
@@ -159,11 +153,11 @@ impl Running {
         &self.registers
     }
 
-    /// The parameters.
-    pub fn params(&self) -> &[Value]
-        ensures { result.now ≡ self.now.params }
+    /// The arguments of the frame that runs.
+    pub fn arguments(&self) -> &Registers
+        ensures { result.now ≡ self.now.inputs.args }
     {
-        self.params.as_slice()
+        &self.args
     }
 
     /// Writes a register and goes on.
@@ -182,8 +176,7 @@ impl Running {
         made: Result<Out, AllocError>,
     ) -> Result<Pace, AllocError>
         requires { self.old.pc + 1 < 2 ^ 64 }
-        ensures leads { (v : MeantOut) → IfOk made (λ out. out ≡ v) → Acts result self.old self.new (λ s. put s register v) }
-        ensures log { OnErr result (self.new.changes ≡ self.old.changes) }
+        ensures { (v : MeantOut) → IfOk made (λ out. out ≡ v) → Acts result self.old self.new (λ s. put s register v) }
     {
         match made {
             Ok(out) => {
@@ -197,8 +190,7 @@ impl Running {
     /// Writes NULL.
     pub fn put_null(&mut self, to: u32) -> Result<Pace, AllocError>
         requires { self.old.pc + 1 < 2 ^ 64 }
-        ensures leads { Acts result self.old self.new (λ s. put s to (Good Null)) }
-        ensures log { OnErr result (self.new.changes ≡ self.old.changes) }
+        ensures { Acts result self.old self.new (λ s. put s to (Good Null)) }
     {
         self.registers.write_null(to);
         self.pc += 1;
@@ -208,8 +200,7 @@ impl Running {
     /// Writes an integer.
     pub fn put_integer(&mut self, n: i64, to: u32) -> Result<Pace, AllocError>
         requires { self.old.pc + 1 < 2 ^ 64 }
-        ensures leads { Acts result self.old self.new (λ s. put s to (Good (Integer n))) }
-        ensures log { OnErr result (self.new.changes ≡ self.old.changes) }
+        ensures { Acts result self.old self.new (λ s. put s to (Good (Integer n))) }
     {
         self.registers.write_integer(to, n);
         self.pc += 1;
@@ -219,8 +210,7 @@ impl Running {
     /// Writes a text.
     pub fn put_own_text(&mut self, text: Text, to: u32) -> Result<Pace, AllocError>
         requires { self.old.pc + 1 < 2 ^ 64 }
-        ensures leads { Acts result self.old self.new (λ s. put s to (Good (sql.Text text))) }
-        ensures log { OnErr result (self.new.changes ≡ self.old.changes) }
+        ensures { Acts result self.old self.new (λ s. put s to (Good (sql.Text text))) }
     {
         self.registers.write_text(to, text);
         self.pc += 1;
@@ -235,13 +225,6 @@ impl Running {
         test.passes(alloc, self.registers.read(register, &null))
     }
 
-    /// A copy of an argument.
-    pub fn argument(&self, number: u32) -> Result<Out, AllocError>
-        ensures { IfOk result (λ out. out ≡ read_of self.now.args number) }
-    {
-        self.args.copied(number)
-    }
-
     /// Turns a register into what a column of the affinity would hold, and goes on.
     #[tactic(auto, using(crate::proofs::RegisterLaws::written_twice))]
     #[inline(never)]
@@ -252,34 +235,12 @@ impl Running {
         affinity: Affinity,
     ) -> Result<Pace, AllocError>
         requires { self.old.pc + 1 < 2 ^ 64 }
-        ensures leads { Acts result self.old self.new (λ s. put s register (turned (store_as affinity) (read_of s.regs register))) }
-        ensures log { OnErr result (self.new.changes ≡ self.old.changes) }
+        ensures { Acts result self.old self.new (λ s. put s register (turned (store_as affinity) (read_of s.regs register))) }
     {
         let out = self.registers.take(register);
         let out = stored(alloc, affinity, out)?;
         self.put(register, out);
         Ok(Pace::Going)
-    }
-
-    /// Ends the run with the causes of a register, where it has some.
-    #[inline(never)]
-    pub fn halt(&mut self, register: u32, event: &mut Event) -> Result<Pace, AllocError>
-        ensures leads { StopsOrActs result event.new self.old self.new (λ s. End (ending_of (read_of s.regs register)) s.shared) }
-        ensures log { OnErr result (self.new.changes ≡ self.old.changes) }
-    {
-        *event = match self.registers.take(register) {
-            Out::Good(_) => Event::Done,
-            Out::Bad(causes) => Event::Bad(causes),
-        };
-        Ok(Pace::Stopping)
-    }
-
-    /// Ends the run.
-    pub fn finish(&self, event: &mut Event) -> Result<Pace, AllocError>
-        ensures leads { StopsOrActs result event.new self.now self.now (λ s. End Finished s.shared) }
-    {
-        *event = Event::Done;
-        Ok(Pace::Stopping)
     }
 
     /// Gives the values of so many registers as a row, and goes on.
@@ -292,9 +253,8 @@ impl Running {
         event: &mut Event,
     ) -> Result<Pace, AllocError>
         requires { self.old.pc + 1 < 2 ^ 64 }
-        ensures leads { StopsOrActs result event.new self.old self.new (λ s. let rows = s.shared.given ++ values_from s.regs first count ∷ [] in
-            skip (record s { shared = record s.shared { given = rows } })) }
-        ensures log { OnErr result (self.new.changes ≡ self.old.changes) }
+        ensures { StopsOrActs result event.new self.old self.new (λ s.
+            skip (record s { shared = with_given s.shared (values_from s.regs first count) })) }
     {
         let row = self.registers.values(alloc, first, count)?;
         self.go_on();
@@ -306,8 +266,7 @@ impl Running {
     #[inline(never)]
     pub fn open(&mut self, number: u32, table: u32) -> Result<Pace, AllocError>
         requires { self.old.pc + 1 < 2 ^ 64 }
-        ensures leads { Acts result self.old self.new (λ s. skip (with_cursor s number (Open table None))) }
-        ensures log { OnErr result (self.new.changes ≡ self.old.changes) }
+        ensures { Acts result self.old self.new (λ s. skip (with_cursor s number (Open table None))) }
     {
         self.put_cursor(number, Cursor::open(table));
         Ok(Pace::Going)
@@ -317,10 +276,20 @@ impl Running {
     #[inline(never)]
     pub fn close(&mut self, number: u32) -> Result<Pace, AllocError>
         requires { self.old.pc + 1 < 2 ^ 64 }
-        ensures leads { Acts result self.old self.new (λ s. skip (with_cursor s number Closed)) }
-        ensures log { OnErr result (self.new.changes ≡ self.old.changes) }
+        ensures { Acts result self.old self.new (λ s. skip (with_cursor s number Closed)) }
     {
         self.put_cursor(number, Cursor::closed());
+        Ok(Pace::Going)
+    }
+
+    /// Closes the cursors from a number on and goes on.
+    #[inline(never)]
+    pub fn close_from(&mut self, first: u32) -> Result<Pace, AllocError>
+        requires { self.old.pc + 1 < 2 ^ 64 }
+        ensures { Acts result self.old self.new (λ s. skip (with_cursors s (closed_from first s.scene.cursors))) }
+    {
+        close_from(&mut self.cursors, first as usize);
+        self.pc += 1;
         Ok(Pace::Going)
     }
 
@@ -329,7 +298,7 @@ impl Running {
         requires { self.old.pc + 1 < 2 ^ 64 }
         ensures { self.new ≡ record self.old {
           pc = self.old.pc + 1;
-          cursors = slice_set self.old.cursors number cursor;
+          scene = record self.old.scene { cursors = slice_set self.old.scene.cursors number cursor };
         } }
     {
         let at = number as usize;
@@ -341,9 +310,9 @@ impl Running {
 
     /// Brings a cursor to the first row of its table, and says whether there is one.
     pub fn rewind(&mut self, tables: &Tables, number: u32) -> bool
-        ensures cursor { let moved = on_first tables.now (cursor_at self.old.cursors number) in
-            self.new ≡ record self.old { cursors = slice_set self.old.cursors number moved } }
-        ensures found { result ≡ is_on_row (on_first tables.now (cursor_at self.old.cursors number)) }
+        ensures cursor { let moved = on_first tables.now.world (cursor_at self.old.scene.cursors number) in
+            self.new ≡ record self.old { scene = record self.old.scene { cursors = slice_set self.old.scene.cursors number moved } } }
+        ensures found { result ≡ has_first tables.now.world (cursor_at self.old.scene.cursors number) }
     {
         let at = number as usize;
         if at < self.cursors.len() {
@@ -355,9 +324,9 @@ impl Running {
 
     /// Brings a cursor to the row behind its own, and says whether there is one.
     pub fn advance(&mut self, tables: &Tables, number: u32) -> bool
-        ensures cursor { let moved = on_next tables.now (cursor_at self.old.cursors number) in
-            self.new ≡ record self.old { cursors = slice_set self.old.cursors number moved } }
-        ensures found { result ≡ is_on_row (on_next tables.now (cursor_at self.old.cursors number)) }
+        ensures cursor { let moved = on_next tables.now.world (cursor_at self.old.scene.cursors number) in
+            self.new ≡ record self.old { scene = record self.old.scene { cursors = slice_set self.old.scene.cursors number moved } } }
+        ensures found { result ≡ has_next tables.now.world (cursor_at self.old.scene.cursors number) }
     {
         let at = number as usize;
         if at < self.cursors.len() {
@@ -375,18 +344,17 @@ impl Running {
         number: u32,
         place: u32,
     ) -> Result<Out, AllocError>
-        ensures { IfOk result (λ out.
-            out ≡ column_of (current tables.now (cursor_at self.now.cursors number)) place) }
+        ensures { IfOk result (λ out. out ≡ column_of (current tables.now.world (cursor_at self.now.scene.cursors number)) place) }
     {
         match self.cursors.get(number as usize) {
             None => Ok(Out::Good(Value::Null)),
-            Some(cursor) => Ok(Out::Good(column(cursor, alloc, tables, place as usize)?)),
+            Some(cursor) => column(cursor, alloc, tables, place as usize),
         }
     }
 
     /// The integer or the text in a column of a cursor's row, where there is one.
     pub fn lent<'t>(&self, tables: &'t Tables, number: u32, place: u32) -> Lent<'t>
-        ensures { Lends result (slice_index_or (values_at tables.now (cursor_at self.now.cursors number)) place Null) }
+        ensures { LendsColumn result (column_of (current tables.now.world (cursor_at self.now.scene.cursors number)) place) }
     {
         match self.cursors.get(number as usize) {
             None => Lent::Other,
@@ -396,7 +364,7 @@ impl Running {
 
     /// The rowid behind the last of a cursor's table, if there is one.
     pub fn next_rowid(&self, tables: &Tables, number: u32) -> Option<i64>
-        ensures { result ≡ next_rowid (cursor_rows tables.now (cursor_at self.now.cursors number)) }
+        ensures { result ≡ next_rowid (cursor_rows tables.now.world (cursor_at self.now.scene.cursors number)) }
     {
         match self.cursors.get(number as usize) {
             None => Some(1),
@@ -411,162 +379,60 @@ impl Running {
         tables: &mut Tables,
         number: u32,
         row: &StoredRow,
-    ) -> Result<(), AllocError>
+    ) -> Result<Pace, AllocError>
         requires { self.old.pc + 1 < 2 ^ 64 }
-        ensures ok { OnOk result (state_at self.new tables.new [] ≡ record (state_at self.old tables.old []) {
-          pc = self.old.pc + 1;
-          shared = inserted (cursor_at self.old.cursors number) (shared_of self.old.params tables.old self.old.changes) row.now;
-        }) }
-        ensures log { OnErr result (self.new.changes ≡ self.old.changes) }
-        ensures tables { OnErr result (tables.new ≡ tables.old) }
+        ensures leads { ActsOn result self.old tables.old.world self.new tables.new.world (λ s.
+            wrote s (inserted (cursor_at s.scene.cursors number) s.shared.written row.now)) }
+        ensures marks { tables.new.marks ≡ tables.old.marks }
     {
-        if let Some(table) = table_at(&self.cursors, number as usize) {
-            tables.put(alloc, table, row, &mut self.changes)?;
+        match table_at(&self.cursors, number as usize) {
+            None => {
+                self.pc += 1;
+                Ok(Pace::Going)
+            }
+            Some(table) => self.put_row(alloc, tables, table, row),
         }
-        self.pc += 1;
-        Ok(())
+    }
+
+    /// The same of a table. Where the number of changes has no room for one more, that is want of memory.
+    fn put_row(
+        &mut self,
+        alloc: Global,
+        tables: &mut Tables,
+        table: u32,
+        row: &StoredRow,
+    ) -> Result<Pace, AllocError>
+        requires { self.old.pc + 1 < 2 ^ 64 }
+        ensures leads { ActsOn result self.old tables.old.world self.new tables.new.world (λ s.
+            wrote s (with_row s.shared.written table row.now)) }
+        ensures marks { tables.new.marks ≡ tables.old.marks }
+    {
+        if !tables.is_free(table, row.rowid()) {
+            self.pc += 1;
+            return Ok(Pace::Going);
+        }
+        match self.changes.checked_add(1) {
+            None => Err(AllocError),
+            Some(changes) => {
+                tables.put(alloc, table, row)?;
+                self.changes = changes;
+                self.last_rowid = row.rowid();
+                self.pc += 1;
+                Ok(Pace::Going)
+            }
+        }
     }
 
     /// Adds a table without rows behind the others and goes on.
     #[inline(never)]
     pub fn add_table(&mut self, alloc: Global, tables: &mut Tables) -> Result<Pace, AllocError>
         requires { self.old.pc + 1 < 2 ^ 64 }
-        ensures leads { ActsOn result self.old tables.old self.new tables.new (λ s. skip (record s { shared = with_table s.shared })) }
-        ensures log { OnErr result (self.new.changes ≡ self.old.changes) }
-        ensures tables { OnErr result (tables.new ≡ tables.old) }
+        ensures leads { ActsOn result self.old tables.old.world self.new tables.new.world (λ s. wrote s (with_table s.shared.written)) }
+        ensures marks { tables.new.marks ≡ tables.old.marks }
     {
-        tables.add(alloc, &mut self.changes)?;
+        tables.add(alloc)?;
         self.pc += 1;
         Ok(Pace::Going)
-    }
-
-    /// Runs a unit in a new frame, with so many registers as its arguments; its result goes to a register. A unit that is not
-    /// there leaves NULL.
-    #[inline(never)]
-    pub fn call(
-        &mut self,
-        alloc: Global,
-        program: &Program,
-        unit: u32,
-        first: u32,
-        count: u32,
-        to: u32,
-    ) -> Result<Pace, AllocError>
-        requires { self.old.pc + 1 < 2 ^ 64 }
-        ensures leads { Acts result self.old self.new (λ s. called (unit_at program.now unit) s unit (outs_from s.regs first count) to) }
-        ensures log { OnErr result (self.new.changes ≡ self.old.changes) }
-    {
-        match unit_at(program, unit) {
-            None => {
-                self.put(to, Out::Good(Value::Null));
-                Ok(Pace::Going)
-            }
-            Some(callee) => {
-                let args = self.registers.range(alloc, first, count)?;
-                self.enter(alloc, unit, callee, args, to)?;
-                Ok(Pace::Going)
-            }
-        }
-    }
-
-    /// Puts the frame that runs behind those that wait, and goes to the start of a unit.
-    fn enter(
-        &mut self,
-        alloc: Global,
-        unit: u32,
-        callee: &Unit,
-        args: Registers,
-        to: u32,
-    ) -> Result<(), AllocError>
-        requires { self.old.pc + 1 < 2 ^ 64 }
-        ensures ok { OnOk result (self.new ≡ record {
-          unit = unit;
-          pc = 0;
-          regs = replicate callee.now.registers (Good Null);
-          args = args;
-          cursors = replicate callee.now.cursors Closed;
-          stack = record {
-            unit = self.old.unit;
-            pc = self.old.pc + 1;
-            regs = self.old.regs;
-            args = self.old.args;
-            cursors = self.old.cursors;
-            to = to;
-          } ∷ self.old.stack;
-          params = self.old.params;
-          changes = self.old.changes;
-        }) }
-        ensures log { OnErr result (self.new.changes ≡ self.old.changes) }
-    {
-        let registers = Registers::nulls(alloc, callee.registers)?;
-        let cursors = closed(alloc, callee.cursors)?;
-        let frame = Frame {
-            unit: self.unit,
-            pc: self.pc + 1,
-            registers: mem::replace(&mut self.registers, registers),
-            args: mem::replace(&mut self.args, args),
-            cursors: mem::replace(&mut self.cursors, cursors),
-            to,
-        };
-        self.frames.push(frame)?;
-        self.unit = unit;
-        self.pc = 0;
-        Ok(())
-    }
-
-    /// Leaves the unit with a register as its result. Where no frame waits the run is at its end.
-    #[inline(never)]
-    pub fn ret(&mut self, from: u32, event: &mut Event) -> Result<Pace, AllocError>
-        ensures leads { StopsOrActs result event.new self.old self.new (λ s. returned s.stack s.shared (read_of s.regs from)) }
-        ensures log { OnErr result (self.new.changes ≡ self.old.changes) }
-    {
-        match self.frames.pop() {
-            None => {
-                *event = Event::Done;
-                Ok(Pace::Stopping)
-            }
-            Some(frame) => {
-                let out = self.registers.take(from);
-                self.resume(frame, out);
-                Ok(Pace::Going)
-            }
-        }
-    }
-
-    /// Goes on with a frame that waited for this result.
-    fn resume(&mut self, frame: Frame, out: Out)
-        ensures { self.new ≡ record self.old {
-          unit = frame.unit;
-          pc = frame.pc;
-          regs = slice_set frame.regs frame.to out;
-          args = frame.args;
-          cursors = frame.cursors;
-        } }
-    {
-        let Frame {
-            unit,
-            pc,
-            mut registers,
-            args,
-            cursors,
-            to,
-        } = frame;
-        registers.write(to, out);
-        self.unit = unit;
-        self.pc = pc;
-        self.registers = registers;
-        self.args = args;
-        self.cursors = cursors;
-    }
-}
-
-/// A unit of a program: the main unit is number 0.
-fn unit_at(program: &Program, number: u32) -> Option<&Unit>
-    ensures { option_copied result ≡ unit_at program.now number }
-{
-    match number.checked_sub(1) {
-        None => Some(&program.main),
-        Some(behind) => program.units.get(behind as usize),
     }
 }
 
@@ -576,25 +442,4 @@ fn op_at(code: &[Op], pc: usize) -> Option<&Op>
     ensures fits { OnSome result (pc + 1 < 2 ^ 64) }
 {
     code.get(pc)
-}
-
-/// So many cursors that are closed.
-fn closed(alloc: Global, count: u32) -> Result<Vec<Cursor>, AllocError>
-    ensures { IfOk result (λ cursors. cursors.items ≡ replicate count Closed) }
-{
-    let mut cursors = Vec::new(alloc);
-    for _ in 0..count {
-        cursors.push(Cursor::closed())?;
-    }
-    Ok(cursors)
-}
-
-/// The table of a cursor that is open.
-fn table_at(cursors: &[Cursor], number: usize) -> Option<u32>
-    ensures { result ≡ table_of (cursor_at cursors.now number) }
-{
-    match cursors.get(number) {
-        None => None,
-        Some(cursor) => table(cursor),
-    }
 }

@@ -1,12 +1,12 @@
 // The rows of one table.
 ghost use Rattle.std.specs.Prelude.{◌≡◌, ◌-◌, [], length, None, Ok, OnOk, OnErr, IfOk, is_some, slice_get, slice_index_or};
-ghost use Rattle.eng_record.specs.Lent.{Lends};
 ghost use Rattle.eng_record.specs.Reading.{reading};
+ghost use Rattle.eng_value.specs.Environments.{column_of};
 ghost use Rattle.eng_value.specs.StoredRows.{IsAscending, next_rowid};
 ghost use Rattle.eng_value.specs.declared.value.Value.TheVariants.{Null};
-ghost use Rattle.vm_code.specs.Changes.{drop_row};
-ghost use Rattle.vm_code.specs.Machine.{Row as MeantRow, put_row, row_behind, row_under};
-ghost use Rattle.vm_core.specs.Cursors.{on_row, values_of};
+ghost use Rattle.vm_code.specs.Machine.{Row as MeantRow, put_row, row_behind, row_read, row_under};
+ghost use Rattle.vm_core.specs.Changes.{drop_row};
+ghost use Rattle.vm_core.specs.Cursors.{LendsColumn, on_row, values_of};
 ghost use Rattle.vm_core.specs.Stored.{row_from};
 
 use eng_key::{rowid_key, rowid_of_key};
@@ -128,7 +128,7 @@ impl Table {
 
     /// The integer or the text in a column of the row of this rowid, where there is one.
     pub fn lent(&self, rowid: i64, place: usize, near: usize) -> Lent<'_>
-        ensures { Lends result (slice_index_or (values_of (row_under self.now rowid)) place Null) }
+        ensures { LendsColumn result (column_of (row_read (row_under self.now rowid)) place) }
     {
         match self.tree.get_near(&rowid_key(rowid), near) {
             None => Lent::Other,

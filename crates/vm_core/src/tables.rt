@@ -1,57 +1,65 @@
 // The tables.
-ghost use Rattle.std.specs.Prelude.{◌≡◌, List, [], length, OnOk, OnErr, IfOk, slice_get, slice_index_or};
-ghost use Rattle.eng_record.specs.Lent.{Lends};
+ghost use Rattle.std.specs.Prelude.{◌≡◌, ◌++◌, ◌∷◌, ◌<◌, [], true, drop, length, slice_get, slice_index_or, slice_set, IfOk, OnOk, OnErr};
+ghost use Rattle.eng_value.specs.Environments.{column_of};
 ghost use Rattle.eng_value.specs.StoredRows.{next_rowid};
-ghost use Rattle.eng_value.specs.declared.value.Value.{Value as MeantValue};
 ghost use Rattle.eng_value.specs.declared.value.Value.TheVariants.{Null};
-ghost use Rattle.vm_code.specs.Changes.{undone};
-ghost use Rattle.vm_code.specs.Machine.{IsOrdered, row_behind, row_under, rows_of, with_row, with_table};
-ghost use Rattle.vm_core.specs.Cursors.{on_row, values_of};
-ghost use Rattle.vm_core.specs.Paused.{shared_of};
+ghost use Rattle.vm_code.specs.Machine.{IsSound, is_free, put_row, row_behind, row_read, row_under, rows_of};
+ghost use Rattle.vm_core.specs.Cursors.{LendsColumn, on_row, values_of};
 
+use crate::change::{Change, take_back};
 use crate::table::Table;
 use eng_record::Lent;
 use eng_value::{StoredRow, Value};
 use std::alloc::{AllocError, Global};
 use std::marker::Model;
-use vm_code::Change;
 
-/// The rows of each table. Contracts see the world of the machine over lists.
+/// The rows of each table, with marks to which they can go back. While there is a mark each change is logged, and a mark is the length
+/// that the log had then. Contracts see the world of the machine over lists, and the worlds at the marks.
 #[derive(Drop)]
 pub struct Tables {
     tables: Vec<Table>,
+    log: Vec<Change>,
+    marks: Vec<usize>,
 }
 
 impl Model for Tables {
-    ghost use Rattle.vm_code.specs.Machine.{World, IsOrdered};
+    ghost use Rattle.vm_core.specs.Marked.{Marked};
 
-    ghost Value = { World };
+    ghost Value = { Marked };
 
-    ghost view = { λ t. t.tables.items };
+    ghost use Rattle.vm_core.specs.Changes.{IsJournal, at_marks};
 
-    ghost invariant = { λ t. IsOrdered t.tables.items };
+    ghost view = { λ t.
+        record {
+          world = t.tables.items;
+          marks = at_marks t.marks.items t.log.items t.tables.items;
+        } };
+
+    ghost invariant = { λ t. IsJournal t.tables.items t.log.items t.marks.items };
 }
 
 impl Tables {
-    /// No table yet.
+    /// No table and no mark yet.
     pub fn new(alloc: Global) -> Tables
-        ensures { result ≡ [] }
+        ensures { result ≡ record { world = []; marks = [] } }
     {
         Tables {
             tables: Vec::new(alloc),
+            log: Vec::new(alloc),
+            marks: Vec::new(alloc),
         }
     }
 
     /// How many tables there are.
     pub fn len(&self) -> usize
-        ensures { result ≡ length self.now }
+        ensures { result ≡ length self.now.world }
     {
         self.tables.len()
     }
 
     /// The rows of a table, by ascending rowids; none where there is no such table.
     pub fn rows(&self, alloc: Global, table: usize) -> Result<Vec<StoredRow>, AllocError>
-        ensures { IfOk result (λ rows. rows.items ≡ rows_of self.now table) }
+        ensures { IfOk result (λ rows. rows.items ≡ rows_of self.now.world table) }
     {
         match self.tables.get(table) {
             Some(table) => table.rows(alloc),
@@ -59,30 +67,62 @@ impl Tables {
         }
     }
 
-    /// Shows a proof that the rows of each table ascend.
+    /// Shows a proof that the tables are sound.
     pub fn order(&self)
-        ensures { IsOrdered self.now }
+        ensures { IsSound self.now.world }
     {
         let _tables = &self.tables;
     }
 
+    /// Sets a mark: from now on changes are logged.
+    pub fn mark(&mut self) -> Result<(), AllocError>
+        ensures ok { OnOk result (self.new ≡ record { world = self.old.world; marks = self.old.world ∷ self.old.marks }) }
+        ensures err { OnErr result (self.new ≡ self.old) }
+    {
+        self.marks.push(self.log.len())?;
+        Ok(())
+    }
+
+    /// Takes back what was changed since the last mark, which goes. Takes no memory.
+    pub fn undo(&mut self)
+        requires { 0 < length self.old.marks }
+        ensures { self.old.marks ≡ self.new.world ∷ self.new.marks }
+    {
+        match self.marks.pop() {
+            Some(mark) => take_back(&mut self.tables, &mut self.log, mark),
+            None => unreachable!(),
+        }
+    }
+
+    /// Keeps what was changed since the last mark, which goes. Takes no memory.
+    pub fn forget(&mut self)
+        requires { 0 < length self.old.marks }
+        ensures world { self.new.world ≡ self.old.world }
+        ensures marks { self.new.marks ≡ drop 1 self.old.marks }
+    {
+        self.marks.pop();
+        if self.marks.is_empty() {
+            self.log.clear();
+        }
+    }
+
     /// The rowid of a table's first row. `near` is a hint: where the last search in the table came to.
     pub(crate) fn first(&self, table: u32, near: &mut usize) -> Option<i64>
-        ensures { result ≡ on_row (slice_get (rows_of self.now table) 0) }
+        ensures { result ≡ on_row (slice_get (rows_of self.now.world table) 0) }
     {
         self.tables.get(table as usize)?.first(near)
     }
 
     /// The rowid of a table's first row behind a rowid.
     pub(crate) fn behind(&self, table: u32, rowid: i64, near: &mut usize) -> Option<i64>
-        ensures { result ≡ on_row (row_behind (rows_of self.now table) rowid) }
+        ensures { result ≡ on_row (row_behind (rows_of self.now.world table) rowid) }
     {
         self.tables.get(table as usize)?.behind(rowid, near)
     }
 
     /// The rowid behind a table's last row, if there is one.
     pub(crate) fn next_rowid(&self, table: u32) -> Option<i64>
-        ensures { result ≡ next_rowid (rows_of self.now table) }
+        ensures { result ≡ next_rowid (rows_of self.now.world table) }
     {
         match self.tables.get(table as usize) {
             None => Some(1),
@@ -99,7 +139,7 @@ impl Tables {
         place: usize,
         near: usize,
     ) -> Result<Value, AllocError>
-        ensures { IfOk result (λ v. v ≡ slice_index_or (values_of (row_under (rows_of self.now table) rowid)) place Null) }
+        ensures { IfOk result (λ v. v ≡ slice_index_or (values_of (row_under (rows_of self.now.world table) rowid)) place Null) }
     {
         match self.tables.get(table as usize) {
             None => Ok(Value::Null),
@@ -109,7 +149,7 @@ impl Tables {
 
     /// The integer or the text in a column of the row of a rowid, where there is one.
     pub(crate) fn lent(&self, table: u32, rowid: i64, place: usize, near: usize) -> Lent<'_>
-        ensures { Lends result (slice_index_or (values_of (row_under (rows_of self.now table) rowid)) place Null) }
+        ensures { LendsColumn result (column_of (row_read (row_under (rows_of self.now.world table) rowid)) place) }
     {
         match self.tables.get(table as usize) {
             None => Lent::Other,
@@ -117,57 +157,50 @@ impl Tables {
         }
     }
 
-    /// Puts a row into a table and notes that, unless the table is missing or has a row under this rowid.
+    /// Whether there is the table, and it has no row of this rowid.
+    pub(crate) fn is_free(&self, table: u32, rowid: i64) -> bool
+        ensures { result ≡ is_free self.now.world table rowid }
+    {
+        match self.tables.get(table as usize) {
+            None => false,
+            Some(table) => !table.has(rowid),
+        }
+    }
+
+    /// Puts a row into a table where its rowid is free.
     pub(crate) fn put(
         &mut self,
         alloc: Global,
         table: u32,
         row: &StoredRow,
-        changes: &mut Vec<Change>,
     ) -> Result<(), AllocError>
-        ensures ok { OnOk result ((params : List MeantValue) →
-            shared_of params self.new changes.new.items ≡ with_row (shared_of params self.old changes.old.items) table row.now) }
-        ensures err { OnErr result (self.new ≡ self.old) }
-        ensures log { OnErr result (changes.new.items ≡ changes.old.items) }
+        requires { is_free self.old.world table row.now.rowid ≡ true }
+        ensures ok { OnOk result (self.new.world ≡ slice_set self.old.world table (put_row (rows_of self.old.world table) row.now)) }
+        ensures err { OnErr result (self.new.world ≡ self.old.world) }
+        ensures marks { self.new.marks ≡ self.old.marks }
     {
         let rowid = row.rowid();
-        let at = table as usize;
-        if at >= self.tables.len() || self.tables[at].has(rowid) {
+        self.log.reserve(1)?;
+        self.tables[table as usize].put(alloc, row)?;
+        if self.marks.is_empty() {
             return Ok(());
         }
-        changes.reserve(1)?;
-        self.tables[at].put(alloc, row)?;
-        changes.push_reserved(Change::RowPut { table, rowid });
+        self.log.push_reserved(Change::RowPut { table, rowid });
         Ok(())
     }
 
-    /// Adds a table without rows behind the others and notes that.
-    pub(crate) fn add(&mut self, alloc: Global, changes: &mut Vec<Change>) -> Result<(), AllocError>
-        ensures ok { OnOk result ((params : List MeantValue) →
-            shared_of params self.new changes.new.items ≡ with_table (shared_of params self.old changes.old.items)) }
-        ensures err { OnErr result (self.new ≡ self.old) }
-        ensures log { OnErr result (changes.new.items ≡ changes.old.items) }
+    /// Adds a table without rows behind the others.
+    pub(crate) fn add(&mut self, alloc: Global) -> Result<(), AllocError>
+        ensures ok { OnOk result (self.new.world ≡ self.old.world ++ [] ∷ []) }
+        ensures err { OnErr result (self.new.world ≡ self.old.world) }
+        ensures marks { self.new.marks ≡ self.old.marks }
     {
-        changes.reserve(1)?;
+        self.log.reserve(1)?;
         self.tables.push(Table::new(alloc))?;
-        changes.push_reserved(Change::TableAdded);
-        Ok(())
-    }
-
-    /// Takes a change back. Takes no memory.
-    pub(crate) fn undo(&mut self, change: Change)
-        ensures { self.new ≡ undone change self.old }
-    {
-        match change {
-            Change::RowPut { table, rowid } => {
-                let at = table as usize;
-                if at < self.tables.len() {
-                    self.tables[at].drop_row(rowid);
-                }
-            }
-            Change::TableAdded => {
-                self.tables.pop();
-            }
+        if self.marks.is_empty() {
+            return Ok(());
         }
+        self.log.push_reserved(Change::TableAdded);
+        Ok(())
     }
 }

@@ -1,125 +1,18 @@
-// What instructions make of registers.
-ghost use Rattle.std.specs.Prelude.{◌≡◌, IfOk, IfSome, slice_index_or};
-ghost use Rattle.eng_key.specs.Values.{value_keys};
-ghost use Rattle.eng_value.specs.Applied.{binary_of, function_by, merged, unary_of};
+// What instructions make of registers and parameters.
+ghost use Rattle.std.specs.Prelude.{◌≡◌, IfOk, slice_index_or};
+ghost use Rattle.std.specs.Option.{option_copied};
+ghost use Rattle.eng_value.specs.Applied.{merged};
 ghost use Rattle.eng_value.specs.Casts.{store_as};
-ghost use Rattle.eng_value.specs.Collations.{own_keys};
-ghost use Rattle.eng_value.specs.Comparisons.{like_escaped_of};
 ghost use Rattle.eng_value.specs.Operators.{length_of, made};
 ghost use Rattle.eng_value.specs.Outs.{turned};
-ghost use Rattle.eng_value.specs.declared.out.Out.TheVariants.{Good};
-ghost use Rattle.eng_value.specs.declared.value.Value.TheVariants.{Integer, Null};
-ghost use Rattle.vm_code.specs.Machine.{outs_from, parameter_at, read as read_of};
+ghost use Rattle.eng_value.specs.declared.value.Value.TheVariants as sql;
+ghost use Rattle.eng_value.specs.declared.value.Value.TheVariants.{Null};
+ghost use Rattle.vm_code.specs.Machine.{parameter_at, read as read_of};
+ghost use Rattle.vm_store.specs.Held.{held_integer, held_text};
 
-use eng_operator as operator;
-use eng_scalar as scalar;
-use eng_value::{
-    Affinity, BinaryOperator, Builtin, Cause, Collation, MAX_VALUE_BYTES, Out, UnaryOperator,
-    Value, store_as,
-};
+use eng_value::{Affinity, Cause, MAX_VALUE_BYTES, Out, Text, Value, store_as};
 use std::alloc::{AllocError, Global};
 use vm_store::Registers;
-
-/// What an operator with one operand gives for a register.
-pub(crate) fn unary(
-    registers: &Registers,
-    alloc: Global,
-    operator: UnaryOperator,
-    from: u32,
-) -> Result<Out, AllocError>
-    ensures { IfOk result (λ out. out ≡ unary_of operator (read_of registers.now from)) }
-{
-    let null = Out::Good(Value::Null);
-    operator::unary(alloc, operator, registers.read(from, &null))
-}
-
-/// What an operator with two operands gives for two registers.
-pub(crate) fn binary(
-    registers: &Registers,
-    alloc: Global,
-    operator: BinaryOperator,
-    left: u32,
-    right: u32,
-) -> Result<Out, AllocError>
-    ensures { IfOk result (λ out.
-        out ≡ binary_of own_keys operator (read_of registers.now left) (read_of registers.now right)) }
-{
-    let null = Out::Good(Value::Null);
-    operator::binary(
-        alloc,
-        operator,
-        registers.read(left, &null),
-        registers.read(right, &null),
-    )
-}
-
-/// The same where both registers hold integers and an integer comes of them; none says nothing.
-pub(crate) fn integers(
-    registers: &Registers,
-    operator: &BinaryOperator,
-    left: u32,
-    right: u32,
-) -> Option<i64>
-    ensures { IfSome result (λ n.
-        binary_of own_keys operator.now (read_of registers.now left) (read_of registers.now right) ≡ Good (Integer n)) }
-{
-    match (registers.integer_at(left), registers.integer_at(right)) {
-        (Some(a), Some(b)) => operator::binary_of_integers(operator, a, b),
-        _ => None,
-    }
-}
-
-/// The same where both registers hold texts and an integer comes of them; none says nothing.
-pub(crate) fn texts(
-    registers: &Registers,
-    operator: &BinaryOperator,
-    left: u32,
-    right: u32,
-) -> Option<i64>
-    ensures { IfSome result (λ n.
-        binary_of own_keys operator.now (read_of registers.now left) (read_of registers.now right) ≡ Good (Integer n)) }
-{
-    match (registers.text_at(left), registers.text_at(right)) {
-        (Some(a), Some(b)) => operator::binary_of_texts(operator, a, b),
-        _ => None,
-    }
-}
-
-/// Whether a text is like a pattern with a character of escape, of three registers.
-pub(crate) fn like_escaped(
-    registers: &Registers,
-    alloc: Global,
-    text: u32,
-    pattern: u32,
-    escape: u32,
-) -> Result<Out, AllocError>
-    ensures { IfOk result (λ out.
-        out ≡ like_escaped_of (read_of registers.now text) (read_of registers.now pattern) (read_of registers.now escape)) }
-{
-    let null = Out::Good(Value::Null);
-    operator::like_escaped(
-        alloc,
-        registers.read(text, &null),
-        registers.read(pattern, &null),
-        registers.read(escape, &null),
-    )
-}
-
-/// What a function gives for so many registers.
-pub(crate) fn function(
-    registers: &Registers,
-    alloc: Global,
-    function: Builtin,
-    collation: Collation,
-    first: u32,
-    count: u32,
-) -> Result<Out, AllocError>
-    ensures { IfOk result (λ out.
-        out ≡ function_by (value_keys own_keys) function collation (outs_from registers.now first count)) }
-{
-    let mut args = registers.outs(alloc, first, count)?;
-    scalar::function(alloc, function, collation, &mut args)
-}
 
 /// One register with the causes of another beside its own.
 pub(crate) fn merge(registers: &Registers, from: u32, to: u32) -> Result<Out, AllocError>
@@ -176,6 +69,54 @@ fn within_limit(alloc: Global, value: &Value) -> Result<Out, AllocError>
         Ok(Out::bad(alloc, Cause::TooBig))
     } else {
         Ok(Out::Good(value.clone()?))
+    }
+}
+
+/// The integer that a parameter is, if it is one.
+pub(crate) fn integer_parameter(params: &[Value], number: u32) -> Option<i64>
+    ensures { result ≡ held_integer (parameter_at params.now number) }
+{
+    match number.checked_sub(1) {
+        None => None,
+        Some(behind) => integer_behind(params, behind as usize),
+    }
+}
+
+fn integer_behind(params: &[Value], behind: usize) -> Option<i64>
+    ensures { result ≡ held_integer (made (slice_index_or params.now behind Null)) }
+{
+    match params.get(behind) {
+        Some(Value::Integer(n)) => Some(*n),
+        _ => None,
+    }
+}
+
+/// The text that a parameter is, if it is one, and not too long.
+pub(crate) fn text_parameter(params: &[Value], number: u32) -> Option<&str>
+    ensures { option_copied result ≡ held_text (parameter_at params.now number) }
+{
+    match number.checked_sub(1) {
+        None => None,
+        Some(behind) => text_behind(params, behind as usize),
+    }
+}
+
+fn text_behind(params: &[Value], behind: usize) -> Option<&str>
+    ensures { option_copied result ≡ held_text (made (slice_index_or params.now behind Null)) }
+{
+    match params.get(behind) {
+        Some(Value::Text(text)) => text_within_limit(text),
+        _ => None,
+    }
+}
+
+fn text_within_limit(text: &Text) -> Option<&str>
+    ensures { option_copied result ≡ held_text (made (sql.Text text.now)) }
+{
+    if text.as_bytes().len() > MAX_VALUE_BYTES {
+        None
+    } else {
+        Some(text.as_str())
     }
 }
 

@@ -1,6 +1,6 @@
 // The instructions that write into registers, and `Insert`, which reads them. Each has a method of its own that is not inlined, so
 // that it alone pays for the locals that it needs.
-ghost use Rattle.std.specs.Prelude.{◌≡◌, ◌+◌, ◌^◌, ◌<◌, OnErr};
+ghost use Rattle.std.specs.Prelude.{◌≡◌, ◌+◌, ◌^◌, ◌<◌, map};
 ghost use Rattle.eng_key.specs.Values.{value_keys};
 ghost use Rattle.eng_value.specs.Applied.{binary_of, function_by, merged, unary_of};
 ghost use Rattle.eng_value.specs.Collations.{own_keys};
@@ -10,26 +10,28 @@ ghost use Rattle.eng_value.specs.Outs.{bad};
 ghost use Rattle.eng_value.specs.StoredRows.{StoredRow as MeantRow};
 ghost use Rattle.eng_value.specs.declared.out.Out.TheVariants.{Good};
 ghost use Rattle.eng_value.specs.declared.value.Value.TheVariants as value;
-ghost use Rattle.vm_code.specs.Machine.{current, cursor_at, inserted, integer_in, outs_from, parameter_at, put, read as read_of, skip, values_from};
+ghost use Rattle.vm_code.specs.Machine.{current, cursor_at, inserted, integer_in, parameter_at, put, read as read_of, values_from, world_of, wrote};
 ghost use Rattle.vm_core.specs.Events.{Acts, ActsOn};
+ghost use Rattle.vm_core.specs.Operands.{operand_now};
 
 use crate::Tables;
 use crate::pace::Pace;
 use crate::running::Running;
-use crate::values::{binary, function, integers, like_escaped, merge, parameter, texts, unary};
+use crate::values::{merge, parameter};
 use eng_record::Lent;
 use eng_value::{
-    BinaryOperator, Blob, Builtin, Cause, Collation, Out, StoredRow, Text, UnaryOperator, Value,
+    BinaryOperator, Blob, Builtin, Cause, Collation, Out, Row, StoredRow, Text, UnaryOperator,
+    Value,
 };
 use std::alloc::{AllocError, Global};
+use vm_code::Operand;
 
 impl Running {
     /// Writes a copy of a text.
     #[inline(never)]
     pub(crate) fn put_text(&mut self, text: &Text, to: u32) -> Result<Pace, AllocError>
         requires { self.old.pc + 1 < 2 ^ 64 }
-        ensures leads { Acts result self.old self.new (λ s. put s to (Good (value.Text text.now))) }
-        ensures log { OnErr result (self.new.changes ≡ self.old.changes) }
+        ensures { Acts result self.old self.new (λ s. put s to (Good (value.Text text.now))) }
     {
         let text = text.clone()?;
         self.put_own_text(text, to)
@@ -39,8 +41,7 @@ impl Running {
     #[inline(never)]
     fn put_str(&mut self, alloc: Global, text: &str, to: u32) -> Result<Pace, AllocError>
         requires { self.old.pc + 1 < 2 ^ 64 }
-        ensures leads { Acts result self.old self.new (λ s. put s to (Good (value.Text text.now))) }
-        ensures log { OnErr result (self.new.changes ≡ self.old.changes) }
+        ensures { Acts result self.old self.new (λ s. put s to (Good (value.Text text.now))) }
     {
         let text = Text::from_str(alloc, text)?;
         self.put_own_text(text, to)
@@ -50,8 +51,7 @@ impl Running {
     #[inline(never)]
     pub(crate) fn put_blob(&mut self, blob: &Blob, to: u32) -> Result<Pace, AllocError>
         requires { self.old.pc + 1 < 2 ^ 64 }
-        ensures leads { Acts result self.old self.new (λ s. put s to (Good (value.Blob blob.now))) }
-        ensures log { OnErr result (self.new.changes ≡ self.old.changes) }
+        ensures { Acts result self.old self.new (λ s. put s to (Good (value.Blob blob.now))) }
     {
         let blob = blob.clone()?;
         self.put(to, Out::Good(Value::Blob(blob)));
@@ -67,8 +67,7 @@ impl Running {
         to: u32,
     ) -> Result<Pace, AllocError>
         requires { self.old.pc + 1 < 2 ^ 64 }
-        ensures leads { Acts result self.old self.new (λ s. put s to (bad cause.now)) }
-        ensures log { OnErr result (self.new.changes ≡ self.old.changes) }
+        ensures { Acts result self.old self.new (λ s. put s to (bad cause.now)) }
     {
         let cause = cause.clone()?;
         self.put(to, Out::bad(alloc, cause));
@@ -80,14 +79,14 @@ impl Running {
     pub(crate) fn put_parameter(
         &mut self,
         alloc: Global,
+        params: &Row,
         number: u32,
         to: u32,
     ) -> Result<Pace, AllocError>
         requires { self.old.pc + 1 < 2 ^ 64 }
-        ensures leads { Acts result self.old self.new (λ s. put s to (parameter_at s.shared.params number)) }
-        ensures log { OnErr result (self.new.changes ≡ self.old.changes) }
+        ensures { Acts result self.old self.new (λ s. put s to (parameter_at params.now number)) }
     {
-        let made = parameter(self.params(), alloc, number);
+        let made = parameter(params.as_slice(), alloc, number);
         self.put_made(to, made)
     }
 
@@ -95,10 +94,9 @@ impl Running {
     #[inline(never)]
     pub(crate) fn put_argument(&mut self, number: u32, to: u32) -> Result<Pace, AllocError>
         requires { self.old.pc + 1 < 2 ^ 64 }
-        ensures leads { Acts result self.old self.new (λ s. put s to (read_of s.args number)) }
-        ensures log { OnErr result (self.new.changes ≡ self.old.changes) }
+        ensures { Acts result self.old self.new (λ s. put s to (read_of s.inputs.args number)) }
     {
-        let made = self.argument(number);
+        let made = self.arguments().copied(number);
         self.put_made(to, made)
     }
 
@@ -106,67 +104,74 @@ impl Running {
     #[inline(never)]
     pub(crate) fn put_copy(&mut self, from: u32, to: u32) -> Result<Pace, AllocError>
         requires { self.old.pc + 1 < 2 ^ 64 }
-        ensures leads { Acts result self.old self.new (λ s. put s to (read_of s.regs from)) }
-        ensures log { OnErr result (self.new.changes ≡ self.old.changes) }
+        ensures { Acts result self.old self.new (λ s. put s to (read_of s.regs from)) }
     {
         let made = self.registers().copied(from);
         self.put_made(to, made)
     }
 
-    /// Writes what an operator with one operand gives for a register.
+    /// Writes what an operator with one operand gives.
     #[inline(never)]
     pub(crate) fn put_unary(
         &mut self,
         alloc: Global,
+        params: &Row,
+        tables: &Tables,
         operator: UnaryOperator,
-        from: u32,
+        operand: &Operand,
         to: u32,
     ) -> Result<Pace, AllocError>
         requires { self.old.pc + 1 < 2 ^ 64 }
-        ensures leads { Acts result self.old self.new (λ s. put s to (unary_of operator (read_of s.regs from))) }
-        ensures log { OnErr result (self.new.changes ≡ self.old.changes) }
+        ensures { let a = operand_now params.now self.old tables.now.world operand.now in
+            ActsOn result self.old tables.now.world self.new tables.now.world (λ s. put s to (unary_of operator a)) }
     {
-        let made = unary(self.registers(), alloc, operator, from);
+        let made = self.unary(alloc, params, tables, operator, operand);
         self.put_made(to, made)
     }
 
-    /// Writes what an operator with two operands gives for two registers.
+    /// Writes what an operator with two operands gives.
     #[inline(never)]
     pub(crate) fn put_binary(
         &mut self,
         alloc: Global,
+        params: &Row,
+        tables: &Tables,
         operator: &BinaryOperator,
-        left: u32,
-        right: u32,
+        left: &Operand,
+        right: &Operand,
         to: u32,
     ) -> Result<Pace, AllocError>
         requires { self.old.pc + 1 < 2 ^ 64 }
-        ensures leads { Acts result self.old self.new (λ s. put s to (binary_of own_keys operator.now (read_of s.regs left) (read_of s.regs right))) }
-        ensures log { OnErr result (self.new.changes ≡ self.old.changes) }
+        ensures { let a = operand_now params.now self.old tables.now.world left.now in
+            let b = operand_now params.now self.old tables.now.world right.now in
+            ActsOn result self.old tables.now.world self.new tables.now.world (λ s. put s to (binary_of own_keys operator.now a b)) }
     {
-        match integers(self.registers(), operator, left, right) {
+        match self.integers(params, tables, operator, left, right) {
             Some(n) => self.put_integer(n, to),
-            None => self.put_binary_of_texts(alloc, operator, left, right, to),
+            None => self.put_binary_of_texts(alloc, params, tables, operator, left, right, to),
         }
     }
 
-    /// The same, where they do not hold integers of which an integer comes.
+    /// The same, where they do not read integers of which an integer comes.
     #[inline(never)]
     fn put_binary_of_texts(
         &mut self,
         alloc: Global,
+        params: &Row,
+        tables: &Tables,
         operator: &BinaryOperator,
-        left: u32,
-        right: u32,
+        left: &Operand,
+        right: &Operand,
         to: u32,
     ) -> Result<Pace, AllocError>
         requires { self.old.pc + 1 < 2 ^ 64 }
-        ensures leads { Acts result self.old self.new (λ s. put s to (binary_of own_keys operator.now (read_of s.regs left) (read_of s.regs right))) }
-        ensures log { OnErr result (self.new.changes ≡ self.old.changes) }
+        ensures { let a = operand_now params.now self.old tables.now.world left.now in
+            let b = operand_now params.now self.old tables.now.world right.now in
+            ActsOn result self.old tables.now.world self.new tables.now.world (λ s. put s to (binary_of own_keys operator.now a b)) }
     {
-        match texts(self.registers(), operator, left, right) {
+        match self.texts(params, tables, operator, left, right) {
             Some(n) => self.put_integer(n, to),
-            None => self.put_any_binary(alloc, operator, left, right, to),
+            None => self.put_any_binary(alloc, params, tables, operator, left, right, to),
         }
     }
 
@@ -175,53 +180,61 @@ impl Running {
     fn put_any_binary(
         &mut self,
         alloc: Global,
+        params: &Row,
+        tables: &Tables,
         operator: &BinaryOperator,
-        left: u32,
-        right: u32,
+        left: &Operand,
+        right: &Operand,
         to: u32,
     ) -> Result<Pace, AllocError>
         requires { self.old.pc + 1 < 2 ^ 64 }
-        ensures leads { Acts result self.old self.new (λ s. put s to (binary_of own_keys operator.now (read_of s.regs left) (read_of s.regs right))) }
-        ensures log { OnErr result (self.new.changes ≡ self.old.changes) }
+        ensures { let a = operand_now params.now self.old tables.now.world left.now in
+            let b = operand_now params.now self.old tables.now.world right.now in
+            ActsOn result self.old tables.now.world self.new tables.now.world (λ s. put s to (binary_of own_keys operator.now a b)) }
     {
-        let made = binary(self.registers(), alloc, *operator, left, right);
+        let made = self.binary(alloc, params, tables, *operator, left, right);
         self.put_made(to, made)
     }
 
-    /// Writes what LIKE with an ESCAPE gives for three registers.
+    /// Writes what LIKE with an ESCAPE gives.
     #[inline(never)]
     pub(crate) fn put_like_escaped(
         &mut self,
         alloc: Global,
-        text: u32,
-        pattern: u32,
-        escape: u32,
+        params: &Row,
+        tables: &Tables,
+        text: &Operand,
+        pattern: &Operand,
+        escape: &Operand,
         to: u32,
     ) -> Result<Pace, AllocError>
         requires { self.old.pc + 1 < 2 ^ 64 }
-        ensures leads { Acts result self.old self.new (λ s. put s to (like_escaped_of (read_of s.regs text) (read_of s.regs pattern) (read_of s.regs escape))) }
-        ensures log { OnErr result (self.new.changes ≡ self.old.changes) }
+        ensures { let a = operand_now params.now self.old tables.now.world text.now in
+            let b = operand_now params.now self.old tables.now.world pattern.now in
+            let c = operand_now params.now self.old tables.now.world escape.now in
+            ActsOn result self.old tables.now.world self.new tables.now.world (λ s. put s to (like_escaped_of a b c)) }
     {
-        let made = like_escaped(self.registers(), alloc, text, pattern, escape);
+        let made = self.like_escaped(alloc, params, tables, text, pattern, escape);
         self.put_made(to, made)
     }
 
-    /// Writes what a function gives for so many registers, from the first on.
+    /// Writes what a function gives.
     #[inline(never)]
     pub(crate) fn put_call(
         &mut self,
         alloc: Global,
+        params: &Row,
+        tables: &Tables,
         name: Builtin,
         collation: Collation,
-        first: u32,
-        count: u32,
+        args: &[Operand],
         to: u32,
     ) -> Result<Pace, AllocError>
         requires { self.old.pc + 1 < 2 ^ 64 }
-        ensures leads { Acts result self.old self.new (λ s. put s to (function_by (value_keys own_keys) name collation (outs_from s.regs first count))) }
-        ensures log { OnErr result (self.new.changes ≡ self.old.changes) }
+        ensures { let outs = map (operand_now params.now self.old tables.now.world) args.now in
+            ActsOn result self.old tables.now.world self.new tables.now.world (λ s. put s to (function_by (value_keys own_keys) name collation outs)) }
     {
-        let made = function(self.registers(), alloc, name, collation, first, count);
+        let made = self.function(alloc, params, tables, name, collation, args);
         self.put_made(to, made)
     }
 
@@ -229,8 +242,7 @@ impl Running {
     #[inline(never)]
     pub(crate) fn put_merged(&mut self, from: u32, to: u32) -> Result<Pace, AllocError>
         requires { self.old.pc + 1 < 2 ^ 64 }
-        ensures leads { Acts result self.old self.new (λ s. put s to (merged (read_of s.regs from) (read_of s.regs to))) }
-        ensures log { OnErr result (self.new.changes ≡ self.old.changes) }
+        ensures { Acts result self.old self.new (λ s. put s to (merged (read_of s.regs from) (read_of s.regs to))) }
     {
         let made = merge(self.registers(), from, to);
         self.put_made(to, made)
@@ -247,8 +259,8 @@ impl Running {
         to: u32,
     ) -> Result<Pace, AllocError>
         requires { self.old.pc + 1 < 2 ^ 64 }
-        ensures leads { ActsOn result self.old tables.now self.new tables.now (λ s. put s to (column_of (current s.shared.world (cursor_at s.cursors cursor)) place)) }
-        ensures log { OnErr result (self.new.changes ≡ self.old.changes) }
+        ensures { ActsOn result self.old tables.now.world self.new tables.now.world (λ s.
+            put s to (column_of (current (world_of s.shared) (cursor_at s.scene.cursors cursor)) place)) }
     {
         match self.lent(tables, cursor, place) {
             Lent::Integer(n) => self.put_integer(n, to),
@@ -268,8 +280,8 @@ impl Running {
         to: u32,
     ) -> Result<Pace, AllocError>
         requires { self.old.pc + 1 < 2 ^ 64 }
-        ensures leads { ActsOn result self.old tables.now self.new tables.now (λ s. put s to (column_of (current s.shared.world (cursor_at s.cursors cursor)) place)) }
-        ensures log { OnErr result (self.new.changes ≡ self.old.changes) }
+        ensures { ActsOn result self.old tables.now.world self.new tables.now.world (λ s.
+            put s to (column_of (current (world_of s.shared) (cursor_at s.scene.cursors cursor)) place)) }
     {
         let made = self.column(alloc, tables, cursor, place);
         self.put_made(to, made)
@@ -287,14 +299,13 @@ impl Running {
         count: u32,
     ) -> Result<Pace, AllocError>
         requires { self.old.pc + 1 < 2 ^ 64 }
-        ensures leads { ActsOn result self.old tables.old self.new tables.new (λ s. let row : MeantRow = record { rowid = integer_in s.regs rowid; values = values_from s.regs first count } in
-            skip (record s { shared = inserted (cursor_at s.cursors cursor) s.shared row })) }
-        ensures log { OnErr result (self.new.changes ≡ self.old.changes) }
-        ensures tables { OnErr result (tables.new ≡ tables.old) }
+        ensures leads { ActsOn result self.old tables.old.world self.new tables.new.world (λ s.
+            let row : MeantRow = record { rowid = integer_in s.regs rowid; values = values_from s.regs first count } in
+            wrote s (inserted (cursor_at s.scene.cursors cursor) s.shared.written row)) }
+        ensures marks { tables.new.marks ≡ tables.old.marks }
     {
         let values = self.registers().values(alloc, first, count)?;
         let row = StoredRow::new(self.registers().integer(rowid), values);
-        self.insert(alloc, tables, cursor, &row)?;
-        Ok(Pace::Going)
+        self.insert(alloc, tables, cursor, &row)
     }
 }

@@ -31,6 +31,11 @@ impl Model for Cursor {
 
     ghost Value = { MeantCursor };
 
+    ghost use Rattle.std.specs.Coded.{codes};
+    ghost use Rattle.eng_value.specs.contracts.out.Out as out;
+
+    ghost coded = { Prim.hlevel (codes, out.the_row.coded) };
+
     ghost use Rattle.vm_store.specs.Cursors.{cursor_of};
 
     ghost view = { λ c. cursor_of c.spot };

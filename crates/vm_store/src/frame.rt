@@ -1,5 +1,8 @@
 // Frames that wait.
 ghost use Rattle.std.specs.Prelude.{◌≡◌, [], ◌∷◌, MatchOption, OnOk, OnErr};
+ghost use Rattle.eng_value.specs.declared.out.Out.TheVariants.{Good};
+ghost use Rattle.eng_value.specs.declared.value.Value.TheVariants.{Integer};
+ghost use Rattle.vm_code.specs.Machine.{outs_from, put_all};
 
 use crate::{Cursor, Registers};
 use smallvec::SmallVec;
@@ -7,8 +10,8 @@ use std::alloc::{AllocError, Global};
 use std::default::MadeWith;
 use std::marker::Model;
 
-/// A unit that waits for the result of another, and the register that it goes to. Contracts see the frame of the machine over
-/// lists.
+/// A unit that waits for the results of another, and the first of the registers that they go to. Contracts see the frame of the
+/// machine over lists.
 #[derive(Drop)]
 pub struct Frame {
     pub unit: u32,
@@ -20,22 +23,25 @@ pub struct Frame {
 }
 
 impl Model for Frame {
-    ghost use Rattle.vm_code.specs.Machine.{Frame as MeantFrame};
+    ghost use Rattle.std.specs.Prelude.{[]};
+    ghost use Rattle.vm_code.specs.Machine.{Frame as MeantFrame, no_store};
 
     ghost Value = { MeantFrame };
 
     ghost use Rattle.std.specs.Coded.{codes};
+    ghost use Rattle.eng_value.specs.contracts.causes.Causes as causes;
     ghost use Rattle.eng_value.specs.contracts.out.Out as out;
 
-    ghost coded = { Prim.hlevel (codes, out.the_row.coded) };
+    ghost coded = { Prim.hlevel (codes, causes.the_row.coded, out.the_row.coded) };
 
     ghost view = { λ f.
         record {
           unit = f.unit;
           pc = f.pc;
           regs = f.registers;
-          args = f.args;
-          cursors = f.cursors.items;
+          inputs = record { args = f.args; running = [] };
+          scene = record { cursors = f.cursors.items; slots = [] };
+          store = no_store;
           to = f.to;
         } };
 }
@@ -53,6 +59,22 @@ impl MadeWith<Global> for Frame {
     }
 }
 
+impl Frame {
+    /// Takes the results of the unit that was called: what `count` of its registers hold, from `first` on. Takes no memory.
+    pub fn receive(&mut self, results: &mut Registers, first: u32, count: u32)
+        ensures { self.new ≡ record self.old { regs = put_all self.old.regs self.old.to (outs_from results.old first count) } }
+    {
+        self.registers.receive(self.to, results, first, count);
+    }
+
+    /// Takes an integer as the only result.
+    pub fn receive_integer(&mut self, n: i64)
+        ensures { self.new ≡ record self.old { regs = put_all self.old.regs self.old.to (Good (Integer n) ∷ []) } }
+    {
+        self.registers.write_integer(self.to, n);
+    }
+}
+
 /// The frames that wait. The first four take no memory of their own. Contracts see the list of them, the last called first.
 #[derive(Drop)]
 pub struct Frames {
@@ -66,9 +88,10 @@ impl Model for Frames {
     ghost Value = { List MeantFrame };
 
     ghost use Rattle.std.specs.Coded.{codes};
+    ghost use Rattle.eng_value.specs.contracts.causes.Causes as causes;
     ghost use Rattle.eng_value.specs.contracts.out.Out as out;
 
-    ghost coded = { Prim.hlevel (codes, out.the_row.coded) };
+    ghost coded = { Prim.hlevel (codes, causes.the_row.coded, out.the_row.coded) };
 
     ghost view = { λ f. reverse f.frames.items };
 }

@@ -1,10 +1,13 @@
 // Registers.
-ghost use Rattle.std.specs.Prelude.{◌≡◌, ◌≢◌, ◌+◌, ℕ, ℤ, List, [], replicate, slice_index_or, slice_set, IfOk, MatchOption};
+ghost use Rattle.std.specs.Prelude.{◌≡◌, ◌+◌, [], replicate, slice_get, slice_index_or, slice_set, IfOk};
+ghost use Rattle.std.specs.Option.{option_copied};
 ghost use Rattle.eng_value.specs.declared.out.Out.TheVariants.{Good};
 ghost use Rattle.eng_value.specs.declared.value.Value.TheVariants as sql;
 ghost use Rattle.eng_value.specs.declared.value.Value.TheVariants.{Integer, Null};
-ghost use Rattle.vm_code.specs.Machine.{good_or_null, integer_in, integer_of, outs_from, read as read_of, values_from};
+ghost use Rattle.vm_code.specs.Machine.{good_or_null, integer_in, integer_of, outs_from, put_all, read as read_of, values_from};
+ghost use Rattle.vm_store.specs.Held.{held_integer, held_text};
 
+use crate::{held_integer, held_text};
 use eng_value::{Out, Row, Text, Value};
 use std::alloc::{AllocError, Global};
 use std::marker::Model;
@@ -59,6 +62,13 @@ impl Registers {
         self.outs.get(register as usize).unwrap_or(null)
     }
 
+    /// What a register holds; none where there is no such register.
+    pub fn get(&self, register: u32) -> Option<&Out>
+        ensures { option_copied result ≡ slice_get self.now register }
+    {
+        self.outs.get(register as usize)
+    }
+
     /// A copy of what a register holds.
     pub fn copied(&self, register: u32) -> Result<Out, AllocError>
         ensures { IfOk result (λ out. out ≡ read_of self.now register) }
@@ -106,22 +116,16 @@ impl Registers {
 
     /// The integer that a register holds, if it holds one.
     pub fn integer_at(&self, register: u32) -> Option<i64>
-        ensures { MatchOption result ((n : ℤ) → read_of self.now register ≢ Good (Integer n)) (λ n. read_of self.now register ≡ Good (Integer n)) }
+        ensures { result ≡ held_integer (read_of self.now register) }
     {
-        match self.outs.get(register as usize) {
-            Some(Out::Good(Value::Integer(n))) => Some(*n),
-            _ => None,
-        }
+        held_integer(self.outs.get(register as usize)?)
     }
 
     /// The text that a register holds, if it holds one.
-    pub fn text_at(&self, register: u32) -> Option<&Text>
-        ensures { MatchOption result ((text : List ℕ) → read_of self.now register ≢ Good (sql.Text text)) (λ text. read_of self.now register ≡ Good (sql.Text text.now)) }
+    pub fn text_at(&self, register: u32) -> Option<&str>
+        ensures { option_copied result ≡ held_text (read_of self.now register) }
     {
-        match self.outs.get(register as usize) {
-            Some(Out::Good(Value::Text(text))) => Some(text),
-            _ => None,
-        }
+        held_text(self.outs.get(register as usize)?)
     }
 
     /// Writes a register. Takes no memory.
@@ -183,12 +187,36 @@ impl Registers {
         ensures out { result ≡ read_of self.old register }
         ensures left { self.new ≡ slice_set self.old register (Good Null) }
     {
-        let at = register as usize;
-        if at < self.outs.len() {
-            mem::replace(&mut self.outs[at], Out::Good(Value::Null))
-        } else {
-            Out::Good(Value::Null)
+        take_from(&mut self.outs, register as usize)
+    }
+
+    /// Takes what `count` registers of another hold, from `first` on, and writes it to the registers from `to` on. Takes no memory.
+    pub fn receive(&mut self, to: u32, from: &mut Registers, first: u32, count: u32)
+        ensures { self.new ≡ put_all self.old to (outs_from from.old first count) }
+    {
+        for i in 0..count {
+            let out = take_from(&mut from.outs, first as usize + i as usize);
+            write_to(&mut self.outs, to as usize + i as usize, out);
         }
+    }
+}
+
+fn take_from(outs: &mut Vec<Out>, at: usize) -> Out
+    ensures out { result ≡ read_of outs.old.items at }
+    ensures left { outs.new.items ≡ slice_set outs.old.items at (Good Null) }
+{
+    if at < outs.len() {
+        mem::replace(&mut outs[at], Out::Good(Value::Null))
+    } else {
+        Out::Good(Value::Null)
+    }
+}
+
+fn write_to(outs: &mut Vec<Out>, at: usize, out: Out)
+    ensures { outs.new.items ≡ slice_set outs.old.items at out }
+{
+    if at < outs.len() {
+        outs[at] = out;
     }
 }
 

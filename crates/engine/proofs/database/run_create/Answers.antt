@@ -1,43 +1,48 @@
-use Rattle.std.proofs.Common.{◌≡◌, ◌-◌, [], ◌∷◌, length, ap, sym, ◌∙◌, refl, arith}
+use Rattle.std.proofs.Common.{◌≡◌, ◌-◌, [], ◌∷◌, length, ap, sym, ◌∙◌, refl, arith, rules, to_z, of_z, w64}
 use Rattle.std.proofs.lemmas.List.{length-append}
 use Rattle.eng_value.specs.HostMeanings.{nobody}
 use Rattle.gen_write.specs.Writes.{create_run, create_steps}
 use Rattle.host_traits.specs.Faults.{Rose}
-use Rattle.vm_code.specs.Machine.{Failed, Finished}
+use Rattle.vm_code.specs.Machine.{Failed, Finished, setting}
 use Rattle.engine.specs.Held.{state_of}
 use Rattle.engine.specs.Outcomes.{create_outcome_in, surroundings_in}
 use Rattle.engine.proofs.Writing.{popped_option}
 use Rattle.engine.proofs.CarryingOut.{carries_Ok, carries_Err, carries_Mem}
+use Rattle.engine.proofs.Starting.{from_copy}
 use Rattle.engine.proofs.Telling.{all_told}
 use Rattle.engine.proofs.database.run_create.Goals as goal
 
 pub returns-in_default-clause-carried : goal.returns-in_default-clause-carried
 returns-in_default-clause-carried g c =
     let db = c.args.database.now in
-    let old = state_of db.catalog db.tables db.changes db.last_rowid in
-    carries_Mem (create_outcome_in db.catalog db.tables db.changes db.last_rowid c.args.entry) old c.args.budget (create_steps db.tables) c.args.steps.now (g.R.RowSink.taken c.args.rows.now) (Rose (g.R.RowSink.fault_count c.args.rows.now) (g.R.RowSink.fault_count c.args.rows.now))
+    let old = state_of db.catalog db.tables.world db.changes db.last_rowid in
+    carries_Mem (create_outcome_in db.catalog db.tables.world db.changes db.last_rowid c.args.entry) old c.args.budget (create_steps (surroundings_in g.M.Meanings.hosts [] db.tables.world)) c.args.steps.now (g.R.RowSink.taken c.args.rows.now) (Rose (g.R.RowSink.fault_count c.args.rows.now) (g.R.RowSink.fault_count c.args.rows.now))
 
 pub returns-in-Ok-execute-clause-in_line : goal.returns-in-Ok-execute-clause-in_line
 returns-in-Ok-execute-clause-in_line g c =
     let db = c.args.database.now in
-    let around = surroundings_in g.M.Meanings.hosts [] db.tables in
-    let run = create_run [] db.tables in
+    let around = surroundings_in g.M.Meanings.hosts [] db.tables.world in
+    let run = create_run around db.last_rowid in
     let told = all_told c.args.hosts.now g.M.Meanings.hosts c.in-Ok.program c.requires.told in
-    let a = c.in-Ok-execute.ensures.runs told nobody (create_steps db.tables) run.ending run.shared (c.in-Ok.ensures around c.requires.ordered) in
-    let tables = ap length a.answer.1 ∙ length-append db.tables ([] ∷ []) in
+    let same : to_z w64 (of_z w64 db.last_rowid) ≡ db.last_rowid = search rules in
+    let ends = from_copy (setting g.M.Meanings.hosts nobody [] c.in-Ok.program) (create_steps (surroundings_in g.M.Meanings.hosts [] db.tables.world)) c.in-Ok.program db.tables.world run.ending run.shared same (c.in-Ok.ensures.performs around db.last_rowid c.requires.sound) in
+    let a = c.in-Ok-execute.ensures.runs told nobody (create_steps (surroundings_in g.M.Meanings.hosts [] db.tables.world)) run.ending run.shared ends in
+    let tables = ap length a.answer.1 ∙ length-append db.tables.world ([] ∷ []) in
     let catalog = ap length c.in-Ok-push.ensures.ok ∙ length-append db.catalog (c.args.entry ∷ []) in
     omega (arith, tables, catalog, c.requires.in_line)
 
 pub returns-in-Ok-execute-clause-carried : goal.returns-in-Ok-execute-clause-carried
 returns-in-Ok-execute-clause-carried g c =
     let db = c.args.database.now in
-    let old = state_of db.catalog db.tables db.changes db.last_rowid in
-    let around = surroundings_in g.M.Meanings.hosts [] db.tables in
-    let run = create_run [] db.tables in
-    let most = create_steps db.tables in
+    let old = state_of db.catalog db.tables.world db.changes db.last_rowid in
+    let around = surroundings_in g.M.Meanings.hosts [] db.tables.world in
+    let run = create_run around db.last_rowid in
+    let most = create_steps (surroundings_in g.M.Meanings.hosts [] db.tables.world) in
     let told = all_told c.args.hosts.now g.M.Meanings.hosts c.in-Ok.program c.requires.told in
-    let a = c.in-Ok-execute.ensures.runs told nobody most run.ending run.shared (c.in-Ok.ensures around c.requires.ordered) in
-    carries_Ok old (create_outcome_in db.catalog db.tables db.changes db.last_rowid c.args.entry) run.ending run.shared (record { ended = refl; given = refl; kept = λ causes is. absurd (let bad : Finished ≡ Failed causes = is in cc) }) most most c.args.budget (c.execute.new.steps - c.args.steps.now) c.execute.new.tables (g.R.RowSink.taken c.args.rows.now) (g.R.RowSink.taken c.execute.new.rows) (Rose (g.R.RowSink.fault_count c.args.rows.now) (g.R.RowSink.fault_count c.execute.new.rows)) (omega arith) (state_of c.push.new.self c.execute.new.tables db.changes db.last_rowid) c.in-Ok-execute.completed c.done.result (rw (a.answer.1, c.in-Ok-push.ensures.ok) refl) c.done.ensures.given c.done.ensures.changed a
+    let same : to_z w64 (of_z w64 db.last_rowid) ≡ db.last_rowid = search rules in
+    let ends = from_copy (setting g.M.Meanings.hosts nobody [] c.in-Ok.program) most c.in-Ok.program db.tables.world run.ending run.shared same (c.in-Ok.ensures.performs around db.last_rowid c.requires.sound) in
+    let a = c.in-Ok-execute.ensures.runs told nobody most run.ending run.shared ends in
+    carries_Ok old (create_outcome_in db.catalog db.tables.world db.changes db.last_rowid c.args.entry) run.ending run.shared (record { ended = refl; given = refl; kept = λ causes is. absurd (let bad : Finished ≡ Failed causes = is in cc) }) most most c.args.budget (c.execute.new.steps - c.args.steps.now) c.execute.new.tables.world (g.R.RowSink.taken c.args.rows.now) (g.R.RowSink.taken c.execute.new.rows) (Rose (g.R.RowSink.fault_count c.args.rows.now) (g.R.RowSink.fault_count c.execute.new.rows)) (omega arith) (state_of c.push.new.self c.execute.new.tables.world db.changes db.last_rowid) c.in-Ok-execute.completed c.done.result (rw (a.answer.1, c.in-Ok-push.ensures.ok) refl) c.done.ensures.given c.done.ensures.changed a
 
 pub returns-in-Err-clause-in_line : goal.returns-in-Err-clause-in_line
 returns-in-Err-clause-in_line g c =
@@ -54,20 +59,22 @@ returns-in-Err-clause-kept g c =
 pub returns-in-Err-clause-carried : goal.returns-in-Err-clause-carried
 returns-in-Err-clause-carried g c =
     let db = c.args.database.now in
-    let old = state_of db.catalog db.tables db.changes db.last_rowid in
-    let around = surroundings_in g.M.Meanings.hosts [] db.tables in
-    let run = create_run [] db.tables in
-    let most = create_steps db.tables in
+    let old = state_of db.catalog db.tables.world db.changes db.last_rowid in
+    let around = surroundings_in g.M.Meanings.hosts [] db.tables.world in
+    let run = create_run around db.last_rowid in
+    let most = create_steps (surroundings_in g.M.Meanings.hosts [] db.tables.world) in
     let told = all_told c.args.hosts.now g.M.Meanings.hosts c.in-Ok.program c.requires.told in
-    let a = c.in-Err.ensures.runs told nobody most run.ending run.shared (c.in-Ok.ensures around c.requires.ordered) in
+    let same : to_z w64 (of_z w64 db.last_rowid) ≡ db.last_rowid = search rules in
+    let ends = from_copy (setting g.M.Meanings.hosts nobody [] c.in-Ok.program) most c.in-Ok.program db.tables.world run.ending run.shared same (c.in-Ok.ensures.performs around db.last_rowid c.requires.sound) in
+    let a = c.in-Err.ensures.runs told nobody most run.ending run.shared ends in
     let back = popped_option db.catalog c.push.new.self c.pop.new.self c.args.entry c.pop.result c.pop.ensures c.in-Ok-push.ensures.ok in
-    carries_Err old (create_outcome_in db.catalog db.tables db.changes db.last_rowid c.args.entry) run.ending run.shared (record { ended = refl; given = refl; kept = λ causes is. absurd (let bad : Finished ≡ Failed causes = is in cc) }) most most c.args.budget (c.execute.new.steps - c.args.steps.now) c.execute.new.tables (g.R.RowSink.taken c.args.rows.now) (g.R.RowSink.taken c.execute.new.rows) (Rose (g.R.RowSink.fault_count c.args.rows.now) (g.R.RowSink.fault_count c.execute.new.rows)) (omega arith) (state_of c.pop.new.self c.execute.new.tables db.changes db.last_rowid) c.in-Err.cause (rw (c.in-Err.ensures.kept, back) refl) a
+    carries_Err old (create_outcome_in db.catalog db.tables.world db.changes db.last_rowid c.args.entry) run.ending run.shared (record { ended = refl; given = refl; kept = λ causes is. absurd (let bad : Finished ≡ Failed causes = is in cc) }) most most c.args.budget (c.execute.new.steps - c.args.steps.now) c.execute.new.tables.world (g.R.RowSink.taken c.args.rows.now) (g.R.RowSink.taken c.execute.new.rows) (Rose (g.R.RowSink.fault_count c.args.rows.now) (g.R.RowSink.fault_count c.execute.new.rows)) (omega arith) (state_of c.pop.new.self c.execute.new.tables.world db.changes db.last_rowid) c.in-Err.cause (rw (c.in-Err.ensures.kept, back) refl) a
 
 pub returns-in_default-push-clause-carried : goal.returns-in_default-push-clause-carried
 returns-in_default-push-clause-carried g c =
     let db = c.args.database.now in
-    let old = state_of db.catalog db.tables db.changes db.last_rowid in
-    rw c.in_default-push.ensures.err (carries_Mem (create_outcome_in db.catalog db.tables db.changes db.last_rowid c.args.entry) old c.args.budget (create_steps db.tables) c.args.steps.now (g.R.RowSink.taken c.args.rows.now) (Rose (g.R.RowSink.fault_count c.args.rows.now) (g.R.RowSink.fault_count c.args.rows.now)))
+    let old = state_of db.catalog db.tables.world db.changes db.last_rowid in
+    rw c.in_default-push.ensures.err (carries_Mem (create_outcome_in db.catalog db.tables.world db.changes db.last_rowid c.args.entry) old c.args.budget (create_steps (surroundings_in g.M.Meanings.hosts [] db.tables.world)) c.args.steps.now (g.R.RowSink.taken c.args.rows.now) (Rose (g.R.RowSink.fault_count c.args.rows.now) (g.R.RowSink.fault_count c.args.rows.now)))
 
 pub returns-in_default-push-clause-kept : goal.returns-in_default-push-clause-kept
 returns-in_default-push-clause-kept g c = rw c.in_default-push.ensures.err refl

@@ -5,7 +5,7 @@ use Rattle.sql_meaning.specs.Work.{instruction_bound}
 use Rattle.sql_meaning.specs.World.{context}
 use Rattle.vm_core.specs.Meant.{meant}
 use Rattle.engine.specs.Held.{state_of}
-use Rattle.engine.specs.Outcomes.{outcome_in, steps_in}
+use Rattle.engine.specs.Outcomes.{outcome_in, steps_in, surroundings_in}
 use Rattle.engine.proofs.CarryingOut.{carries_as}
 use Rattle.engine.proofs.InstructionBounds.{runs_within}
 use Rattle.engine.proofs.Texts.{text_stands, refusal_carries}
@@ -14,7 +14,7 @@ use Rattle.engine.proofs.database.run_text.Goals as goal
 pub returns-in-Ok-clause-carried : goal.returns-in-Ok-clause-carried
 returns-in-Ok-clause-carried g c told =
     let db = c.args.database.now in
-    let old = state_of db.catalog db.tables db.changes db.last_rowid in
+    let old = state_of db.catalog db.tables.world db.changes db.last_rowid in
     let after = c.run_bound.new.database in
     let hosts = meant c.args.hosts.now in
     let params = c.args.params.now in
@@ -22,14 +22,14 @@ returns-in-Ok-clause-carried g c told =
     let b = c.in-Ok.bound in
     let p = c.in-Ok.ensures in
     let ctx = context hosts old params in
-    carries_as (text_outcome ctx text) (outcome_in hosts db.catalog db.tables db.changes db.last_rowid params b) old (state_of after.catalog after.tables after.changes after.last_rowid) c.args.budget (steps_in db.tables b) (instruction_bound ctx text) (c.run_bound.new.steps - c.args.steps.now) (g.R.RowSink.taken c.args.rows.now) (g.R.RowSink.taken c.run_bound.new.rows) (Rose (g.R.RowSink.fault_count c.args.rows.now) (g.R.RowSink.fault_count c.run_bound.new.rows)) c.run_bound.result
-    (text_stands hosts db.catalog db.tables db.changes db.last_rowid params text p.0 b c.requires.in_line c.order.ensures p.1 p.2)
-    (runs_within hosts db.catalog db.tables db.changes db.last_rowid params text c.requires.in_line p.0 b p.1 p.2 p.3)
+    carries_as (text_outcome ctx text) (outcome_in hosts db.catalog db.tables.world db.changes db.last_rowid params b) old (state_of after.catalog after.tables.world after.changes after.last_rowid) c.args.budget (steps_in (surroundings_in hosts params db.tables.world) b) (instruction_bound ctx text) (c.run_bound.new.steps - c.args.steps.now) (g.R.RowSink.taken c.args.rows.now) (g.R.RowSink.taken c.run_bound.new.rows) (Rose (g.R.RowSink.fault_count c.args.rows.now) (g.R.RowSink.fault_count c.run_bound.new.rows)) c.run_bound.result
+    (text_stands hosts db.catalog db.tables.world db.changes db.last_rowid params text p.0 b c.requires.in_line c.order.ensures p.1 p.2)
+    (runs_within hosts db.catalog db.tables.world db.changes db.last_rowid params text c.requires.in_line p.0 b p.1 p.2 p.3)
     c.run_bound.ensures.carried
 
 pub returns-in-Err-clause-carried : goal.returns-in-Err-clause-carried
 returns-in-Err-clause-carried g c told =
     let db = c.args.database.now in
-    let old = state_of db.catalog db.tables db.changes db.last_rowid in
+    let old = state_of db.catalog db.tables.world db.changes db.last_rowid in
     let hosts = meant c.args.hosts.now in
-    refusal_carries hosts db.catalog db.tables db.changes db.last_rowid c.args.params.now c.args.text.now c.in-Err.cause c.in-Err.ensures c.args.budget (instruction_bound (context hosts old c.args.params.now) c.args.text.now) c.args.steps.now (g.R.RowSink.taken c.args.rows.now) (Rose (g.R.RowSink.fault_count c.args.rows.now) (g.R.RowSink.fault_count c.args.rows.now))
+    refusal_carries hosts db.catalog db.tables.world db.changes db.last_rowid c.args.params.now c.args.text.now c.in-Err.cause c.in-Err.ensures c.args.budget (instruction_bound (context hosts old c.args.params.now) c.args.text.now) c.args.steps.now (g.R.RowSink.taken c.args.rows.now) (Rose (g.R.RowSink.fault_count c.args.rows.now) (g.R.RowSink.fault_count c.args.rows.now))

@@ -1,6 +1,5 @@
 use Rattle.std.proofs.Common.{◌≡◌, ◌≤◌, ◌+◌, ◌-◌}
 use Rattle.eng_value.specs.HostMeanings.{Oracle}
-use Rattle.vm_code.specs.Changes.{before}
 use Rattle.vm_code.specs.Honesty.{ProgramIsTold}
 use Rattle.vm_core.specs.Meant.{meant}
 use Rattle.engine.proofs.Stretches.{Along}
@@ -12,11 +11,12 @@ invariant-loop-given g l = record {
   whole : l.budget.whole ≡ l.initial.budget.whole;
   counted : l.steps ≡ l.initial.steps + l.budget.ran;
   program : l.machine.prog ≡ l.initial.machine.prog;
-  undo : before l.machine.changes l.tables ≡ before l.initial.machine.changes l.initial.tables;
+  params : l.machine.params ≡ l.initial.machine.params;
+  marks : l.tables.marks ≡ l.initial.tables.marks;
   faults : g.R.RowSink.fault_count l.initial.rows ≤ g.R.RowSink.fault_count l.rows;
   few : l.given ≤ l.budget.ran;
   told : meant l.hosts ≡ g.M.Meanings.hosts;
-  along : ProgramIsTold g.M.Meanings.hosts l.initial.machine.prog → (ask : Oracle) → Along g.M.Meanings.hosts ask l.initial.machine l.machine l.initial.tables l.tables (g.R.RowSink.taken l.initial.rows) (g.R.RowSink.taken l.rows) l.budget.ran l.given;
+  along : ProgramIsTold g.M.Meanings.hosts l.initial.machine.prog → (ask : Oracle) → Along g.M.Meanings.hosts ask l.initial.machine l.machine l.initial.tables.world l.tables.world (g.R.RowSink.taken l.initial.rows) (g.R.RowSink.taken l.rows) l.budget.ran l.given;
 }
 
 abbrev pub decreases-loop-given : goal.decreases-loop-given

@@ -8,11 +8,11 @@ use Rattle.engine.proofs.running.next.Goals as goal
 
 pub returns-in-Mem-clause-next : goal.returns-in-Mem-clause-next
 returns-in-Mem-clause-next g c told ask =
-    (gives_none (setting g.M.Meanings.hosts ask c.args.machine.now.prog) c.args.machine.now c.args.tables.now, adds_none (g.R.RowSink.taken c.args.rows.now))
+    (gives_none (setting g.M.Meanings.hosts ask c.args.machine.now.params c.args.machine.now.prog) c.args.machine.now c.args.tables.now.world, adds_none (g.R.RowSink.taken c.args.rows.now))
 
 pub returns-in-Row-clause-next : goal.returns-in-Row-clause-next
 returns-in-Row-clause-next g c told ask =
-    handed (setting g.M.Meanings.hosts ask c.args.machine.now.prog) (c.step.new.budget.ran - c.args.budget.now.ran) c.step.new.budget.ran c.args.budget.now.whole c.args.machine.now c.args.tables.now (state_of c.step.new.self c.step.new.tables) c.in-Row.row (g.R.RowSink.taken c.args.rows.now) (g.R.RowSink.taken c.hand_over.new.rows) (Rose (g.R.RowSink.fault_count c.args.rows.now) (g.R.RowSink.fault_count c.hand_over.new.rows)) c.hand_over.result (c.in-Row.ensures.event told ask) c.hand_over.ensures.row
+    handed (setting g.M.Meanings.hosts ask c.args.machine.now.params c.args.machine.now.prog) (c.step.new.budget.ran - c.args.budget.now.ran) c.step.new.budget.ran c.args.budget.now.whole c.args.machine.now c.args.tables.now.world (state_of c.step.new.self c.step.new.tables.world) c.in-Row.row (g.R.RowSink.taken c.args.rows.now) (g.R.RowSink.taken c.hand_over.new.rows) (Rose (g.R.RowSink.fault_count c.args.rows.now) (g.R.RowSink.fault_count c.hand_over.new.rows)) c.hand_over.result (c.in-Row.ensures.event told ask) c.hand_over.ensures.row
 
 pub returns-in-Interrupted-clause-next : goal.returns-in-Interrupted-clause-next
 returns-in-Interrupted-clause-next g c told ask =

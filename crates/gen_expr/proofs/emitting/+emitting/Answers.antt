@@ -1,9 +1,9 @@
 use Rattle.std.proofs.Common.{◌≡◌, ◌∙◌, length, refl, ap, arith}
 use Rattle.std.specs.Prelude.{slice_get}
 use Rattle.vm_code.specs.Draft.{Draft}
-use Rattle.gen_expr.proofs.Expressions.{of_literal, of_column, of_parameter, of_unary, of_binary, three_fill, of_like_escaped, of_between, all_more, of_call, member_more, of_in, known_more, of_coalesce, choice_more, of_choose, match_more, of_match}
-use Rattle.gen_expr.proofs.Assembly.{beside_of, beside_on, turns_at, decides_at, emits_from, all_filled, label_open, tested_open, arm_parts, arm_steps, match_parts, match_steps, member_all, known_all, choice_all, match_all}
-use Rattle.gen_expr.proofs.Stretches.{decides_none}
+use Rattle.gen_expr.proofs.Expressions.{of_literal, of_column, of_parameter, literal_offered, column_offered, parameter_offered, register_offered, of_unary, of_binary, three_offered, of_like_escaped, of_between, none_offered, all_more, of_call, member_more, of_in, known_more, of_coalesce, choice_more, of_choose, match_more, of_match}
+use Rattle.gen_expr.proofs.Assembly.{beside_of, beside_on, turns_at, decides_at, emits_from, all_offered, label_open, tested_open, arm_parts, arm_steps, match_parts, match_steps, member_all, known_all, choice_all, match_all}
+use Rattle.gen_expr.proofs.Stretches.{decides_none, turns_none}
 use Rattle.gen_expr.specs.Parts.{with_arm_tested}
 use Rattle.sql_meaning.specs.declared.bound.BoundArm.{out-BoundArm}
 use Rattle.sql_meaning.specs.declared.bound.BoundMatch.{out-BoundMatch}
@@ -23,23 +23,22 @@ emit-returns-in_ok-read_parameter-in-Parameter-clause-leaves t c =
 
 pub emit-returns-in_ok-unary-in-Unary-clause-leaves : goal.emit-returns-in_ok-unary-in-Unary-clause-leaves
 emit-returns-in_ok-unary-in-Unary-clause-leaves t c =
-    rw (c.in-Unary.is, ← c.get.ensures, c.in_ok-unary-in-Unary.ensures) (of_unary c.args.b.now c.emit.new.b c.in-Unary.operator c.args.to _ c.in_ok-emit-in-Unary.ensures.leaves c.requires.taken c.requires.counted)
+    rw (c.in-Unary.is, ← c.get.ensures, c.in_ok-unary-in-Unary.ensures) (of_unary c.args.b.now c.operand.new.b c.in-Unary.operator c.in_ok-inner-in-Unary.inner c.next_register-first.result c.args.to _ c.next_register-first.ensures c.in_ok-inner-in-Unary.ensures.offers c.requires.taken)
 
 pub emit-returns-in_ok-binary-in-Binary-clause-leaves : goal.emit-returns-in_ok-binary-in-Binary-clause-leaves
 emit-returns-in_ok-binary-in-Binary-clause-leaves t c =
-    let second = rw c.in_ok-other-in-Binary.ensures.1 at c.in_ok-emit-in-Binary-2.ensures.leaves in
     rw (c.in-Binary.is, ← c.get-in-Binary.ensures, ← c.get-in-Binary-2.ensures, c.in_ok-binary-in-Binary.ensures)
-    (of_binary c.args.b.now c.emit-in-Binary.new.b c.emit-in-Binary-2.new.b c.in-Binary.operator c.args.to c.in_ok-other-in-Binary.other _ _ c.in_ok-emit-in-Binary.ensures.leaves c.in_ok-other-in-Binary.ensures.0 second c.requires.taken c.requires.counted)
+    (of_binary c.args.b.now c.operand-in-Binary.new.b c.operand-in-Binary-2.new.b c.in-Binary.operator c.in_ok-left-in-Binary.left c.in_ok-right-in-Binary.right c.next_register-first.result c.args.to _ _ c.next_register-first.ensures c.in_ok-left-in-Binary.ensures.offers c.in_ok-right-in-Binary.ensures.offers c.requires.taken)
 
 pub emit-returns-in_ok-like_escaped-in-LikeEscaped-clause-leaves : goal.emit-returns-in_ok-like_escaped-in-LikeEscaped-clause-leaves
 emit-returns-in_ok-like_escaped-in-LikeEscaped-clause-leaves t c =
     rw (c.in-LikeEscaped.is, ← c.get-in-LikeEscaped.ensures, ← c.get-in-LikeEscaped-2.ensures, ← c.get-in-LikeEscaped-3.ensures, c.in_ok-like_escaped-in-LikeEscaped.ensures)
-    (of_like_escaped c.args.b.now c.emit_three.new.b c.in_ok-operands-in-LikeEscaped.operands c.args.to _ _ _ c.in_ok-operands-in-LikeEscaped.ensures.places c.in_ok-operands-in-LikeEscaped.ensures.fills c.requires.taken c.requires.counted)
+    (of_like_escaped c.args.b.now c.three_operands.new.b c.in_ok-operands-in-LikeEscaped.operands c.next_register-first.result c.args.to _ _ _ c.next_register-first.ensures c.in_ok-operands-in-LikeEscaped.ensures.offers c.requires.taken)
 
 pub emit-returns-in_ok-between-in-Between-clause-leaves : goal.emit-returns-in_ok-between-in-Between-clause-leaves
 emit-returns-in_ok-between-in-Between-clause-leaves t c =
     rw (c.in-Between.is, ← c.get-in-Between.ensures, ← c.get-in-Between-2.ensures, ← c.get-in-Between-3.ensures, c.in_ok-between-in-Between.ensures)
-    (of_between c.args.b.now c.emit_three-in-Between.new.b c.in-Between.above c.in-Between.below c.in_ok-operands-in-Between.operands c.args.to _ _ _ c.in_ok-operands-in-Between.ensures.places c.in_ok-operands-in-Between.ensures.fills c.requires.taken c.requires.counted)
+    (of_between c.args.b.now c.three_operands-in-Between.new.b c.in-Between.above c.in-Between.below c.in_ok-operands-in-Between.operands c.next_register-first.result c.args.to _ _ _ c.next_register-first.ensures c.in_ok-operands-in-Between.ensures.offers c.requires.taken)
 
 pub emit-returns-in_ok-emit_member-in-In-clause-leaves : goal.emit-returns-in_ok-emit_member-in-In-clause-leaves
 emit-returns-in_ok-emit_member-in-In-clause-leaves t c =
@@ -60,31 +59,52 @@ emit-returns-in_ok-emit_match-in-Match-clause-leaves t c =
 pub emit-returns-in_ok-call-in-Call-clause-leaves : goal.emit-returns-in_ok-call-in-Call-clause-leaves
 emit-returns-in_ok-call-in-Call-clause-leaves t c =
     rw (c.in-Call.is, ← c.as_slice-in-Call.ensures, c.in_ok-call-in-Call.ensures)
-    (of_call c.args.b.now c.emit_all.new.b c.in-Call.function c.in-Call.collation c.next_register-first.result c.in_ok-count-in-Call.count c.args.to _ c.next_register-first.ensures c.in_ok-count-in-Call.ensures.fills c.requires.taken c.requires.counted)
+    (of_call c.args.b.now c.all_operands.new.b c.in-Call.function c.in-Call.collation c.in_ok-args-in-Call.args c.next_register-first.result c.args.to _ c.next_register-first.ensures c.in_ok-args-in-Call.ensures.offers c.requires.taken)
 
--- ---- three values, and a list of them
+-- ---- operands
 
-pub emit_three-returns-clause-fills : goal.emit_three-returns-clause-fills
-emit_three-returns-clause-fills t c =
-    three_fill c.args.b.now c.emit.new.b c.emit-2.new.b c.emit-3.new.b c.in_ok-first.first c.in_ok-second.second c.in_ok-third.third c.args.x.now c.args.y.now c.args.z.now c.requires.counted
-    c.in_ok-first.ensures.0 (emits_from c.args.x.now _ c.in_ok-first.ensures.1 c.in_ok-emit.ensures.leaves)
-    c.in_ok-second.ensures.0 (emits_from c.args.y.now _ c.in_ok-second.ensures.1 c.in_ok-emit-2.ensures.leaves)
-    c.in_ok-third.ensures.0 (emits_from c.args.z.now _ c.in_ok-third.ensures.1 c.in_ok-emit-3.ensures.leaves)
+pub operand-returns-in_ok-constant-in-Literal-clause-offers : goal.operand-returns-in_ok-constant-in-Literal-clause-offers
+operand-returns-in_ok-constant-in-Literal-clause-offers t c =
+    rw (c.in-Literal.is, c.in_ok-constant-in-Literal.ensures) (literal_offered c.args.b.now c.in-Literal.literal c.requires.counted)
 
-pub emit_all-loop-e-preserved : goal.emit_all-loop-e-preserved
-emit_all-loop-e-preserved t c =
-    let leaves = emits_from c.e-item.result _ c.in_ok-register.ensures.1 c.in_ok-emit.ensures.leaves in
-    record {
-      fills = all_more c.args.b.now c.loop-e.b c.emit.new.b c.args.all.now c.loop-e.e-index c.in_ok-register.register c.e-item.result c.loop-e-test.true c.e-item.is c.loop-e.invariant.fills c.in_ok-register.ensures.0 leaves;
-      units = c.in_ok-emit.ensures.units ∙ ap (λ (d : Draft). d.units) c.in_ok-register.ensures.1 ∙ c.loop-e.invariant.units;
-      cursors = c.in_ok-emit.ensures.cursors ∙ ap (λ (d : Draft). d.cursors) c.in_ok-register.ensures.1 ∙ c.loop-e.invariant.cursors;
-    }
+pub operand-returns-in-Column-clause-offers : goal.operand-returns-in-Column-clause-offers
+operand-returns-in-Column-clause-offers t c =
+    rw c.in-Column.is (column_offered c.args.b.now c.in-Column.item c.in-Column.column c.requires.counted)
 
-pub emit_all-returns-clause-fills : goal.emit_all-returns-clause-fills
-emit_all-returns-clause-fills t c =
-    all_filled c.args.b.now c.loop-e.b c.args.all.now c.loop-e.e-index _ c.loop-e-test.false (omega (arith, c.next_register.ensures, c.next_register-first.ensures, c.loop-e.invariant.fills.next)) c.loop-e.invariant.fills
+pub operand-returns-in-Parameter-clause-offers : goal.operand-returns-in-Parameter-clause-offers
+operand-returns-in-Parameter-clause-offers t c =
+    rw c.in-Parameter.is (parameter_offered c.args.b.now c.in-Parameter.number c.requires.counted)
+
+pub operand-returns-in_ok-emit-in_default : goal.operand-returns-in_ok-emit-in_default
+operand-returns-in_ok-emit-in_default t c = record {
+  offers = register_offered c.args.b.now c.take.new.self c.emit.new.b c.in_ok-register-in_default.register c.args.e.now c.in_ok-register-in_default.ensures.0 c.in_ok-register-in_default.ensures.1 c.in_ok-emit-in_default.ensures.leaves;
+  units = c.in_ok-emit-in_default.ensures.units ∙ ap (λ (d : Draft). d.units) c.in_ok-register-in_default.ensures.1;
+  cursors = c.in_ok-emit-in_default.ensures.cursors ∙ ap (λ (d : Draft). d.cursors) c.in_ok-register-in_default.ensures.1;
+}
+
+pub three_operands-returns-clause-offers : goal.three_operands-returns-clause-offers
+three_operands-returns-clause-offers t c =
+    three_offered c.args.b.now c.operand.new.b c.operand-2.new.b c.operand-3.new.b _ c.args.x.now c.args.y.now c.args.z.now c.in_ok-first.ensures.offers c.in_ok-second.ensures.offers c.in_ok-third.ensures.offers
+
+pub all_operands-loop-e-init : goal.all_operands-loop-e-init
+all_operands-loop-e-init t c = record { offers = none_offered c.args.b.now _ c.new-operands.ensures c.requires.counted; units = refl; cursors = refl }
+
+pub all_operands-loop-e-preserved : goal.all_operands-loop-e-preserved
+all_operands-loop-e-preserved t c = record {
+  offers = all_more c.args.b.now c.loop-e.b c.operand.new.b c.loop-e.operands c.push.new.self c.in_ok-operand.field-0 c.args.all.now c.loop-e.e-index c.e-item.result c.loop-e-test.true c.e-item.is c.in_ok-push.ensures.ok c.loop-e.invariant.offers c.in_ok-operand.ensures.offers;
+  units = c.in_ok-operand.ensures.units ∙ c.loop-e.invariant.units;
+  cursors = c.in_ok-operand.ensures.cursors ∙ c.loop-e.invariant.cursors;
+}
+
+pub all_operands-returns-clause-offers : goal.all_operands-returns-clause-offers
+all_operands-returns-clause-offers t c =
+    all_offered c.args.b.now c.loop-e.b c.loop-e.operands c.args.all.now c.loop-e.e-index c.loop-e-test.false c.loop-e.invariant.offers
 
 -- ---- IN
+
+pub emit_member-loop-e-init : goal.emit_member-loop-e-init
+emit_member-loop-e-init t c =
+    record { turns = turns_none c.begin_member.new.b c.in_ok-value.value c.args.to; next = refl; most = omega arith; units = refl; cursors = refl }
 
 pub emit_member-loop-e-preserved : goal.emit_member-loop-e-preserved
 emit_member-loop-e-preserved t c =
@@ -93,14 +113,13 @@ emit_member-loop-e-preserved t c =
     let held = beside_of c.args.b.now c.take.new.self c.emit.new.b c.in_ok-value.value c.args.to x c.in_ok-value.ensures.0 c.in_ok-value.ensures.1 c.in_ok-emit.ensures.leaves c.requires.taken in
     let begun = c.in_ok-begin_member.ensures in
     let beside = beside_on {d = c.begin_member.new.b} held (ap (λ (d : Draft). d.next) begun) (omega (arith, ap (λ (d : Draft). d.most) begun)) in
-    let leaves = emits_from c.e-item.result _ c.in_ok-other.ensures.1 c.in_ok-emit-2.ensures.leaves in
-    let more = turns_at c.or_equal.new.b c.in_ok-or_equal.ensures (member_more c.begin_member.new.b c.loop-e.b c.emit-in-loop-e.new.b c.args.sides c.in_ok-value.value c.in_ok-other.other c.args.to c.loop-e.e-index es c.e-item.result c.loop-e-test.true c.e-item.is c.loop-e.invariant.turns c.in_ok-other.ensures.0 leaves beside.taken beside.counted beside.beside beside.other) in
+    let more = turns_at c.or_equal.new.b c.in_ok-or_equal.ensures (member_more c.begin_member.new.b c.loop-e.b c.operand.new.b c.args.sides c.in_ok-other.other c.in_ok-value.value c.next_register-first.result c.args.to c.loop-e.e-index es c.e-item.result c.loop-e-test.true c.e-item.is c.next_register-first.ensures c.loop-e.invariant.turns c.in_ok-other.ensures.offers beside.taken beside.beside beside.other) in
     record {
       turns = more;
       next = more.next;
       most = more.grows.most;
-      units = ap (λ (d : Draft). d.units) c.in_ok-or_equal.ensures ∙ c.in_ok-emit-2.ensures.units ∙ ap (λ (d : Draft). d.units) c.in_ok-other.ensures.1 ∙ c.loop-e.invariant.units;
-      cursors = ap (λ (d : Draft). d.cursors) c.in_ok-or_equal.ensures ∙ c.in_ok-emit-2.ensures.cursors ∙ ap (λ (d : Draft). d.cursors) c.in_ok-other.ensures.1 ∙ c.loop-e.invariant.cursors;
+      units = ap (λ (d : Draft). d.units) c.in_ok-or_equal.ensures ∙ c.in_ok-other.ensures.units ∙ c.loop-e.invariant.units;
+      cursors = ap (λ (d : Draft). d.cursors) c.in_ok-or_equal.ensures ∙ c.in_ok-other.ensures.cursors ∙ c.loop-e.invariant.cursors;
     }
 
 pub emit_member-returns-clause-leaves : goal.emit_member-returns-clause-leaves
@@ -130,7 +149,7 @@ emit_known-bind-requires t c =
 
 pub emit_known-returns-clause-leaves : goal.emit_known-returns-clause-leaves
 emit_known-returns-clause-leaves t c =
-    known_all c.args.b.now c.label.new.self c.loop-e.b c.op.new.self c.bind.new.self c.args.to c.in_ok-end.end c.loop-e.e-index c.args.operands.now c.in_ok-end.ensures.0 c.in_ok-end.ensures.1 c.loop-e-test.false c.loop-e.invariant.decides c.in_ok-op.ensures c.bind.ensures c.requires.taken c.requires.counted
+    known_all c.args.b.now c.label.new.self c.loop-e.b c.op.new.self c.bind.new.self c.args.to c.in_ok-end.end c.loop-e.e-index c.args.operands.now c.in_ok-end.ensures.0 c.in_ok-end.ensures.1 c.loop-e-test.false c.loop-e.invariant.decides c.in_ok-op.ensures c.in_ok-bind.ensures c.requires.taken c.requires.counted
 
 -- ---- CASE with conditions
 
@@ -163,17 +182,17 @@ emit_choice-loop-arm-preserved t c =
 
 pub emit_choice-returns-clause-leaves : goal.emit_choice-returns-clause-leaves
 emit_choice-returns-clause-leaves t c =
-    choice_all c.args.b.now c.label.new.self c.loop-arm.b c.emit-2.new.b c.bind.new.self c.args.to c.in_ok-end.end c.loop-arm.arm-index c.args.arms.now c.args.otherwise.now c.in_ok-end.ensures.0 c.in_ok-end.ensures.1 c.loop-arm-test.false c.loop-arm.invariant.decides c.in_ok-emit-3.ensures.leaves c.bind.ensures
+    choice_all c.args.b.now c.label.new.self c.loop-arm.b c.emit-2.new.b c.bind.new.self c.args.to c.in_ok-end.end c.loop-arm.arm-index c.args.arms.now c.args.otherwise.now c.in_ok-end.ensures.0 c.in_ok-end.ensures.1 c.loop-arm-test.false c.loop-arm.invariant.decides c.in_ok-emit-3.ensures.leaves c.in_ok-bind.ensures
 
 -- ---- CASE with an operand
 
 pub emit_match-leave_arm-requires : goal.emit_match-leave_arm-requires
 emit_match-leave_arm-requires t c =
-    c.in_ok-emit-3.ensures.leaves.grows.open_labels c.in_ok-next.next (tested_open c.compare_with.new.b c.test_arm.new.b c.args.to c.in_ok-end.end c.in_ok-next.next c.in_ok-next.ensures.0 c.in_ok-next.ensures.1)
+    c.in_ok-emit-2.ensures.leaves.grows.open_labels c.in_ok-next.next (tested_open c.binary.new.b c.test_arm.new.b c.args.to c.in_ok-end.end c.in_ok-next.next c.in_ok-next.ensures.0 c.in_ok-next.ensures.1)
 
 pub emit_match-bind-requires : goal.emit_match-bind-requires
 emit_match-bind-requires t c =
-    c.in_ok-emit-4.ensures.leaves.grows.open_labels c.in_ok-end.end (c.loop-arm.invariant.decides.grows.open_labels c.in_ok-end.end (label_open c.emit.new.b c.label.new.self c.in_ok-end.end c.in_ok-end.ensures.0 c.in_ok-end.ensures.1))
+    c.in_ok-emit-3.ensures.leaves.grows.open_labels c.in_ok-end.end (c.loop-arm.invariant.decides.grows.open_labels c.in_ok-end.end (label_open c.emit.new.b c.label.new.self c.in_ok-end.end c.in_ok-end.ensures.0 c.in_ok-end.ensures.1))
 
 pub emit_match-loop-arm-init : goal.emit_match-loop-arm-init
 emit_match-loop-arm-init t c =
@@ -184,17 +203,17 @@ emit_match-loop-arm-preserved t c =
     let arm = c.arm-item.result in
     let held = beside_of c.args.b.now c.take.new.self c.emit.new.b c.in_ok-value.value c.args.to c.args.tested.now c.in_ok-value.ensures.0 c.in_ok-value.ensures.1 c.in_ok-emit.ensures.leaves c.requires.taken in
     let beside = beside_on {d = c.label.new.self} held (ap (λ (d : Draft). d.next) c.in_ok-end.ensures.1) (omega (arith, ap (λ (d : Draft). d.most) c.in_ok-end.ensures.1)) in
-    let long : c.in_ok-next.next ≡ length c.emit-in-loop-arm.new.b.labels = c.in_ok-next.ensures.0 ∙ ap (λ (d : Draft). length d.labels) c.in_ok-compare_with.ensures in
-    let value = emits_from (out-BoundMatch arm).value _ (c.in_ok-next.ensures.1 ∙ ap (λ (d : Draft). with_arm_tested d c.args.to c.in_ok-end.end) c.in_ok-compare_with.ensures) c.in_ok-emit-3.ensures.leaves in
-    let more = decides_at c.leave_arm.new.b c.in_ok-leave_arm.ensures (match_more c.label.new.self c.loop-arm.b c.emit-in-loop-arm.new.b c.emit-in-loop-arm-2.new.b c.in_ok-value.value c.args.to c.in_ok-next.next c.in_ok-end.end c.loop-arm.arm-index c.args.arms.now arm (out-BoundMatch arm).sides (out-BoundMatch arm).operand (out-BoundMatch arm).value c.loop-arm-test.true c.arm-item.is (match_parts arm) (match_steps arm) c.loop-arm.invariant.decides c.in_ok-emit-2.ensures.leaves long value beside.taken beside.counted beside.beside beside.other) in
+    let long : c.in_ok-next.next ≡ length c.operand.new.b.labels = c.in_ok-next.ensures.0 ∙ ap (λ (d : Draft). length d.labels) c.in_ok-binary.ensures in
+    let value = emits_from (out-BoundMatch arm).value _ (c.in_ok-next.ensures.1 ∙ ap (λ (d : Draft). with_arm_tested d c.args.to c.in_ok-end.end) c.in_ok-binary.ensures) c.in_ok-emit-2.ensures.leaves in
+    let more = decides_at c.leave_arm.new.b c.in_ok-leave_arm.ensures (match_more c.label.new.self c.loop-arm.b c.operand.new.b c.emit-in-loop-arm.new.b c.in_ok-other.other c.in_ok-value.value c.next_register-first.result c.args.to c.in_ok-next.next c.in_ok-end.end c.loop-arm.arm-index c.args.arms.now arm (out-BoundMatch arm).sides (out-BoundMatch arm).operand (out-BoundMatch arm).value c.loop-arm-test.true c.arm-item.is (match_parts arm) (match_steps arm) c.loop-arm.invariant.decides c.next_register-first.ensures c.in_ok-other.ensures.offers long value beside.taken beside.counted beside.beside beside.other) in
     record {
       decides = more;
       next = more.next;
       most = more.grows.most;
-      units = ap (λ (d : Draft). d.units) c.in_ok-leave_arm.ensures ∙ c.in_ok-emit-3.ensures.units ∙ ap (λ (d : Draft). d.units) c.in_ok-next.ensures.1 ∙ ap (λ (d : Draft). d.units) c.in_ok-compare_with.ensures ∙ c.in_ok-emit-2.ensures.units ∙ c.loop-arm.invariant.units;
-      cursors = ap (λ (d : Draft). d.cursors) c.in_ok-leave_arm.ensures ∙ c.in_ok-emit-3.ensures.cursors ∙ ap (λ (d : Draft). d.cursors) c.in_ok-next.ensures.1 ∙ ap (λ (d : Draft). d.cursors) c.in_ok-compare_with.ensures ∙ c.in_ok-emit-2.ensures.cursors ∙ c.loop-arm.invariant.cursors;
+      units = ap (λ (d : Draft). d.units) c.in_ok-leave_arm.ensures ∙ c.in_ok-emit-2.ensures.units ∙ ap (λ (d : Draft). d.units) c.in_ok-next.ensures.1 ∙ ap (λ (d : Draft). d.units) c.in_ok-binary.ensures ∙ c.in_ok-other.ensures.units ∙ c.loop-arm.invariant.units;
+      cursors = ap (λ (d : Draft). d.cursors) c.in_ok-leave_arm.ensures ∙ c.in_ok-emit-2.ensures.cursors ∙ ap (λ (d : Draft). d.cursors) c.in_ok-next.ensures.1 ∙ ap (λ (d : Draft). d.cursors) c.in_ok-binary.ensures ∙ c.in_ok-other.ensures.cursors ∙ c.loop-arm.invariant.cursors;
     }
 
 pub emit_match-returns-clause-leaves : goal.emit_match-returns-clause-leaves
 emit_match-returns-clause-leaves t c =
-    match_all c.args.b.now c.take.new.self c.emit.new.b c.label.new.self c.loop-arm.b c.emit-2.new.b c.bind.new.self c.give_back.new.self c.in_ok-value.value c.args.to c.in_ok-end.end c.loop-arm.arm-index c.args.arms.now c.args.tested.now c.args.otherwise.now c.in_ok-value.ensures.0 c.in_ok-value.ensures.1 c.in_ok-emit.ensures.leaves c.in_ok-end.ensures.0 c.in_ok-end.ensures.1 c.loop-arm-test.false c.loop-arm.invariant.decides c.in_ok-emit-4.ensures.leaves c.bind.ensures c.give_back.ensures c.requires.taken
+    match_all c.args.b.now c.take.new.self c.emit.new.b c.label.new.self c.loop-arm.b c.emit-2.new.b c.bind.new.self c.give_back.new.self c.in_ok-value.value c.args.to c.in_ok-end.end c.loop-arm.arm-index c.args.arms.now c.args.tested.now c.args.otherwise.now c.in_ok-value.ensures.0 c.in_ok-value.ensures.1 c.in_ok-emit.ensures.leaves c.in_ok-end.ensures.0 c.in_ok-end.ensures.1 c.loop-arm-test.false c.loop-arm.invariant.decides c.in_ok-emit-3.ensures.leaves c.in_ok-bind.ensures c.give_back.ensures c.requires.taken

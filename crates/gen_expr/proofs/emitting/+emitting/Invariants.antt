@@ -6,14 +6,14 @@ use Rattle.eng_value.specs.Collations.{keys_of}
 use Rattle.gen_expr.specs.Parts.{Turns, Decides, decided_arm, decided_known, decided_match, first_in}
 use Rattle.gen_expr.specs.Steps.{steps_of, arm_steps_of, match_steps_of}
 use Rattle.sql_meaning.specs.Expression.{value_of, arm_of, match_of, in_all}
-use Rattle.vm_code.specs.Frames.{Fills}
+use Rattle.vm_code.specs.Frames.{Offers, no_calls}
 use Rattle.sql_meaning.proofs.bound.BoundExpr.TheLaws.{the_size}
 use Rattle.sql_meaning.proofs.bound.BoundMatch.TheLaws.{the_size as match_size}
 use Rattle.gen_expr.proofs.emitting.+emitting.Given as goal
 
-abbrev pub invariant-emit_all-loop-e : goal.invariant-emit_all-loop-e
-invariant-emit_all-loop-e l = record {
-  fills : Fills l.initial.b l.b l.e-index (λ env. in_all (map value_of (take l.e-index l.all)) env) (λ w. sum_by steps_of (take l.e-index l.all));
+abbrev pub invariant-all_operands-loop-e : goal.invariant-all_operands-loop-e
+invariant-all_operands-loop-e l = record {
+  offers : Offers no_calls l.initial.b l.b l.operands (λ env. in_all (map value_of (take l.e-index l.all)) env) (λ env. sum_by steps_of (take l.e-index l.all));
   units : l.b.units ≡ l.initial.b.units;
   cursors : l.b.cursors ≡ l.initial.b.cursors;
 }
@@ -54,24 +54,27 @@ invariant-emit_match-loop-arm l = record {
   cursors : l.b.cursors ≡ l.initial.b.cursors;
 }
 
--- what is emitted gets smaller: twice the depth, and one more where a function goes over parts of an expression
+-- what is emitted gets smaller: three times the depth, one more for an operand, and two more where a function goes over parts of an expression
 abbrev pub decreases-emit : goal.decreases-emit
-decreases-emit l = 2 * goal.size-emit l
+decreases-emit l = 3 * goal.size-emit l
 
-abbrev pub decreases-emit_all : goal.decreases-emit_all
-decreases-emit_all l = 2 * goal.size-emit_all l + 1
+abbrev pub decreases-operand : goal.decreases-operand
+decreases-operand l = 3 * goal.size-operand l + 1
+
+abbrev pub decreases-all_operands : goal.decreases-all_operands
+decreases-all_operands l = 3 * goal.size-all_operands l + 2
+
+abbrev pub decreases-three_operands : goal.decreases-three_operands
+decreases-three_operands l = 3 * max (the_size l.x.now) (max (the_size l.y.now) (the_size l.z.now)) + 2
 
 abbrev pub decreases-emit_known : goal.decreases-emit_known
-decreases-emit_known l = 2 * goal.size-emit_known l + 1
-
-abbrev pub decreases-emit_three : goal.decreases-emit_three
-decreases-emit_three l = 2 * max (the_size l.x.now) (max (the_size l.y.now) (the_size l.z.now)) + 1
+decreases-emit_known l = 3 * goal.size-emit_known l + 2
 
 abbrev pub decreases-emit_member : goal.decreases-emit_member
-decreases-emit_member l = 2 * max (the_size l.tested.now) (most the_size l.others.now) + 1
+decreases-emit_member l = 3 * max (the_size l.tested.now) (most the_size l.others.now) + 2
 
 abbrev pub decreases-emit_choice : goal.decreases-emit_choice
-decreases-emit_choice l = 2 * max (goal.size-emit_choice l) (the_size l.otherwise.now) + 1
+decreases-emit_choice l = 3 * max (goal.size-emit_choice l) (the_size l.otherwise.now) + 2
 
 abbrev pub decreases-emit_match : goal.decreases-emit_match
-decreases-emit_match l = 2 * max (the_size l.tested.now) (max (most match_size l.arms.now) (the_size l.otherwise.now)) + 1
+decreases-emit_match l = 3 * max (the_size l.tested.now) (max (most match_size l.arms.now) (the_size l.otherwise.now)) + 2

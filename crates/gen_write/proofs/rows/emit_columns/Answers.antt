@@ -5,10 +5,11 @@ use Rattle.eng_value.specs.Outs.{turned}
 use Rattle.gen_write.specs.Stretches.{Stores, stored_literals}
 use Rattle.gen_write.proofs.Columns.{stored-all, stored-more, stores_none, stores_then}
 use Rattle.sql_meaning.specs.Expression.{literal_out}
+use Rattle.vm_code.specs.Frames.{no_calls}
 use Rattle.gen_write.proofs.rows.emit_columns.Goals as goal
 
 pub loop-affinity-init : goal.loop-affinity-init
-loop-affinity-init c = record { stores = stores_none c.args.b.now c.args.causes c.requires.counted; cursors = search rules }
+loop-affinity-init c = record { stores = stores_none no_calls c.args.b.now c.args.causes c.requires.counted; cursors = search rules }
 
 pub emit_column-requires-clause-counted : goal.emit_column-requires-clause-counted
 emit_column-requires-clause-counted c = c.loop-affinity.invariant.stores.counted
@@ -25,7 +26,7 @@ loop-affinity-preserved c =
     let here : turned (store_as a) (literal_out l) ≡ turned (store_as (get_or all i a)) (literal_out (get_or row i l)) = ap (λ x. turned (store_as x) (literal_out l)) (turn.2 a) ∙ ap (λ x. turned (store_as (get_or all i a)) (literal_out x)) (turn.3 l) in
     let more = ap (λ o. stored_literals (take i all) (take i row) ++ o ∷ []) here ∙ stored-more all row i a l turn.0 turn.1 in
     record {
-      stores = subst (λ n. Stores c.args.b.now c.emit_column.new.b c.args.causes (stored_literals (take n all) (take n row))) (sym long) (subst (Stores c.args.b.now c.emit_column.new.b c.args.causes) more (stores_then c.args.causes (stored_literals (take i all) (take i row)) (turned (store_as a) (literal_out l) ∷ []) c.requires.taken c.loop-affinity.invariant.stores c.in_ok-emit_column.ensures.stores));
+      stores = subst (λ n. Stores no_calls c.args.b.now c.emit_column.new.b c.args.causes (stored_literals (take n all) (take n row))) (sym long) (subst (Stores no_calls c.args.b.now c.emit_column.new.b c.args.causes) more (stores_then c.args.causes (stored_literals (take i all) (take i row)) (turned (store_as a) (literal_out l) ∷ []) c.requires.taken c.loop-affinity.invariant.stores c.in_ok-emit_column.ensures.stores));
       cursors = c.in_ok-emit_column.ensures.cursors ∙ c.loop-affinity.invariant.cursors;
     }
 
@@ -34,4 +35,4 @@ returns-clause-stores c =
     let all = c.args.affinities.now in
     let row = c.args.row.now in
     let n : length c.loop-affinity.yielded ≡ min (length all) (length row) = zip_end all row c.loop-affinity.yielded _ c.loop-affinity.affinity-iterator c.next.new.self _ (cc) (cc) c.loop-affinity.yielded_by c.in-None.is c.next.ensures.steps in
-    subst (Stores c.args.b.now c.loop-affinity.b c.args.causes) (stored-all all row (length c.loop-affinity.yielded) n) c.loop-affinity.invariant.stores
+    subst (Stores no_calls c.args.b.now c.loop-affinity.b c.args.causes) (stored-all all row (length c.loop-affinity.yielded) n) c.loop-affinity.invariant.stores

@@ -1,108 +1,141 @@
-use Rattle.std.proofs.Common.{◌≡◌, rules, w64, to_z, of_z}
-use Rattle.vm_core.proofs.Steps.{same_err}
+use Rattle.std.proofs.Common.{◌≡◌, [], map, ap, ◌∙◌, rules, subst, w64, to_z, of_z}
+use Rattle.eng_key.specs.Values.{value_keys}
+use Rattle.eng_value.specs.Applied.{binary_of, function_by, unary_of}
+use Rattle.eng_value.specs.Collations.{own_keys}
+use Rattle.eng_value.specs.Comparisons.{like_escaped_of}
+use Rattle.eng_value.specs.HostMeanings.{no_hosts}
+use Rattle.vm_code.specs.Machine.{operand_of, put, setting}
+use Rattle.vm_core.specs.Events.{ActsOver}
+use Rattle.vm_core.specs.Operands.{operand_now}
+use Rattle.vm_core.specs.Paused.{state_at}
+use Rattle.vm_core.proofs.OperandLaws.{all_read_now, reads_now}
 use Rattle.vm_core.proofs.execute.execute.Goals as goal
 
-pub returns-in-Goto : goal.returns-in-Goto
-returns-in-Goto c = record { leads = λ ask. rw c.in-Goto.is (c.go_to.ensures.leads c.args.event.now c.args.tables.now); log = c.go_to.ensures.log; tables = same_err _ _ }
+pub returns-in-Goto-clause-leads : goal.returns-in-Goto-clause-leads
+returns-in-Goto-clause-leads c ask = rw c.in-Goto.is (c.go_to.ensures c.args.event.now c.args.tables.now.world)
 
-pub returns-in-If : goal.returns-in-If
-returns-in-If c = record { leads = λ ask. rw c.in-If.is (c.jump_where.ensures.leads c.args.event.now c.args.tables.now); log = c.jump_where.ensures.log; tables = same_err _ _ }
+pub returns-in-If-clause-leads : goal.returns-in-If-clause-leads
+returns-in-If-clause-leads c ask = rw c.in-If.is (c.jump_where.ensures c.args.event.now c.args.tables.now.world)
 
-pub returns-in-IfNot : goal.returns-in-IfNot
-returns-in-IfNot c = record { leads = λ ask. rw c.in-IfNot.is (c.jump_where-in-IfNot.ensures.leads c.args.event.now c.args.tables.now); log = c.jump_where-in-IfNot.ensures.log; tables = same_err _ _ }
+pub returns-in-IfNot-clause-leads : goal.returns-in-IfNot-clause-leads
+returns-in-IfNot-clause-leads c ask = rw c.in-IfNot.is (c.jump_where-in-IfNot.ensures c.args.event.now c.args.tables.now.world)
 
-pub returns-in-IsNull : goal.returns-in-IsNull
-returns-in-IsNull c = record { leads = λ ask. rw c.in-IsNull.is (c.jump_where-in-IsNull.ensures.leads c.args.event.now c.args.tables.now); log = c.jump_where-in-IsNull.ensures.log; tables = same_err _ _ }
+pub returns-in-IsNull-clause-leads : goal.returns-in-IsNull-clause-leads
+returns-in-IsNull-clause-leads c ask = rw c.in-IsNull.is (c.jump_where-in-IsNull.ensures c.args.event.now c.args.tables.now.world)
 
-pub returns-in-NotNull : goal.returns-in-NotNull
-returns-in-NotNull c = record { leads = λ ask. rw c.in-NotNull.is (c.jump_where-in-NotNull.ensures.leads c.args.event.now c.args.tables.now); log = c.jump_where-in-NotNull.ensures.log; tables = same_err _ _ }
+pub returns-in-NotNull-clause-leads : goal.returns-in-NotNull-clause-leads
+returns-in-NotNull-clause-leads c ask = rw c.in-NotNull.is (c.jump_where-in-NotNull.ensures c.args.event.now c.args.tables.now.world)
 
-pub returns-in-IsBad : goal.returns-in-IsBad
-returns-in-IsBad c = record { leads = λ ask. rw c.in-IsBad.is (c.jump_where-in-IsBad.ensures.leads c.args.event.now c.args.tables.now); log = c.jump_where-in-IsBad.ensures.log; tables = same_err _ _ }
+pub returns-in-IsBad-clause-leads : goal.returns-in-IsBad-clause-leads
+returns-in-IsBad-clause-leads c ask = rw c.in-IsBad.is (c.jump_where-in-IsBad.ensures c.args.event.now c.args.tables.now.world)
 
-pub returns-in-Halt : goal.returns-in-Halt
-returns-in-Halt c = record { leads = λ ask. rw c.in-Halt.is (c.finish.ensures.leads c.args.tables.now); log = same_err _ _; tables = same_err _ _ }
+pub returns-in-Halt-clause-leads : goal.returns-in-Halt-clause-leads
+returns-in-Halt-clause-leads c ask = rw c.in-Halt.is (c.finish.ensures c.args.tables.now.world)
 
-pub returns-in-HaltBad : goal.returns-in-HaltBad
-returns-in-HaltBad c = record { leads = λ ask. rw c.in-HaltBad.is (c.halt.ensures.leads c.args.tables.now); log = c.halt.ensures.log; tables = same_err _ _ }
+pub returns-in-HaltBad-clause-leads : goal.returns-in-HaltBad-clause-leads
+returns-in-HaltBad-clause-leads c ask = rw c.in-HaltBad.is (c.halt.ensures c.args.tables.now.world)
 
-pub returns-in-Call : goal.returns-in-Call
-returns-in-Call c = record { leads = λ ask. rw c.in-Call.is (c.call.ensures.leads c.args.event.now c.args.tables.now); log = c.call.ensures.log; tables = same_err _ _ }
+pub returns-in-Call-clause-leads : goal.returns-in-Call-clause-leads
+returns-in-Call-clause-leads c ask = rw c.in-Call.is (c.call.ensures c.args.event.now c.args.tables.now.world)
 
-pub returns-in-Ret : goal.returns-in-Ret
-returns-in-Ret c = record { leads = λ ask. rw c.in-Ret.is (c.ret.ensures.leads c.args.tables.now); log = c.ret.ensures.log; tables = same_err _ _ }
+pub returns-in-Ret-clause-leads : goal.returns-in-Ret-clause-leads
+returns-in-Ret-clause-leads c ask = rw c.in-Ret.is (c.ret.ensures c.args.tables.now.world)
 
-pub returns-in-Argument : goal.returns-in-Argument
-returns-in-Argument c = record { leads = λ ask. rw c.in-Argument.is (c.put_argument.ensures.leads c.args.event.now c.args.tables.now); log = c.put_argument.ensures.log; tables = same_err _ _ }
+pub returns-in-Argument-clause-leads : goal.returns-in-Argument-clause-leads
+returns-in-Argument-clause-leads c ask = rw c.in-Argument.is (c.put_argument.ensures c.args.event.now c.args.tables.now.world)
 
-pub returns-in-ResultRow : goal.returns-in-ResultRow
-returns-in-ResultRow c = record { leads = λ ask. rw c.in-ResultRow.is (c.give.ensures.leads c.args.tables.now); log = c.give.ensures.log; tables = same_err _ _ }
+pub returns-in-ResultRow-clause-leads : goal.returns-in-ResultRow-clause-leads
+returns-in-ResultRow-clause-leads c ask = rw c.in-ResultRow.is (c.give.ensures c.args.tables.now.world)
 
-pub returns-in-Null : goal.returns-in-Null
-returns-in-Null c = record { leads = λ ask. rw c.in-Null.is (c.put_null.ensures.leads c.args.event.now c.args.tables.now); log = c.put_null.ensures.log; tables = same_err _ _ }
+pub returns-in-Null-clause-leads : goal.returns-in-Null-clause-leads
+returns-in-Null-clause-leads c ask = rw c.in-Null.is (c.put_null.ensures c.args.event.now c.args.tables.now.world)
 
-pub returns-in-Integer : goal.returns-in-Integer
-returns-in-Integer c =
+pub returns-in-Integer-clause-leads : goal.returns-in-Integer-clause-leads
+returns-in-Integer-clause-leads c ask =
     let n : to_z w64 (of_z w64 c.in-Integer.value) ≡ c.in-Integer.value = search rules in
-    let leads = c.put_integer.ensures.leads c.args.event.now c.args.tables.now in
-    record { leads = λ ask. rw c.in-Integer.is (rw n at leads); log = c.put_integer.ensures.log; tables = same_err _ _ }
+    let leads = c.put_integer.ensures c.args.event.now c.args.tables.now.world in
+    rw c.in-Integer.is (rw n at leads)
 
-pub returns-in-String8 : goal.returns-in-String8
-returns-in-String8 c = record { leads = λ ask. rw c.in-String8.is (c.put_text.ensures.leads c.args.event.now c.args.tables.now); log = c.put_text.ensures.log; tables = same_err _ _ }
+pub returns-in-String8-clause-leads : goal.returns-in-String8-clause-leads
+returns-in-String8-clause-leads c ask = rw c.in-String8.is (c.put_text.ensures c.args.event.now c.args.tables.now.world)
 
-pub returns-in-Blob : goal.returns-in-Blob
-returns-in-Blob c = record { leads = λ ask. rw c.in-Blob.is (c.put_blob.ensures.leads c.args.event.now c.args.tables.now); log = c.put_blob.ensures.log; tables = same_err _ _ }
+pub returns-in-Blob-clause-leads : goal.returns-in-Blob-clause-leads
+returns-in-Blob-clause-leads c ask = rw c.in-Blob.is (c.put_blob.ensures c.args.event.now c.args.tables.now.world)
 
-pub returns-in-Bad : goal.returns-in-Bad
-returns-in-Bad c = record { leads = λ ask. rw c.in-Bad.is (c.put_bad.ensures.leads c.args.event.now c.args.tables.now); log = c.put_bad.ensures.log; tables = same_err _ _ }
+pub returns-in-Bad-clause-leads : goal.returns-in-Bad-clause-leads
+returns-in-Bad-clause-leads c ask = rw c.in-Bad.is (c.put_bad.ensures c.args.event.now c.args.tables.now.world)
 
-pub returns-in-Variable : goal.returns-in-Variable
-returns-in-Variable c = record { leads = λ ask. rw c.in-Variable.is (c.put_parameter.ensures.leads c.args.event.now c.args.tables.now); log = c.put_parameter.ensures.log; tables = same_err _ _ }
+pub returns-in-Variable-clause-leads : goal.returns-in-Variable-clause-leads
+returns-in-Variable-clause-leads c ask = rw c.in-Variable.is (c.put_parameter.ensures c.args.event.now c.args.tables.now.world)
 
-pub returns-in-Copy : goal.returns-in-Copy
-returns-in-Copy c = record { leads = λ ask. rw c.in-Copy.is (c.put_copy.ensures.leads c.args.event.now c.args.tables.now); log = c.put_copy.ensures.log; tables = same_err _ _ }
+pub returns-in-Copy-clause-leads : goal.returns-in-Copy-clause-leads
+returns-in-Copy-clause-leads c ask = rw c.in-Copy.is (c.put_copy.ensures c.args.event.now c.args.tables.now.world)
 
-pub returns-in-Affinity : goal.returns-in-Affinity
-returns-in-Affinity c = record { leads = λ ask. rw c.in-Affinity.is (c.store_as.ensures.leads c.args.event.now c.args.tables.now); log = c.store_as.ensures.log; tables = same_err _ _ }
+pub returns-in-Affinity-clause-leads : goal.returns-in-Affinity-clause-leads
+returns-in-Affinity-clause-leads c ask = rw c.in-Affinity.is (c.store_as.ensures c.args.event.now c.args.tables.now.world)
 
-pub returns-in-Unary : goal.returns-in-Unary
-returns-in-Unary c = record { leads = λ ask. rw c.in-Unary.is (c.put_unary.ensures.leads c.args.event.now c.args.tables.now); log = c.put_unary.ensures.log; tables = same_err _ _ }
+pub returns-in-Unary-clause-leads : goal.returns-in-Unary-clause-leads
+returns-in-Unary-clause-leads c ask =
+    let m = setting no_hosts ask c.args.params.now c.args.program.now in
+    let p = c.args.running.now in
+    let w = c.args.tables.now.world in
+    rw c.in-Unary.is (subst (λ a. ActsOver c.put_unary.result c.args.event.now p w c.put_unary.new.self w (λ s. put s c.in-Unary.to (unary_of c.in-Unary.operator a))) (reads_now m p w c.in-Unary.operand) (c.put_unary.ensures c.args.event.now))
 
-pub returns-in-Binary : goal.returns-in-Binary
-returns-in-Binary c = record { leads = λ ask. rw c.in-Binary.is (c.put_binary.ensures.leads c.args.event.now c.args.tables.now); log = c.put_binary.ensures.log; tables = same_err _ _ }
+pub returns-in-Binary-clause-leads : goal.returns-in-Binary-clause-leads
+returns-in-Binary-clause-leads c ask =
+    let m = setting no_hosts ask c.args.params.now c.args.program.now in
+    let p = c.args.running.now in
+    let w = c.args.tables.now.world in
+    let right = subst (λ b. ActsOver c.put_binary.result c.args.event.now p w c.put_binary.new.self w (λ s. put s c.in-Binary.to (binary_of own_keys c.in-Binary.operator (operand_now c.args.params.now p w c.in-Binary.left) b))) (reads_now m p w c.in-Binary.right) (c.put_binary.ensures c.args.event.now) in
+    rw c.in-Binary.is (subst (λ a. ActsOver c.put_binary.result c.args.event.now p w c.put_binary.new.self w (λ s. put s c.in-Binary.to (binary_of own_keys c.in-Binary.operator a (operand_of m (state_at p w []) c.in-Binary.right)))) (reads_now m p w c.in-Binary.left) right)
 
-pub returns-in-LikeEscaped : goal.returns-in-LikeEscaped
-returns-in-LikeEscaped c = record { leads = λ ask. rw c.in-LikeEscaped.is (c.put_like_escaped.ensures.leads c.args.event.now c.args.tables.now); log = c.put_like_escaped.ensures.log; tables = same_err _ _ }
+pub returns-in-LikeEscaped-clause-leads : goal.returns-in-LikeEscaped-clause-leads
+returns-in-LikeEscaped-clause-leads c ask =
+    let m = setting no_hosts ask c.args.params.now c.args.program.now in
+    let p = c.args.running.now in
+    let w = c.args.tables.now.world in
+    let now = operand_now c.args.params.now p w in
+    let there = operand_of m (state_at p w []) in
+    let third = subst (λ x. ActsOver c.put_like_escaped.result c.args.event.now p w c.put_like_escaped.new.self w (λ s. put s c.in-LikeEscaped.to (like_escaped_of (now c.in-LikeEscaped.text) (now c.in-LikeEscaped.pattern) x))) (reads_now m p w c.in-LikeEscaped.escape) (c.put_like_escaped.ensures c.args.event.now) in
+    let second = subst (λ x. ActsOver c.put_like_escaped.result c.args.event.now p w c.put_like_escaped.new.self w (λ s. put s c.in-LikeEscaped.to (like_escaped_of (now c.in-LikeEscaped.text) x (there c.in-LikeEscaped.escape)))) (reads_now m p w c.in-LikeEscaped.pattern) third in
+    rw c.in-LikeEscaped.is (subst (λ x. ActsOver c.put_like_escaped.result c.args.event.now p w c.put_like_escaped.new.self w (λ s. put s c.in-LikeEscaped.to (like_escaped_of x (there c.in-LikeEscaped.pattern) (there c.in-LikeEscaped.escape)))) (reads_now m p w c.in-LikeEscaped.text) second)
 
-pub returns-in-Function : goal.returns-in-Function
-returns-in-Function c = record { leads = λ ask. rw c.in-Function.is (c.put_call.ensures.leads c.args.event.now c.args.tables.now); log = c.put_call.ensures.log; tables = same_err _ _ }
+pub returns-in-Function-clause-leads : goal.returns-in-Function-clause-leads
+returns-in-Function-clause-leads c ask =
+    let m = setting no_hosts ask c.args.params.now c.args.program.now in
+    let p = c.args.running.now in
+    let w = c.args.tables.now.world in
+    rw c.in-Function.is (subst (λ outs. ActsOver c.put_call.result c.args.event.now p w c.put_call.new.self w (λ s. put s c.in-Function.to (function_by (value_keys own_keys) c.in-Function.name c.in-Function.collation outs))) (ap (map (operand_now c.args.params.now p w)) c.as_slice.ensures ∙ all_read_now m p w c.in-Function.args) (c.put_call.ensures c.args.event.now))
 
-pub returns-in-Merge : goal.returns-in-Merge
-returns-in-Merge c = record { leads = λ ask. rw c.in-Merge.is (c.put_merged.ensures.leads c.args.event.now c.args.tables.now); log = c.put_merged.ensures.log; tables = same_err _ _ }
+pub returns-in-Merge-clause-leads : goal.returns-in-Merge-clause-leads
+returns-in-Merge-clause-leads c ask = rw c.in-Merge.is (c.put_merged.ensures c.args.event.now c.args.tables.now.world)
 
-pub returns-in-OpenRead : goal.returns-in-OpenRead
-returns-in-OpenRead c = record { leads = λ ask. rw c.in-OpenRead.is (c.open.ensures.leads c.args.event.now c.args.tables.now); log = c.open.ensures.log; tables = same_err _ _ }
+pub returns-in-OpenRead-clause-leads : goal.returns-in-OpenRead-clause-leads
+returns-in-OpenRead-clause-leads c ask = rw c.in-OpenRead.is (c.open.ensures c.args.event.now c.args.tables.now.world)
 
-pub returns-in-OpenWrite : goal.returns-in-OpenWrite
-returns-in-OpenWrite c = record { leads = λ ask. rw c.in-OpenWrite.is (c.open-in-OpenWrite.ensures.leads c.args.event.now c.args.tables.now); log = c.open-in-OpenWrite.ensures.log; tables = same_err _ _ }
+pub returns-in-OpenWrite-clause-leads : goal.returns-in-OpenWrite-clause-leads
+returns-in-OpenWrite-clause-leads c ask = rw c.in-OpenWrite.is (c.open-in-OpenWrite.ensures c.args.event.now c.args.tables.now.world)
 
-pub returns-in-Close : goal.returns-in-Close
-returns-in-Close c = record { leads = λ ask. rw c.in-Close.is (c.close.ensures.leads c.args.event.now c.args.tables.now); log = c.close.ensures.log; tables = same_err _ _ }
+pub returns-in-Close-clause-leads : goal.returns-in-Close-clause-leads
+returns-in-Close-clause-leads c ask = rw c.in-Close.is (c.close.ensures c.args.event.now c.args.tables.now.world)
 
-pub returns-in-Rewind : goal.returns-in-Rewind
-returns-in-Rewind c = record { leads = λ ask. rw c.in-Rewind.is (c.jump_where_empty.ensures.leads c.args.event.now); log = c.jump_where_empty.ensures.log; tables = same_err _ _ }
+pub returns-in-CloseFrom-clause-leads : goal.returns-in-CloseFrom-clause-leads
+returns-in-CloseFrom-clause-leads c ask = rw c.in-CloseFrom.is (c.close_from.ensures c.args.event.now c.args.tables.now.world)
 
-pub returns-in-Next : goal.returns-in-Next
-returns-in-Next c = record { leads = λ ask. rw c.in-Next.is (c.jump_where_next.ensures.leads c.args.event.now); log = c.jump_where_next.ensures.log; tables = same_err _ _ }
+pub returns-in-Rewind-clause-leads : goal.returns-in-Rewind-clause-leads
+returns-in-Rewind-clause-leads c ask = rw c.in-Rewind.is (c.jump_where_empty.ensures c.args.event.now)
 
-pub returns-in-Column : goal.returns-in-Column
-returns-in-Column c = record { leads = λ ask. rw c.in-Column.is (c.put_column.ensures.leads c.args.event.now); log = c.put_column.ensures.log; tables = same_err _ _ }
+pub returns-in-Next-clause-leads : goal.returns-in-Next-clause-leads
+returns-in-Next-clause-leads c ask = rw c.in-Next.is (c.jump_where_next.ensures c.args.event.now)
 
-pub returns-in-NewRowid : goal.returns-in-NewRowid
-returns-in-NewRowid c = record { leads = λ ask. rw c.in-NewRowid.is (c.new_rowid.ensures.leads); log = c.new_rowid.ensures.log; tables = same_err _ _ }
+pub returns-in-Column-clause-leads : goal.returns-in-Column-clause-leads
+returns-in-Column-clause-leads c ask = rw c.in-Column.is (c.put_column.ensures c.args.event.now)
 
-pub returns-in-Insert : goal.returns-in-Insert
-returns-in-Insert c = record { leads = λ ask. rw c.in-Insert.is (c.insert_registers.ensures.leads c.args.event.now); log = c.insert_registers.ensures.log; tables = c.insert_registers.ensures.tables }
+pub returns-in-NewRowid-clause-leads : goal.returns-in-NewRowid-clause-leads
+returns-in-NewRowid-clause-leads c ask = rw c.in-NewRowid.is c.new_rowid.ensures
 
-pub returns-in-Schema : goal.returns-in-Schema
-returns-in-Schema c = record { leads = λ ask. rw c.in-Schema.is (c.add_table.ensures.leads c.args.event.now); log = c.add_table.ensures.log; tables = c.add_table.ensures.tables }
+pub returns-in-Insert-clause-leads : goal.returns-in-Insert-clause-leads
+returns-in-Insert-clause-leads c ask = rw c.in-Insert.is (c.insert_registers.ensures.leads c.args.event.now)
+
+pub returns-in-Schema-clause-leads : goal.returns-in-Schema-clause-leads
+returns-in-Schema-clause-leads c ask = rw c.in-Schema.is (c.add_table.ensures.leads c.args.event.now)

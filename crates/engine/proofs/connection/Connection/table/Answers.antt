@@ -15,7 +15,7 @@ returns-in_default-clause-table c =
 pub returns-in-Ok-clause-table : goal.returns-in-Ok-clause-table
 returns-in-Ok-clause-table c =
     let catalog = c.self.inside.database.catalog in
-    let lists = c.self.inside.database.tables in
+    let lists = c.self.inside.database.tables.world in
     let name = c.args.name.now in
     let found = ap (λ entries. place_named entries c.args.name.now) (sym c.entries.ensures) ∙ sym c.in-Some.ensures in
     let lt = place_named-within catalog name c.in-Some.place found in

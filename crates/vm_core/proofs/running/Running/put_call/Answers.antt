@@ -1,6 +1,4 @@
 use Rattle.vm_core.proofs.running.Running.put_call.Goals as goal
 
 pub returns : goal.returns
-returns c =
-    let made = rw c.registers.ensures at c.function-made.ensures in
-    record { leads = c.put_made.ensures.leads _ made; log = c.put_made.ensures.log }
+returns c e = c.put_made.ensures _ c.function-made.ensures e c.args.tables.now.world

@@ -1,6 +1,4 @@
 use Rattle.vm_core.proofs.running.Running.put_merged.Goals as goal
 
 pub returns : goal.returns
-returns c =
-    let made = rw c.registers.ensures at c.merge-made.ensures in
-    record { leads = c.put_made.ensures.leads _ made; log = c.put_made.ensures.log }
+returns c = c.put_made.ensures _ (rw c.registers.ensures at c.merge-made.ensures)

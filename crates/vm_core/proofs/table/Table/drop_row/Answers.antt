@@ -1,7 +1,7 @@
 use Rattle.std.proofs.Common.{◌≡◌, ap, sym, subst, ◌∙◌, rules, w64, to_z, of_z}
 use Rattle.eng_key.specs.Rowids.{rowid_key}
 use Rattle.eng_tree.specs.Map.{without}
-use Rattle.vm_code.specs.Changes.{drop_row}
+use Rattle.vm_core.specs.Changes.{drop_row}
 use Rattle.vm_core.specs.Stored.{IsStored, rows_in}
 use Rattle.vm_core.proofs.Stored.{stored_without, without_rows}
 use Rattle.vm_core.proofs.table.Table.drop_row.Goals as goal
