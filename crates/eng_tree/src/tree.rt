@@ -92,8 +92,8 @@ impl Tree {
         }
     }
 
-    // The pair at a place, or none past the end.
-    fn pair_at(&self, at: usize) -> Option<(&[u8], &[u8])>
+    /// The pair at a place in the order of the keys, or none past the end.
+    pub fn pair_at(&self, at: usize) -> Option<(&[u8], &[u8])>
         ensures { option_map (λ p. (p.0.now, p.1.now)) result ≡ slice_get self.now.pairs at }
     {
         match self.entries.get(at) {

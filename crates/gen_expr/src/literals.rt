@@ -7,15 +7,15 @@ ghost use Rattle.vm_code.specs.Frames.{Leaves, no_calls};
 use eng_value::{Out, Value};
 use sql_meaning::Literal;
 use std::alloc::{AllocError, Global};
-use vm_code::{Builder, Op};
+use vm_code::{Builder, Constant, Op};
 
 /// What a literal stands for.
-pub(crate) fn constant(alloc: Global, literal: &Literal) -> Result<Out, AllocError>
-    ensures { IfOk result (λ out. out ≡ literal_out literal.now) }
+pub(crate) fn constant(alloc: Global, literal: &Literal) -> Result<Constant, AllocError>
+    ensures { IfOk result (λ constant. constant ≡ literal_out literal.now) }
 {
     match literal {
-        Literal::Value(value) => Ok(Out::Good(value.clone()?)),
-        Literal::Bad(cause) => Ok(Out::bad(alloc, cause.clone()?)),
+        Literal::Value(value) => Constant::new(alloc, Out::Good(value.clone()?)),
+        Literal::Bad(cause) => Constant::new(alloc, Out::bad(alloc, cause.clone()?)),
     }
 }
 

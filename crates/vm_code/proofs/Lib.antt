@@ -8,6 +8,7 @@ pub mod Given
 -- How a draft grows with each call of the Builder, what is open along it (`Steady`: `st_then` puts one stretch behind another, `st_op`, `st_fork`,
 -- `st_use`, `st_goto`, `st_leave` are the single instructions, `st_loop` is a loop), and what registers and rows under cursors read:
 pub mod Drafts
+pub mod Stretches
 pub mod Tracks
 pub mod Registers
 -- What a run looks at of the tables:

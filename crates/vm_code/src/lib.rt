@@ -21,5 +21,5 @@ pub use laws::{
     what_was_given_before_has_no_influence,
 };
 pub use op::Op;
-pub use operand::Operand;
+pub use operand::{Constant, Operand};
 pub use program::{Program, Unit};

@@ -1,10 +1,11 @@
 // What is open at the instructions of a unit under construction.
-ghost use Rattle.std.specs.Prelude.{◌≡◌, IfOk, []};
-ghost use Rattle.vm_code.specs.Track.{arrived, at_start, closed, closed_from, opened, passed, with_mark};
+ghost use Rattle.std.specs.Prelude.{◌≡◌, ◌∷◌, ◌++◌, IfOk, []};
+ghost use Rattle.vm_code.specs.Track.{arrived, at_start, behind, closed, closed_from, opened, passed, with_mark};
 
 use crate::way::Way;
 use std::alloc::{AllocError, Global};
 use std::marker::Model;
+use std::mem;
 use std::rc::Rc;
 
 /// The cursors that are open somewhere, in the order in which they were opened. Copies share them; where none is open there is nothing to share.
@@ -98,23 +99,33 @@ impl OpenSet {
     }
 }
 
-/// What is open in front of each instruction, behind the last one and at each label.
+/// Instructions one after another, in front of each of which the same is open.
+#[derive(Drop)]
+struct Stretch {
+    count: usize,
+    open: Option<OpenSet>,
+}
+
+/// What is open in front of each instruction, behind the last one and at each label. Most instructions change nothing of it, so that
+/// the instructions are counted by stretches: those that have come to an end, and how many came since.
 #[derive(Drop)]
 pub(crate) struct Track {
     alloc: Global,
-    opens: Vec<Option<OpenSet>>,
+    ended: Vec<Stretch>,
+    since: usize,
     now: Option<OpenSet>,
     marks: Vec<Option<OpenSet>>,
 }
 
 impl Model for Track {
+    ghost use Rattle.vm_code.specs.Stretches.{opens_of};
     ghost use Rattle.vm_code.specs.Track.{Track};
 
     ghost Value = { Track };
 
     ghost view = { λ t.
         record {
-          opens = t.opens.items;
+          opens = opens_of t.ended.items t.since t.now;
           now = t.now;
           marks = t.marks.items;
         } };
@@ -126,7 +137,8 @@ impl Track {
     {
         Track {
             alloc,
-            opens: Vec::new(alloc),
+            ended: Vec::new(alloc),
+            since: 0,
             now: Some(OpenSet::none()),
             marks: Vec::new(alloc),
         }
@@ -136,28 +148,43 @@ impl Track {
     pub(crate) fn pass(&mut self, way: Way) -> Result<(), AllocError>
         ensures { IfOk result (λ _. self.new ≡ passed way self.old) }
     {
-        self.opens.push(self.now.clone()?)?;
+        self.count()?;
         match way {
-            Way::Continues => {}
-            Way::Opens(cursor) => {
-                if let Some(open) = &self.now {
-                    self.now = Some(open.opened(self.alloc, cursor)?);
-                }
+            Way::Continues => Ok(()),
+            Way::Forks(_) => Ok(()),
+            _ => {
+                let behind = open_behind(self.alloc, way, &self.now)?;
+                self.change(behind)
             }
-            Way::Closes(cursor) => {
-                if let Some(open) = &self.now {
-                    self.now = Some(open.closed(self.alloc, cursor)?);
-                }
-            }
-            Way::ClosesFrom(cursor) => {
-                if let Some(open) = &self.now {
-                    self.now = Some(open.closed_from(self.alloc, cursor)?);
-                }
-            }
-            Way::Forks(_) => {}
-            Way::Jumps(_) => self.now = None,
-            Way::Leaves => self.now = None,
         }
+    }
+
+    /// Counts an instruction in front of which is open what is open now.
+    #[tactic(auto, using(crate::proofs::Stretches::one_more))]
+    fn count(&mut self) -> Result<(), AllocError>
+        ensures { IfOk result (λ _. self.new ≡ record self.old { opens = self.old.opens ++ self.old.now ∷ [] }) }
+    {
+        match self.since.checked_add(1) {
+            Some(since) => {
+                self.since = since;
+                Ok(())
+            }
+            None => Err(AllocError),
+        }
+    }
+
+    /// From here on this is open.
+    #[tactic(auto, using(crate::proofs::Stretches::ended))]
+    fn change(&mut self, now: Option<OpenSet>) -> Result<(), AllocError>
+        ensures { IfOk result (λ _. self.new ≡ record self.old { now = now }) }
+    {
+        self.ended.reserve(1)?;
+        let open = mem::replace(&mut self.now, now);
+        self.ended.push_reserved(Stretch {
+            count: self.since,
+            open,
+        });
+        self.since = 0;
         Ok(())
     }
 
@@ -173,10 +200,32 @@ impl Track {
     pub(crate) fn arrive(&mut self, label: usize) -> Result<(), AllocError>
         ensures { IfOk result (λ _. self.new ≡ arrived self.old label) }
     {
-        self.now = match self.marks.get(label) {
+        let mark = match self.marks.get(label) {
             Some(mark) => mark.clone()?,
             None => None,
         };
-        Ok(())
+        self.change(mark)
+    }
+}
+
+/// What is open behind an instruction, where this is open in front of it.
+fn open_behind(
+    alloc: Global,
+    way: Way,
+    front: &Option<OpenSet>,
+) -> Result<Option<OpenSet>, AllocError>
+    ensures { IfOk result (λ left. left ≡ behind way front.now) }
+{
+    let Some(open) = front else {
+        return Ok(None);
+    };
+    match way {
+        Way::Continues => Ok(Some(open.clone()?)),
+        Way::Forks(_) => Ok(Some(open.clone()?)),
+        Way::Opens(cursor) => Ok(Some(open.opened(alloc, cursor)?)),
+        Way::Closes(cursor) => Ok(Some(open.closed(alloc, cursor)?)),
+        Way::ClosesFrom(cursor) => Ok(Some(open.closed_from(alloc, cursor)?)),
+        Way::Jumps(_) => Ok(None),
+        Way::Leaves => Ok(None),
     }
 }

@@ -1,10 +1,5 @@
-mod RowsLess
-mod Stored
 mod Puts
-mod TakingBack
-mod Marks
 mod Steps
 mod RegisterLaws
-mod Columns
 mod OperandLaws
 mod Closing

@@ -1,44 +1,9 @@
--- A row or a table more.
-use Rattle.std.proofs.Common.{◌≡◌, ℕ, ◌+◌, ◌<◌, List, [], ◌∷◌, ◌++◌, true, false, Some, None, length, sym, ap, ◌∙◌, subst, get_or}
-use Rattle.std.specs.Prelude.{if◌then◌else◌, pos, reverse, slice_set}
-use Rattle.std.proofs.lemmas.List.{get_or_read}
+-- A row goes into a cursor's table.
+use Rattle.std.proofs.Common.{◌≡◌, ℕ, Some, ap}
 use Rattle.eng_value.specs.StoredRows.{StoredRow}
-use Rattle.eng_value.specs.Written.{Written, unwritten}
-use Rattle.vm_code.specs.Machine.{World, IsSound, Cursor, Closed, Open, Holding, Standing, inserted, is_free, rows_of, row_under, put_row, with_row}
-use Rattle.vm_code.proofs.Kept.{free_parts, sound_with_row, sound_with_table}
-use Rattle.vm_core.specs.declared.change.Change.{Change}
-use Rattle.vm_core.specs.declared.change.Change.TheVariants.{RowPut, TableAdded}
-use Rattle.vm_core.specs.Changes.{Descend, IsJournal, at_marks, undone}
+use Rattle.eng_value.specs.Written.{Written}
+use Rattle.vm_code.specs.Machine.{Cursor, Closed, Open, Holding, Standing, inserted, with_row}
 use Rattle.vm_core.specs.Cursors.{table_of}
-use Rattle.vm_core.proofs.Marks.{descend_logged, marks_logged}
-use Rattle.vm_core.proofs.TakingBack.{undone-RowPut, undone-TableAdded}
-
--- `rows` is those of table number t
-pub here : (w : World) (t : ℕ) (rows : List StoredRow) → t < length w → rows ≡ get_or w t rows → rows ≡ rows_of w t
-here w t rows lt is = get_or_read w t rows lt is []
-
-pub free_row : (w : World) (t : ℕ) (r : StoredRow) (rows : List StoredRow) → is_free w t r.rowid ≡ true → rows ≡ get_or w t rows → row_under rows r.rowid ≡ None
-free_row w t r rows free is =
-    let parts = free_parts w t r.rowid free in
-    subst (λ rs. row_under rs r.rowid ≡ None) (sym (here w t rows parts.0 is)) parts.1
-
--- what a row more leaves where its rowid is free
-pub put_free : (x : Written) (t : ℕ) (r : StoredRow) → is_free x.world t r.rowid ≡ true → with_row x t r ≡ record x { world = slice_set x.world t (put_row (rows_of x.world t) r); changes = x.changes + 1; last_rowid = r.rowid }
-put_free x t r free =
-    ap (λ b. if b then record x { world = slice_set x.world t (put_row (rows_of x.world t) r); changes = x.changes + 1; last_rowid = r.rowid } else x) free
-
-pub sound_put : (w : World) (t : ℕ) (r : StoredRow) → IsSound w → is_free w t r.rowid ≡ true → IsSound (slice_set w t (put_row (rows_of w t) r))
-sound_put w t r sound free =
-    let x = unwritten w (pos 0) in
-    subst (λ (y : Written). IsSound y.world) (put_free x t r free) (sound_with_row x t r sound)
-
--- tables in which one has the row more
-pub put_in : (w : World) (t : ℕ) (r : StoredRow) (rows new : List StoredRow) → t < length w → rows ≡ get_or w t rows → new ≡ put_row rows r → slice_set w t new ≡ slice_set w t (put_row (rows_of w t) r)
-put_in w t r rows new lt is e = ap (slice_set w t) (e ∙ ap (λ rs. put_row rs r) (here w t rows lt is))
-
-pub put_taken : (x : Written) (t : ℕ) (r : StoredRow) → is_free x.world t r.rowid ≡ false → with_row x t r ≡ x
-put_taken x t r taken =
-    ap (λ b. if b then record x { world = slice_set x.world t (put_row (rows_of x.world t) r); changes = x.changes + 1; last_rowid = r.rowid } else x) taken
 
 -- a row goes into the table of an open cursor
 pub inserted_at : (x : Cursor) (t : ℕ) → Some t ≡ table_of x → (y : Written) (r : StoredRow) → inserted x y r ≡ with_row y t r
@@ -46,40 +11,3 @@ inserted_at Closed t e y r = absurd (cc)
 inserted_at (Open table place) t e y r = let same : table ≡ t = cc in ap (λ k. with_row y k r) same
 inserted_at (Holding rows) t e y r = absurd (cc)
 inserted_at (Standing row rest) t e y r = absurd (cc)
-
--- ---- the journal, behind a row more
-
-module _ (w : World) (log : List Change) (places : List ℕ) (t : ℕ) (r : StoredRow) (rows new : List StoredRow) (journal : IsJournal w log places) (free : is_free w t r.rowid ≡ true) (is : rows ≡ get_or w t rows) (put : new ≡ put_row rows r) where
-  placed : slice_set w t new ≡ slice_set w t (put_row (rows_of w t) r)
-  placed = put_in w t r rows new (free_parts w t r.rowid free).0 is put
-
-  sound : IsSound (slice_set w t new)
-  sound = subst IsSound (sym placed) (sound_put w t r journal.sound free)
-
-  back : undone (RowPut t r.rowid) (slice_set w t new) ≡ w
-  back = ap (undone (RowPut t r.rowid)) placed ∙ undone-RowPut w t r free
-
-  pub journal_put : (after : List Change) → after ≡ log → IsJournal (slice_set w t new) after places
-  journal_put after same = record { sound = sound; marks = subst (λ l. Descend (length l) (reverse places)) (sym same) journal.marks }
-
-  pub journal_logged : (after : List Change) → after ≡ log ++ RowPut t r.rowid ∷ [] → IsJournal (slice_set w t new) after places
-  journal_logged after same =
-      record { sound = sound; marks = subst (λ l. Descend (length l) (reverse places)) (sym same) (descend_logged log (RowPut t r.rowid) w (slice_set w t new) back places journal.marks) }
-
-  pub marks_put : (after : List Change) → after ≡ log ++ RowPut t r.rowid ∷ [] → at_marks places after (slice_set w t new) ≡ at_marks places log w
-  marks_put after same =
-      ap (λ l. at_marks places l (slice_set w t new)) same ∙ marks_logged log (RowPut t r.rowid) w (slice_set w t new) back places journal.marks
-
--- behind a table more
-module _ (w v : World) (log after : List Change) (places : List ℕ) (journal : IsJournal w log places) (more : v ≡ w ++ [] ∷ []) (same : after ≡ log ++ TableAdded ∷ []) where
-  table_back : undone TableAdded v ≡ w
-  table_back = ap (undone TableAdded) more ∙ undone-TableAdded w []
-
-  pub journal_added : IsJournal v after places
-  journal_added = record {
-    sound = subst IsSound (sym more) (sound_with_table (unwritten w (pos 0)) journal.sound);
-    marks = subst (λ l. Descend (length l) (reverse places)) (sym same) (descend_logged log TableAdded w v table_back places journal.marks);
-  }
-
-  pub marks_added : at_marks places after v ≡ at_marks places log w
-  marks_added = ap (λ l. at_marks places l v) same ∙ marks_logged log TableAdded w v table_back places journal.marks

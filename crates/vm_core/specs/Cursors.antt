@@ -1,18 +1,8 @@
--- Where a cursor comes to, and what stands in its row.
-use Rattle.std.specs.Prelude.{◌≡◌, ℕ, ℤ, Bool, true, false, [], ◌∷◌, Some, None, is_some, slice_get}
-use Rattle.std.specs.Option.{option_map}
+-- Where a cursor comes to.
+use Rattle.std.specs.Prelude.{ℕ, Bool, true, false, [], ◌∷◌, Some, None, is_some, slice_get}
 use Rattle.std.specs.declared.option.Option.{Option}
-use Rattle.eng_record.specs.declared.columns.Lent.{Lent}
-use Rattle.eng_record.specs.declared.columns.Lent.TheVariants as lent
-use Rattle.eng_value.specs.StoredRows.{StoredRow}
-use Rattle.eng_value.specs.declared.out.Out.{Out}
-use Rattle.eng_value.specs.declared.out.Out.TheVariants.{Good}
-use Rattle.eng_value.specs.declared.value.Value.TheVariants.{Integer, Text}
-use Rattle.vm_code.specs.Machine.{Row, World, Cursor, Closed, Open, Holding, Standing, rows_of, row_behind}
-use Rattle.vm_store.specs.Held.{held_integer, held_text}
-
-abbrev pub on_row : Option StoredRow → Option ℤ
-on_row row = option_map (λ (r : StoredRow). r.rowid) row
+use Rattle.vm_code.specs.Machine.{World, Cursor, Closed, Open, Holding, Standing, rows_of, row_behind}
+use Rattle.vm_tables.specs.Rows.{on_row}
 
 abbrev pub table_of : Cursor → Option ℕ
 table_of Closed = None
@@ -51,14 +41,3 @@ has_next w (Open table (Some rowid)) = is_some (row_behind (rows_of w table) row
 has_next w (Holding rows) = false
 has_next w (Standing row []) = false
 has_next w (Standing row (next ∷ rest)) = true
-
--- the values of a row; none where there is no row
-abbrev pub values_of : Option StoredRow → Row
-values_of None = []
-values_of (Some r) = r.values
-
--- of a column an integer is lent and a text is, and nothing else
-abbrev pub LendsColumn : Lent → Out → Type 0
-LendsColumn (lent.Integer n) out = out ≡ Good (Integer n)
-LendsColumn (lent.Text text) out = out ≡ Good (Text text.now)
-LendsColumn lent.Other out = (held_integer out ≡ None) × (held_text out ≡ None)

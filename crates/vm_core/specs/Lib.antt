@@ -1,8 +1,5 @@
 pub mod Meant
-pub mod Stored
 pub mod Cursors
-pub mod Changes
-pub mod Marked
 pub mod Paused
 pub mod Operands
 pub mod Events

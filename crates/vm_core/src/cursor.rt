@@ -3,7 +3,8 @@ ghost use Rattle.std.specs.Prelude.{◌≡◌, replicate, IfOk};
 ghost use Rattle.eng_value.specs.Environments.{column_of};
 ghost use Rattle.eng_value.specs.StoredRows.{next_rowid};
 ghost use Rattle.vm_code.specs.Machine.{Closed, closed_from, current, cursor_at, cursor_rows};
-ghost use Rattle.vm_core.specs.Cursors.{LendsColumn, has_first, has_next, on_first, on_next, table_of};
+ghost use Rattle.vm_tables.specs.Rows.{LendsColumn};
+ghost use Rattle.vm_core.specs.Cursors.{has_first, has_next, on_first, on_next, table_of};
 
 use crate::Tables;
 use eng_record::Lent;

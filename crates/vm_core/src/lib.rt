@@ -3,15 +3,12 @@
 //! vm_code says what each instruction does, over tables that are lists (specs/Machine.antt there). Here the same runs over
 //! tables in memory, and the contract of `Machine::step` says that it is the same, event by event: the event is the next one
 //! of the machine over lists after exactly as many instructions as were counted. An instruction counts when it was done: one that
-//! finds no memory counts nothing. `Tables` keeps marks, and goes back to the last by `undo`, whatever a run did since.
+//! finds no memory counts nothing. The tables are vm_tables', which keep marks, and go back to the last whatever a run did since.
 //! Begin with `machine`; `execute` has one arm for each instruction, whose method stands in `jumping`, `writing`, `calling` or
-//! `running`, and `operands`, `values`, `cursor` and `tables` do the work; what registers, cursors and frames hold is vm_store's.
-//! `table` alone knows that a table's rows stand in a tree, as records under the keys of their rowids (specs/Stored.antt), and `change`
-//! how a change is taken back (specs/Changes.antt).
+//! `running`, and `operands`, `values` and `cursor` do the work; what registers, cursors and frames hold is vm_store's.
 #![tactic(auto)]
 
 mod calling;
-mod change;
 mod cursor;
 mod event;
 mod execute;
@@ -21,12 +18,10 @@ mod machine;
 mod operands;
 mod pace;
 mod running;
-mod table;
-mod tables;
 mod values;
 mod writing;
 
 pub use event::{Budget, Event};
 pub use hosts::Hosts;
 pub use machine::Machine;
-pub use tables::Tables;
+pub use vm_tables::Tables;

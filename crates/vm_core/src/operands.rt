@@ -211,7 +211,7 @@ impl Running {
     {
         match operand {
             Operand::Register(register) => Ok(lent(self.registers(), *register)),
-            Operand::Constant(out) => Ok(Reading::Lent(out)),
+            Operand::Constant(out) => Ok(Reading::Lent(out.get())),
             Operand::Parameter(number) => Ok(Reading::Own(parameter(
                 params.as_slice(),
                 alloc,
@@ -231,7 +231,7 @@ impl Running {
     {
         match operand {
             Operand::Register(register) => self.registers().integer_at(*register),
-            Operand::Constant(out) => held_integer(out),
+            Operand::Constant(out) => held_integer(out.get()),
             Operand::Parameter(number) => integer_parameter(params.as_slice(), *number),
             Operand::Argument(number) => self.arguments().integer_at(*number),
             Operand::Column { cursor, column } => self.integer_in(tables, *cursor, *column),
@@ -260,7 +260,7 @@ impl Running {
     {
         match operand {
             Operand::Register(register) => self.registers().text_at(*register),
-            Operand::Constant(out) => held_text(out),
+            Operand::Constant(out) => held_text(out.get()),
             Operand::Parameter(number) => text_parameter(params.as_slice(), *number),
             Operand::Argument(number) => self.arguments().text_at(*number),
             Operand::Column { cursor, column } => self.text_in(tables, *cursor, *column),

@@ -9,8 +9,9 @@ ghost use Rattle.eng_value.specs.declared.out.Out.{Out as MeantOut};
 ghost use Rattle.eng_value.specs.declared.out.Out.TheVariants.{Good};
 ghost use Rattle.eng_value.specs.declared.value.Value.TheVariants as sql;
 ghost use Rattle.eng_value.specs.declared.value.Value.TheVariants.{Integer, Null};
-ghost use Rattle.vm_code.specs.Machine.{Closed, Open, closed_from, code_of, current, cursor_at, cursor_rows, inserted, jump, put, read as read_of, skip, values_from, with_cursor, with_cursors, with_given, with_row, with_table, wrote};
-ghost use Rattle.vm_core.specs.Cursors.{LendsColumn, has_first, has_next, on_first, on_next};
+ghost use Rattle.vm_code.specs.Machine.{Closed, Open, closed_from, code_of, current, cursor_at, cursor_rows, inserted, is_bad, jump, put, read as read_of, skip, values_from, with_cursor, with_cursors, with_given, with_row, with_table, wrote};
+ghost use Rattle.vm_tables.specs.Rows.{LendsColumn};
+ghost use Rattle.vm_core.specs.Cursors.{has_first, has_next, on_first, on_next};
 ghost use Rattle.vm_core.specs.Events.{Acts, ActsOn, StopsOrActs};
 ghost use Rattle.vm_core.specs.Paused.{first_progress, state_at, written_of};
 ghost use Rattle.vm_core.specs.Tests.{passes};
@@ -26,7 +27,7 @@ use eng_value::{Affinity, Out, StoredRow, Text, Value};
 use std::alloc::{AllocError, Global};
 use std::marker::Model;
 use vm_code::{Op, Program, Unit};
-use vm_store::{Cursor, Frames, Registers};
+use vm_store::{Cursor, Frames, Registers, is_bad};
 
 /// The frame that runs, the frames that wait, how many rows were changed, and the rowid of the last row that was put. A register, an
 /// argument, a cursor or an instruction that is not there counts as the machine over lists says.
@@ -223,6 +224,13 @@ impl Running {
     {
         let null = Out::Good(Value::Null);
         test.passes(alloc, self.registers.read(register, &null))
+    }
+
+    /// Whether a register is bad.
+    pub fn holds_bad(&self, register: u32) -> bool
+        ensures { result ≡ is_bad (read_of self.now.regs register) }
+    {
+        is_bad(self.registers.read(register, &Out::Good(Value::Null)))
     }
 
     /// Turns a register into what a column of the affinity would hold, and goes on.

@@ -238,14 +238,19 @@ impl Running {
         self.put_made(to, made)
     }
 
-    /// Adds the causes of a register.
+    /// Adds the causes of a register. Of one that is good there are none, and nothing is written.
+    #[tactic(auto, using(crate::proofs::RegisterLaws::good_adds_nothing))]
     #[inline(never)]
     pub(crate) fn put_merged(&mut self, from: u32, to: u32) -> Result<Pace, AllocError>
         requires { self.old.pc + 1 < 2 ^ 64 }
         ensures { Acts result self.old self.new (λ s. put s to (merged (read_of s.regs from) (read_of s.regs to))) }
     {
-        let made = merge(self.registers(), from, to);
-        self.put_made(to, made)
+        if self.holds_bad(from) {
+            let made = merge(self.registers(), from, to);
+            return self.put_made(to, made);
+        }
+        self.go_on();
+        Ok(Pace::Going)
     }
 
     /// Writes a column of the row under a cursor.

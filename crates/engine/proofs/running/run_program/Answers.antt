@@ -3,7 +3,7 @@ use Rattle.host_traits.specs.Faults.{Rose}
 use Rattle.vm_code.specs.Honesty.{ProgramIsTold}
 use Rattle.vm_code.specs.Machine.{Setting, State, setting, start}
 use Rattle.vm_core.specs.Events.{NoneInVain}
-use Rattle.vm_core.specs.Marked.{Marked}
+use Rattle.vm_tables.specs.Marked.{Marked}
 use Rattle.vm_core.specs.Paused.{Paused, at_start, state_of}
 use Rattle.engine.specs.Stretches.{DriveIs}
 use Rattle.engine.proofs.Stretches.{of_program, stopped, finished}

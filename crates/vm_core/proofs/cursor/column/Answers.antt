@@ -2,7 +2,7 @@ use Rattle.std.proofs.Common.{◌≡◌, ap, rules, sym, w64, to_z, of_z, ◌∙
 use Rattle.eng_value.specs.Environments.{column_of}
 use Rattle.eng_value.specs.declared.out.Out.TheVariants.{Good}
 use Rattle.vm_code.specs.Machine.{current, row_under, rows_of}
-use Rattle.vm_core.proofs.Columns.{row_reads}
+use Rattle.vm_tables.proofs.Columns.{row_reads}
 use Rattle.vm_core.proofs.cursor.column.Goals as goal
 
 pub returns-in_ok-value-in-Open-default-Some : goal.returns-in_ok-value-in-Open-default-Some

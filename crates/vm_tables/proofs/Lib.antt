@@ -1,0 +1,7 @@
+mod RowsLess
+mod Stored
+mod Places
+mod Puts
+mod TakingBack
+mod Marks
+pub mod Columns
