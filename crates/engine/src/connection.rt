@@ -17,7 +17,8 @@ use sql_meaning::TableEntry;
 use std::alloc::{AllocError, Global};
 use std::marker::Model;
 use std::sync::ledger::Ledger;
-use vm_core::{Hosts, Tables};
+use vm_core::Hosts;
+use vm_tables::Tables;
 
 /// A connection: the tables of a database in memory, and what its statements leave behind. Contracts see the state of the
 /// definitions, which is always valid, and the budget of a statement in instructions.

@@ -23,7 +23,8 @@ use sql_meaning::{BoundInsert, BoundSelect, TableEntry};
 use std::alloc::Global;
 use std::marker::Brand;
 use std::sync::ledger::Ledger;
-use vm_core::{Hosts, Tables};
+use vm_core::Hosts;
+use vm_tables::Tables;
 
 /// The catalog and the rows of its tables, in one order, and what the last writes left behind.
 #[derive(Drop)]

@@ -13,7 +13,8 @@ use eng_value::{Cause, Meanings, Steps, Value};
 use std::alloc::Global;
 use std::sync::ledger::Ledger;
 use vm_code::Program;
-use vm_core::{Hosts, Tables};
+use vm_core::Hosts;
+use vm_tables::Tables;
 
 /// The cause of a stop; of several any one.
 fn cause_of(stop: Stop) -> Cause

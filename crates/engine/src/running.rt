@@ -15,7 +15,8 @@ use eng_value::{Causes, Meanings, Row, Steps, Value};
 use std::alloc::{AllocError, Global};
 use std::sync::ledger::Ledger;
 use vm_code::Program;
-use vm_core::{Budget, Event, Hosts, Machine, Tables};
+use vm_core::{Budget, Event, Hosts, Machine};
+use vm_tables::Tables;
 
 /// What a program did that ran to its end: how many rows it gave and changed, and the rowid of the last row that was put then.
 #[derive(Clone, Copy)]
