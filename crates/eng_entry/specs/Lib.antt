@@ -1,0 +1,4 @@
+pub mod Entries
+pub mod Examples
+pub mod Names
+pub mod Spaces
