@@ -191,9 +191,24 @@ pub(crate) fn front(len: usize, bytes: &[u8]) -> Result<(&[u8], &[u8]), RecordEr
     Ok(bytes.split_at(len))
 }
 
-/// The number of these bytes, the highest first, in two's complement; none where they are more than eight.
+/// The number of these bytes, the highest first, in two's complement; none where they are more than eight. Short numbers are the
+/// common ones, and need no copy of their bytes.
 #[tactic(auto, unfolding(crate::specs::Reading::signed))]
 pub(crate) fn signed(bytes: &[u8]) -> Option<i64>
+    ensures { SomeIff result (length bytes.now ≤ 8) (signed_of bytes.now) }
+{
+    let s = sign_of(bytes);
+    match bytes {
+        [low] => Some(i64::from_be_bytes([s, s, s, s, s, s, s, *low])),
+        [high, low] => Some(i64::from_be_bytes([s, s, s, s, s, s, *high, *low])),
+        _ => signed_of_several(bytes),
+    }
+}
+
+/// The same of any number of bytes.
+#[inline(never)]
+#[tactic(auto, unfolding(crate::specs::Reading::signed))]
+fn signed_of_several(bytes: &[u8]) -> Option<i64>
     ensures { SomeIff result (length bytes.now ≤ 8) (signed_of bytes.now) }
 {
     let padding = 8_usize.checked_sub(bytes.len())?;

@@ -6,11 +6,11 @@ ghost use Rattle.vm_code.specs.Machine.{Closed, closed_from, current, cursor_at,
 ghost use Rattle.vm_tables.specs.Rows.{LendsColumn};
 ghost use Rattle.vm_core.specs.Cursors.{has_first, has_next, on_first, on_next, table_of};
 
-use crate::Tables;
 use eng_record::Lent;
 use eng_value::{Out, Value};
 use std::alloc::{AllocError, Global};
 use vm_store::{Cursor, Spot};
+use vm_tables::Tables;
 
 /// The table of a cursor of this number; none where it is closed.
 pub(crate) fn table_at(cursors: &[Cursor], number: usize) -> Option<u32>

@@ -5,13 +5,14 @@ ghost use Rattle.eng_value.specs.HostMeanings.{Oracle, no_hosts};
 ghost use Rattle.eng_value.specs.StoredRows.{next_rowid};
 ghost use Rattle.vm_core.specs.Events.{ActsAs, ActsOver};
 
+use crate::Event;
 use crate::jumping::Test;
 use crate::pace::Pace;
 use crate::running::Running;
-use crate::{Event, Tables};
 use eng_value::{Cause, Causes, Row, Text};
 use std::alloc::{AllocError, Global};
 use vm_code::{Op, Program};
+use vm_tables::Tables;
 
 /// Runs the instruction that comes next. Where the run stops or pauses for an event, that is left in `event`.
 pub(crate) fn instruction(

@@ -4,12 +4,12 @@ ghost use Rattle.vm_code.specs.Machine.{advanced, cursor_at, jump_if, read as re
 ghost use Rattle.vm_core.specs.Events.{Acts, ActsOn};
 ghost use Rattle.vm_core.specs.Tests.{passes};
 
-use crate::Tables;
 use crate::pace::Pace;
 use crate::running::Running;
 use eng_value::Out;
 use std::alloc::{AllocError, Global};
 use vm_store::{is_accepted, is_bad, is_known, is_null, is_rejected};
+use vm_tables::Tables;
 
 /// What a jump asks of a register.
 #[derive(Clone, Copy)]

@@ -24,4 +24,3 @@ mod writing;
 pub use event::{Budget, Event};
 pub use hosts::Hosts;
 pub use machine::Machine;
-pub use vm_tables::Tables;

@@ -10,12 +10,13 @@ ghost use Rattle.vm_core.specs.Paused.{at_start, state_of};
 use crate::execute::instruction;
 use crate::pace::Pace;
 use crate::running::Running;
-use crate::{Budget, Event, Hosts, Tables};
+use crate::{Budget, Event, Hosts};
 use eng_value::{Meanings, Row, Steps};
 use std::alloc::{AllocError, Global};
 use std::marker::Model;
 use std::sync::ledger::Ledger;
 use vm_code::Program;
+use vm_tables::Tables;
 
 /// A program, its parameters, and what its run has come to, between two instructions.
 #[derive(Drop)]

@@ -12,7 +12,6 @@ ghost use Rattle.vm_code.specs.Machine.{current, cursor_at, read as read_of};
 ghost use Rattle.vm_core.specs.Operands.{operand_now, out_in};
 ghost use Rattle.vm_store.specs.Held.{held_integer, held_text};
 
-use crate::Tables;
 use crate::running::Running;
 use crate::values::{integer_parameter, parameter, text_parameter};
 use eng_operator as operator;
@@ -22,6 +21,7 @@ use eng_value::{BinaryOperator, Builtin, Collation, Out, Row, UnaryOperator, Val
 use std::alloc::{AllocError, Global};
 use vm_code::Operand;
 use vm_store::{Registers, held_integer, held_text};
+use vm_tables::Tables;
 
 /// What an operand reads: lent where it stands somewhere as it is, and else a copy.
 #[derive(Drop)]

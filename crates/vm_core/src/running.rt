@@ -16,18 +16,19 @@ ghost use Rattle.vm_core.specs.Events.{Acts, ActsOn, StopsOrActs};
 ghost use Rattle.vm_core.specs.Paused.{first_progress, state_at, written_of};
 ghost use Rattle.vm_core.specs.Tests.{passes};
 
+use crate::Event;
 use crate::calling::unit_at;
 use crate::cursor::{advance, close_from, closed, column, lent, next_rowid, rewind, table_at};
 use crate::jumping::Test;
 use crate::pace::Pace;
 use crate::values::stored;
-use crate::{Event, Tables};
 use eng_record::Lent;
 use eng_value::{Affinity, Out, StoredRow, Text, Value};
 use std::alloc::{AllocError, Global};
 use std::marker::Model;
 use vm_code::{Op, Program, Unit};
 use vm_store::{Cursor, Frames, Registers, is_bad};
+use vm_tables::Tables;
 
 /// The frame that runs, the frames that wait, how many rows were changed, and the rowid of the last row that was put. A register, an
 /// argument, a cursor or an instruction that is not there counts as the machine over lists says.

@@ -14,7 +14,6 @@ ghost use Rattle.vm_code.specs.Machine.{current, cursor_at, inserted, integer_in
 ghost use Rattle.vm_core.specs.Events.{Acts, ActsOn};
 ghost use Rattle.vm_core.specs.Operands.{operand_now};
 
-use crate::Tables;
 use crate::pace::Pace;
 use crate::running::Running;
 use crate::values::{merge, parameter};
@@ -25,6 +24,7 @@ use eng_value::{
 };
 use std::alloc::{AllocError, Global};
 use vm_code::Operand;
+use vm_tables::Tables;
 
 impl Running {
     /// Writes a copy of a text.

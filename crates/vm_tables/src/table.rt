@@ -90,6 +90,7 @@ impl Table {
     }
 
     /// The rowid of the first row behind a rowid, by its key.
+    #[inline(never)]
     fn behind_key(&self, rowid: i64, near: &mut usize) -> Option<i64>
         ensures { result ≡ on_row (row_behind self.now rowid) }
     {
@@ -147,8 +148,16 @@ impl Table {
     {
         match self.tree.pair_at(near) {
             Some((key, record)) if rowid_of_key(key) == Some(rowid) => Some(record),
-            _ => self.tree.get_near(&rowid_key(rowid), near),
+            _ => self.record_by_key(rowid, near),
         }
+    }
+
+    /// The same by its key.
+    #[inline(never)]
+    fn record_by_key(&self, rowid: i64, near: usize) -> Option<&[u8]>
+        ensures { IsRecord (option_map (λ v. v.now) result) (row_under self.now rowid) }
+    {
+        self.tree.get_near(&rowid_key(rowid), near)
     }
 
     /// The value in a column of the row of this rowid, NULL where there is none.

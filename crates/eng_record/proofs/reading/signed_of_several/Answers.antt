@@ -3,7 +3,7 @@ use borrow.Rule.Slice.PartMut.{put_mid}
 use Rattle.std.specs.Int.{from_be_bytes, cast_signed}
 use Rattle.eng_record.specs.Reading.{signed}
 use Rattle.eng_record.proofs.ReadingLoops.{padded}
-use Rattle.eng_record.proofs.reading.signed.Goals as goal
+use Rattle.eng_record.proofs.reading.signed_of_several.Goals as goal
 
 pub returns : goal.returns
 unfolding signed
