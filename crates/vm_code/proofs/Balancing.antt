@@ -60,7 +60,7 @@ placed-way at (op.Next c target) = (refl, refl)
 placed-way at (op.Column c k to) = (refl, refl)
 placed-way at (op.NewRowid c to table) = (refl, refl)
 placed-way at (op.Insert c rowid first n) = (refl, refl)
-placed-way at op.Schema = (refl, refl)
+placed-way at (op.Schema change) = (refl, refl)
 
 behind-at : (at : ℕ → ℕ) (w : Way) (now : Option OpenSet) → behind (at_way at w) now ≡ behind w now
 behind-at at way.Continues now = refl

@@ -126,7 +126,7 @@ module _ (g : List Row) where
   act_given m (Some (op.Column c k to)) s = refl
   act_given m (Some (op.NewRowid c to name)) s = drawn_given s to name (next_rowid (cursor_rows (world_of s.shared) (cursor_at s.scene.cursors c)))
   act_given m (Some (op.Insert c rowid first n)) s = refl
-  act_given m (Some op.Schema) s = refl
+  act_given m (Some (op.Schema change)) s = refl
 
   go_on_given : (m : Setting) (n : ℕ) (x : Next) → ((s : State) → after m n (under g s) ≡ prepend g (after m n s)) → go_on (prepend g x) (after m n) ≡ prepend g (go_on x (after m n))
   go_on_given m n (On s) ih = ih s

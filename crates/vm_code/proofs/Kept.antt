@@ -11,7 +11,9 @@ use Rattle.eng_value.specs.declared.out.Out.{Out}
 use Rattle.vm_code.specs.declared.op.Op.{Op}
 use Rattle.vm_code.specs.declared.op.Op.TheVariants as op
 use Rattle.vm_code.specs.declared.program.Unit.{Unit}
-use Rattle.vm_code.specs.Machine.{Row, World, IsSound, rows_of, row_under, put_row, is_free, Cursor, Closed, Open, Holding, Standing, Shared, Frame, State, Setting, Next, On, End, Leaving, Halts, GivesUp, Reaches, act, step, go_on, after, code_of, unit_at, read, outs_from, values_from, integer_in, jump_if, is_accepted, is_rejected, is_null, is_known, is_bad, rewound, rewound_to, advanced, advanced_to, drawn, with_given, with_row, with_table, inserted, called, returned, given_up, leads_to, leaving_of, cursor_at, cursor_rows, row_behind, world_of}
+use Rattle.vm_code.specs.declared.schema_change.SchemaChange.{SchemaChange}
+use Rattle.vm_code.specs.declared.schema_change.SchemaChange.TheVariants.{AddTable, DropTable}
+use Rattle.vm_code.specs.Machine.{Row, World, IsSound, rows_of, row_under, put_row, is_free, Cursor, Closed, Open, Holding, Standing, Shared, Frame, State, Setting, Next, On, End, Leaving, Halts, GivesUp, Reaches, act, step, go_on, after, code_of, unit_at, read, outs_from, values_from, integer_in, jump_if, is_accepted, is_rejected, is_null, is_known, is_bad, rewound, rewound_to, advanced, advanced_to, drawn, with_given, with_row, with_table, with_schema, inserted, called, returned, given_up, leads_to, leaving_of, cursor_at, cursor_rows, row_behind, world_of}
 use Rattle.vm_code.proofs.Rows.{All-cons, All-nil, ascending_put, ascending_nil}
 
 -- what is shared behind an instruction
@@ -19,9 +21,9 @@ abbrev pub shared_of : Next → Shared
 shared_of (On s) = s.shared
 shared_of (End e x) = x
 
--- ---- what giving a row, putting a row and adding a table keep
+-- ---- what giving a row, putting a row and changing the schema keep
 
-module _ (P : Shared → Type 0) (given : (x : Shared) (r : Row) → P x → P (with_given x r)) (row : (x : Shared) (t : ℕ) (r : StoredRow) → P x → P (record x { written = with_row x.written t r })) (table : (x : Shared) → P x → P (record x { written = with_table x.written })) where
+module _ (P : Shared → Type 0) (given : (x : Shared) (r : Row) → P x → P (with_given x r)) (row : (x : Shared) (t : ℕ) (r : StoredRow) → P x → P (record x { written = with_row x.written t r })) (schema : (x : Shared × SchemaChange) → P x.0 → P (record x.0 { written = with_schema x.1 x.0.written })) where
   jump_keeps : (b : Bool) (s : State) (target : ℕ) → P s.shared → P (shared_of (jump_if b s target))
   jump_keeps true s target p = p
   jump_keeps false s target p = p
@@ -114,7 +116,7 @@ module _ (P : Shared → Type 0) (given : (x : Shared) (r : Row) → P x → P (
   act_keeps m (Some (op.Column c k to)) s p = p
   act_keeps m (Some (op.NewRowid c to name)) s p = drawn_keeps s to name (next_rowid (cursor_rows (world_of s.shared) (cursor_at s.scene.cursors c))) p
   act_keeps m (Some (op.Insert c rowid first n)) s p = inserted_keeps (cursor_at s.scene.cursors c) s.shared (record { rowid = integer_in s.regs rowid; values = values_from s.regs first n }) p
-  act_keeps m (Some op.Schema) s p = table s.shared p
+  act_keeps m (Some (op.Schema change)) s p = schema (s.shared, change) p
 
   go_on_keeps : (m : Setting) (n : ℕ) (x : Next) → ((s : State) → P s.shared → P (shared_of (after m n s))) → P (shared_of x) → P (shared_of (go_on x (after m n)))
   go_on_keeps m n (On s) ih p = ih s p
@@ -176,8 +178,12 @@ sound_with_row x t r up =
 pub sound_with_table : (x : Written) → IsSound x.world → IsSound (with_table x).world
 sound_with_table x up = record { ordered = ordered_push x.world [] ascending_nil up.ordered }
 
+pub sound_with_schema : (change : SchemaChange) (x : Written) → IsSound x.world → IsSound (with_schema change x).world
+sound_with_schema AddTable x up = sound_with_table x up
+sound_with_schema (DropTable table) x up = record { ordered = ordered_set x.world table [] ascending_nil up.ordered }
+
 pub sound_shared : (m : Setting) (n : ℕ) (s : State) → IsSound (world_of s.shared) → IsSound (world_of (shared_of (after m n s)))
-sound_shared m n s up = after_keeps HasSound (λ x r p. p) (λ x t r p. sound_with_row x.written t r p) (λ x p. sound_with_table x.written p) m n s up
+sound_shared m n s up = after_keeps HasSound (λ x r p. p) (λ x t r p. sound_with_row x.written t r p) (λ x p. sound_with_schema x.1 x.0.written p) m n s up
 
 -- a machine that goes on has sound tables
 pub sound_after : {m : Setting} {most : ℕ} {s t : State} → Reaches m most s t → IsSound (world_of s.shared) → IsSound (world_of t.shared)

@@ -21,7 +21,9 @@ use Rattle.vm_code.specs.declared.op.Op.TheVariants as op
 use Rattle.vm_code.specs.declared.operand.Operand.{Operand}
 use Rattle.vm_code.specs.declared.operand.Operand.TheVariants as operand
 use Rattle.vm_code.specs.declared.program.Unit.{Unit}
-use Rattle.vm_code.specs.Machine.{World, rows_of, row_under, row_behind, put_row, is_free, Cursor, Closed, Open, Holding, Standing, Frame, State, Ending, Finished, Failed, Leaving, Halts, GivesUp, Setting, Next, On, End, act, step, go_on, after, code_of, unit_at, read, put, skip, jump, operand_of, outs_from, values_from, integer_in, jump_if, is_accepted, is_rejected, is_null, is_known, is_bad, rewound, rewound_to, advanced, advanced_to, drawn, with_row, with_table, with_cursor, with_cursors, inserted, wrote, called, frame_of, returned, resumed, given_up, leads_to, leaving_of, closed_from, current, cursor_at, cursor_rows, row_read, world_of}
+use Rattle.vm_code.specs.declared.schema_change.SchemaChange.{SchemaChange}
+use Rattle.vm_code.specs.declared.schema_change.SchemaChange.TheVariants.{AddTable, DropTable}
+use Rattle.vm_code.specs.Machine.{World, rows_of, row_under, row_behind, put_row, is_free, Cursor, Closed, Open, Holding, Standing, Frame, State, Ending, Finished, Failed, Leaving, Halts, GivesUp, Setting, Next, On, End, act, step, go_on, after, code_of, unit_at, read, put, skip, jump, operand_of, outs_from, values_from, integer_in, jump_if, is_accepted, is_rejected, is_null, is_known, is_bad, rewound, rewound_to, advanced, advanced_to, drawn, with_row, with_schema, with_cursor, with_cursors, inserted, wrote, called, frame_of, returned, resumed, given_up, leads_to, leaving_of, closed_from, current, cursor_at, cursor_rows, row_read, world_of}
 use Rattle.vm_code.proofs.Drafts.{get-append, get-set, get-set_other}
 use Rattle.vm_code.proofs.Rows.{All-cons, All-head, All-tail}
 use Rattle.vm_code.specs.Reading.{opened_by, OpensOnly, IsIn, AreIn, StaysIn, Agree, shared_over, over, Alike}
@@ -37,8 +39,8 @@ module _ (tables : List ℕ) where
   agree_there w v t inside same =
       let x = same t inside in (lt-ltb t (length w) (slice_get_within w t x.0 x.1), lt-ltb t (length v) (slice_get_within v t x.0 x.2))
 
-  agree_set : (w v : World) (t : ℕ) (rows : List StoredRow) → Contains tables t → Agree tables w v → Agree tables (slice_set w t rows) (slice_set v t rows)
-  agree_set w v t rows inside same k known =
+  agree_set : (w v : World) (t : ℕ) (rows : List StoredRow) → Agree tables w v → Agree tables (slice_set w t rows) (slice_set v t rows)
+  agree_set w v t rows same k known =
       ⊎_elim (λ lt. other (omega arith)) (λ le. ⊎_elim (λ lt. other (omega arith)) (λ le2. at (omega arith)) (cases_lt t k)) (cases_lt k t)
     where
       other : k ≢ t → (l : List StoredRow) × (slice_get (slice_set w t rows) k ≡ Some l) × (slice_get (slice_set v t rows) k ≡ Some l)
@@ -46,7 +48,7 @@ module _ (tables : List ℕ) where
 
       at : k ≡ t → (l : List StoredRow) × (slice_get (slice_set w t rows) k ≡ Some l) × (slice_get (slice_set v t rows) k ≡ Some l)
       at e =
-          let x = same t inside in
+          let x = same t (subst (Contains tables) e known) in
           (rows, ap (slice_get (slice_set w t rows)) e ∙ get-set w t rows (slice_get_within w t x.0 x.1), ap (slice_get (slice_set v t rows)) e ∙ get-set v t rows (slice_get_within v t x.0 x.2))
 
   agree_push : (w v : World) (rows : List StoredRow) → Agree tables w v → Agree tables (w ++ rows ∷ []) (v ++ rows ∷ [])
@@ -206,7 +208,7 @@ module _ (tables : List ℕ) where
       where
         rows_put : Alike tables (wrote s (record s.shared.written { world = slice_set w t (put_row (rows_of w t) r); changes = s.shared.written.changes + 1; last_rowid = r.rowid })) (wrote (over v s) (record s.shared.written { world = slice_set v t (put_row (rows_of v t) r); changes = s.shared.written.changes + 1; last_rowid = r.rowid }))
         rows_put =
-            subst (λ rows. Alike tables (wrote s (record s.shared.written { world = slice_set w t (put_row (rows_of w t) r); changes = s.shared.written.changes + 1; last_rowid = r.rowid })) (wrote (over v s) (record s.shared.written { world = slice_set v t (put_row rows r); changes = s.shared.written.changes + 1; last_rowid = r.rowid }))) (agree_rows w v t inside same) (wrote_alike (record s.shared.written { world = slice_set w t (put_row (rows_of w t) r); changes = s.shared.written.changes + 1; last_rowid = r.rowid }) (slice_set v t (put_row (rows_of w t) r)) (agree_set w v t (put_row (rows_of w t) r) inside same))
+            subst (λ rows. Alike tables (wrote s (record s.shared.written { world = slice_set w t (put_row (rows_of w t) r); changes = s.shared.written.changes + 1; last_rowid = r.rowid })) (wrote (over v s) (record s.shared.written { world = slice_set v t (put_row rows r); changes = s.shared.written.changes + 1; last_rowid = r.rowid }))) (agree_rows w v t inside same) (wrote_alike (record s.shared.written { world = slice_set w t (put_row (rows_of w t) r); changes = s.shared.written.changes + 1; last_rowid = r.rowid }) (slice_set v t (put_row (rows_of w t) r)) (agree_set w v t (put_row (rows_of w t) r) same))
 
         by : (b : Bool) → is_free w t r.rowid ≡ b → (c : Bool) → is_free v t r.rowid ≡ c → Alike tables (wrote s (if b then record s.shared.written { world = slice_set w t (put_row (rows_of w t) r); changes = s.shared.written.changes + 1; last_rowid = r.rowid } else s.shared.written)) (wrote (over v s) (if c then record s.shared.written { world = slice_set v t (put_row (rows_of v t) r); changes = s.shared.written.changes + 1; last_rowid = r.rowid } else record s.shared.written { world = v }))
         by true e true f = rows_put
@@ -219,6 +221,11 @@ module _ (tables : List ℕ) where
     inserted_alike (Open t place) r inside = with_row_alike t r inside
     inserted_alike (Holding rows) r inside = wrote_alike s.shared.written v same
     inserted_alike (Standing row rest) r inside = wrote_alike s.shared.written v same
+
+    -- a table that loses its rows may be one that the program does not open
+    schema_alike : (change : SchemaChange) → Alike tables (wrote s (with_schema change s.shared.written)) (wrote (over v s) (with_schema change (record s.shared.written { world = v })))
+    schema_alike AddTable = wrote_alike (with_schema AddTable s.shared.written) (v ++ [] ∷ []) (agree_push w v [] same)
+    schema_alike (DropTable t) = wrote_alike (with_schema (DropTable t) s.shared.written) (slice_set v t []) (agree_set w v t [] same)
 
     act_alike : (o : Op) → All (Contains tables) (opened_by o) → Alike tables (act m (Some o) s) (act m (Some o) (over v s))
     act_alike (op.Goto target) opens = jump_alike target
@@ -261,7 +268,7 @@ module _ (tables : List ℕ) where
         subst (λ rows. Alike tables (drawn s to name (next_rowid (cursor_rows w (cursor_at s.scene.cursors c)))) (drawn (over v s) to name (next_rowid rows))) (sym (cursor_rows_alike (cursor_at s.scene.cursors c) (stays.cursors c))) (drawn_alike to name (next_rowid (cursor_rows w (cursor_at s.scene.cursors c))))
     act_alike (op.Insert c rowid first n) opens =
         inserted_alike (cursor_at s.scene.cursors c) (record { rowid = integer_in s.regs rowid; values = values_from s.regs first n }) (stays.cursors c)
-    act_alike op.Schema opens = wrote_alike (with_table s.shared.written) (v ++ [] ∷ []) (agree_push w v [] same)
+    act_alike (op.Schema change) opens = schema_alike change
 
     step_alike : OpensOnly tables m.prog → Alike tables (step m s) (step m (over v s))
     step_alike only_these = by (slice_get (code_of m.prog s.unit) s.pc) refl

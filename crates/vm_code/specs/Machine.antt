@@ -29,6 +29,8 @@ use Rattle.vm_code.specs.declared.operand.Operand.{Operand}
 use Rattle.vm_code.specs.declared.operand.Operand.TheVariants as operand
 use Rattle.vm_code.specs.declared.program.Program.{Program}
 use Rattle.vm_code.specs.declared.program.Unit.{Unit}
+use Rattle.vm_code.specs.declared.schema_change.SchemaChange.{SchemaChange}
+use Rattle.vm_code.specs.declared.schema_change.SchemaChange.TheVariants.{AddTable, DropTable}
 
 abbrev pub Row : Type 0
 Row = List Value
@@ -344,6 +346,14 @@ inserted (Standing row rest) x r = x
 abbrev pub with_table : Written → Written
 with_table x = record x { world = x.world ++ [] ∷ [] }
 
+-- the table of a number without its rows; the others and their numbers are as they were, and no row counts as changed
+abbrev pub without_rows : Written → ℕ → Written
+without_rows x table = record x { world = slice_set x.world table [] }
+
+abbrev pub with_schema : SchemaChange → Written → Written
+with_schema AddTable x = with_table x
+with_schema (DropTable table) x = without_rows x table
+
 abbrev pub with_given : Shared → Row → Shared
 with_given x row = record x { given = x.given ++ row ∷ [] }
 
@@ -461,7 +471,7 @@ act m (Some (op.Next c target)) s = advanced (cursor_at s.scene.cursors c) s c t
 act m (Some (op.Column c k to)) s = put s to (column_of (current (world_of s.shared) (cursor_at s.scene.cursors c)) k)
 act m (Some (op.NewRowid c to table)) s = drawn s to table (next_rowid (cursor_rows (world_of s.shared) (cursor_at s.scene.cursors c)))
 act m (Some (op.Insert c rowid first n)) s = wrote s (inserted (cursor_at s.scene.cursors c) s.shared.written (record { rowid = integer_in s.regs rowid; values = values_from s.regs first n }))
-act m (Some op.Schema) s = wrote s (with_table s.shared.written)
+act m (Some (op.Schema change)) s = wrote s (with_schema change s.shared.written)
 
 -- ---- runs
 

@@ -12,6 +12,7 @@ mod laws;
 mod op;
 mod operand;
 mod program;
+mod schema_change;
 mod track;
 mod way;
 
@@ -23,3 +24,4 @@ pub use laws::{
 pub use op::Op;
 pub use operand::{Constant, Operand};
 pub use program::{Program, Unit};
+pub use schema_change::SchemaChange;

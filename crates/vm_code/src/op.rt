@@ -1,5 +1,5 @@
 // The instructions.
-use crate::Operand;
+use crate::{Operand, SchemaChange};
 use eng_value::{Affinity, BinaryOperator, Blob, Builtin, Cause, Collation, Text, UnaryOperator};
 use sqlite_items::Items;
 
@@ -200,6 +200,9 @@ pub enum Op {
         first: u32,
         count: u32,
     },
-    /// Adds a table without rows behind the others. What the catalog keeps of it is the engine's own work.
-    Schema,
+    /// Changes which tables there are as `change` (p4) says: adds one without rows behind the others, or takes all rows from one. What
+    /// the catalog keeps of them is the engine's own work. It counts no row as changed.
+    Schema {
+        change: SchemaChange,
+    },
 }
