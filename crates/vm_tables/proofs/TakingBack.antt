@@ -6,10 +6,10 @@ use Rattle.std.proofs.lemmas.List.Elements.{All-take}
 use Rattle.eng_value.specs.StoredRows.{StoredRow, IsAscending}
 use Rattle.vm_code.specs.Machine.{World, IsSound, is_free, put_row, rows_of}
 use Rattle.vm_code.proofs.Kept.{free_parts, ordered_rows}
-use Rattle.vm_code.proofs.Rows.{All-cons}
+use Rattle.vm_code.proofs.Rows.{All-cons, All-head, All-tail}
 use Rattle.vm_tables.specs.declared.change.Change.{Change}
-use Rattle.vm_tables.specs.declared.change.Change.TheVariants.{RowPut, TableAdded}
-use Rattle.vm_tables.specs.Changes.{before, drop_row, undone}
+use Rattle.vm_tables.specs.declared.change.Change.TheVariants.{RowPut, TableAdded, RowsDropped}
+use Rattle.vm_tables.specs.Changes.{HoldsAscending, before, drop_row, undone}
 use Rattle.vm_tables.proofs.RowsLess.{ascending_drop, drop_row-put_row}
 
 -- ---- one change
@@ -39,6 +39,9 @@ take_front xs x = let e : length (xs ++ x ∷ []) - 1 ≡ length xs = omega (ari
 pub undone-TableAdded : (w : World) (rows : List StoredRow) → undone TableAdded (w ++ rows ∷ []) ≡ w
 undone-TableAdded w rows = take_front w rows
 
+pub undone-RowsDropped : (w : World) (t : ℕ) → t < length w → undone (RowsDropped t (rows_of w t)) (slice_set w t []) ≡ w
+undone-RowsDropped w t lt = set_back w t [] lt
+
 -- ---- several
 
 pub before-append : (cs ds : List Change) (w : World) → before (cs ++ ds) w ≡ before cs (before ds w)
@@ -65,11 +68,13 @@ ordered_set (x ∷ w) zero rows up w_up = All-cons IsAscending rows w up (λ k d
 ordered_set (x ∷ w) (suc t) rows up w_up =
     All-cons IsAscending x (slice_set w t rows) (w_up zero x (omega arith)) (ordered_set w t rows up (λ k d h. w_up (suc k) d (omega arith)))
 
-sound_undone : (c : Change) (w : World) → IsSound w → IsSound (undone c w)
-sound_undone (RowPut t n) w sound =
+sound_undone : (c : Change) (w : World) → HoldsAscending c → IsSound w → IsSound (undone c w)
+sound_undone (RowPut t n) w held sound =
     record { ordered = ordered_set w t (drop_row (rows_of w t) n) (ascending_drop (rows_of w t) n (ordered_rows w t sound)) sound.ordered }
-sound_undone TableAdded w sound = record { ordered = All-take IsAscending (length w - 1) w sound.ordered }
+sound_undone TableAdded w held sound = record { ordered = All-take IsAscending (length w - 1) w sound.ordered }
+sound_undone (RowsDropped t rows) w held sound = record { ordered = ordered_set w t rows held sound.ordered }
 
-pub sound_before : (cs : List Change) (w : World) → IsSound w → IsSound (before cs w)
-sound_before [] w sound = sound
-sound_before (c ∷ cs) w sound = sound_undone c (before cs w) (sound_before cs w sound)
+pub sound_before : (cs : List Change) (w : World) → All HoldsAscending cs → IsSound w → IsSound (before cs w)
+sound_before [] w held sound = sound
+sound_before (c ∷ cs) w held sound =
+    sound_undone c (before cs w) (All-head HoldsAscending c cs held) (sound_before cs w (All-tail HoldsAscending c cs held) sound)

@@ -1,11 +1,11 @@
 -- How changes are taken back, and what the tables were at each mark.
-use Rattle.std.specs.Prelude.{ℕ, ◌-◌, ◌≤◌, ⊤, List, [], ◌∷◌, ℤ, not, drop, length, map, reverse, take, slice_set}
+use Rattle.std.specs.Prelude.{ℕ, ◌-◌, ◌≤◌, ⊤, List, [], ◌∷◌, ℤ, All, not, drop, length, map, reverse, take, slice_set}
 use Rattle.std.specs.List.{filter}
 use Rattle.std.specs.Ordering.{int_eq}
-use Rattle.eng_value.specs.StoredRows.{StoredRow}
+use Rattle.eng_value.specs.StoredRows.{StoredRow, IsAscending}
 use Rattle.vm_code.specs.Machine.{IsSound, World, rows_of}
 use Rattle.vm_tables.specs.declared.change.Change.{Change}
-use Rattle.vm_tables.specs.declared.change.Change.TheVariants.{RowPut, TableAdded}
+use Rattle.vm_tables.specs.declared.change.Change.TheVariants.{RowPut, TableAdded, RowsDropped}
 
 -- the rows of other rowids
 abbrev pub drop_row : List StoredRow → ℤ → List StoredRow
@@ -14,6 +14,7 @@ drop_row rows rowid = filter (λ r. not (int_eq r.rowid rowid)) rows
 abbrev pub undone : Change → World → World
 undone (RowPut table rowid) w = slice_set w table (drop_row (rows_of w table) rowid)
 undone TableAdded w = take (length w - 1) w
+undone (RowsDropped table rows) w = slice_set w table rows
 
 -- the world in front of these changes, of which the last is taken back first
 abbrev pub before : List Change → World → World
@@ -35,7 +36,14 @@ abbrev pub Descend : ℕ → List ℕ → Type 0
 Descend length [] = ⊤
 Descend length (mark ∷ marks) = (mark ≤ length) × Descend mark marks
 
--- what holds of tables and their log: the tables are sound, and the marks lie in the log
+-- the rows that a change holds ascend
+abbrev pub HoldsAscending : Change → Type 0
+HoldsAscending (RowPut table rowid) = ⊤
+HoldsAscending TableAdded = ⊤
+HoldsAscending (RowsDropped table rows) = IsAscending rows
+
+-- what holds of tables and their log: the tables are sound, so are the rows that the log holds, and the marks lie in the log
 pub record IsJournal (w : World) (log : List Change) (places : List ℕ) : Type 0 where
   pub sound : IsSound w
+  pub held : All HoldsAscending log
   pub marks : Descend (length log) (reverse places)

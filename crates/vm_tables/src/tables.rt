@@ -12,6 +12,7 @@ use eng_record::Lent;
 use eng_value::{StoredRow, Value};
 use std::alloc::{AllocError, Global};
 use std::marker::Model;
+use std::mem;
 
 /// The rows of each table, with marks to which they can go back. While there is a mark each change is logged, and a mark is the length
 /// that the log had then. Contracts see the world of the machine over lists, and the worlds at the marks.
@@ -196,6 +197,28 @@ impl Tables {
             return Ok(());
         }
         self.log.push_reserved(Change::TableAdded);
+        Ok(())
+    }
+
+    /// Takes all rows from a table, which stays with its number; where there is no such table nothing changes. While there is a mark the
+    /// rows go to the log as they stand, so that `undo` brings them back without taking memory, and they are freed once the last mark is
+    /// forgotten; without a mark they are freed at once. Takes memory for an entry of the log at most, and time for the rows only where
+    /// they are freed.
+    pub fn drop_rows(&mut self, alloc: Global, table: u32) -> Result<(), AllocError>
+        ensures ok { OnOk result (self.new.world ≡ slice_set self.old.world table []) }
+        ensures err { OnErr result (self.new.world ≡ self.old.world) }
+        ensures marks { self.new.marks ≡ self.old.marks }
+    {
+        let place = table as usize;
+        if place >= self.tables.len() {
+            return Ok(());
+        }
+        self.log.reserve(1)?;
+        let rows = mem::replace(&mut self.tables[place], Table::new(alloc));
+        if self.marks.is_empty() {
+            return Ok(());
+        }
+        self.log.push_reserved(Change::RowsDropped { table, rows });
         Ok(())
     }
 }

@@ -8,5 +8,6 @@ invariant_of-self-else-is_empty c =
     let long : vec_len c.self.inside.marks ≡ length marks = search rules in
     record {
       sound = c.self.invariant.sound;
+      held = c.self.invariant.held;
       marks = descend_popped marks c.pop.new.self.items c.self.inside.log.items (c.pop.ensures.rest ∙ ap (λ n. take (n - 1) marks) long) c.self.invariant.marks;
     }

@@ -1,7 +1,8 @@
 use Rattle.std.proofs.Common.{◌∷◌, ap, sym, ◌∙◌, subst, drop, length, take}
-use Rattle.std.specs.Prelude.{reverse}
+use Rattle.std.specs.Prelude.{All, reverse}
+use Rattle.std.proofs.lemmas.List.Elements.{All-drop, All-take}
 use Rattle.vm_code.specs.Machine.{IsSound}
-use Rattle.vm_tables.specs.Changes.{Descend, at_marks}
+use Rattle.vm_tables.specs.Changes.{Descend, HoldsAscending, at_marks}
 use Rattle.vm_tables.specs.Marked.{Marked}
 use Rattle.vm_tables.proofs.Marks.{descend_undone, marks_undone}
 use Rattle.vm_tables.proofs.TakingBack.{sound_before}
@@ -15,7 +16,8 @@ invariant_of-self c =
     let mark = c.in-Some.mark in
     let down = subst (λ l. Descend (length log) (reverse l)) c.in-Some.ensures.items c.self.invariant.marks in
     record {
-      sound = subst IsSound (sym c.take_back.ensures.tables) (sound_before (drop mark log) w c.self.invariant.sound);
+      sound = subst IsSound (sym c.take_back.ensures.tables) (sound_before (drop mark log) w (All-drop HoldsAscending mark log c.self.invariant.held) c.self.invariant.sound);
+      held = subst (All HoldsAscending) (sym c.take_back.ensures.log) (All-take HoldsAscending mark log c.self.invariant.held);
       marks = subst (λ l. Descend (length l) (reverse rest)) (sym c.take_back.ensures.log) (descend_undone rest log w mark down);
     }
 
