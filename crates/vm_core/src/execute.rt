@@ -150,7 +150,7 @@ fn execute(
             first,
             count,
         } => running.insert_registers(alloc, tables, *cursor, *rowid, *first, *count),
-        Op::Schema => running.add_table(alloc, tables),
+        Op::Schema { change } => running.change_schema(alloc, tables, *change),
     }
 }
 

@@ -9,7 +9,7 @@ ghost use Rattle.eng_value.specs.declared.out.Out.{Out as MeantOut};
 ghost use Rattle.eng_value.specs.declared.out.Out.TheVariants.{Good};
 ghost use Rattle.eng_value.specs.declared.value.Value.TheVariants as sql;
 ghost use Rattle.eng_value.specs.declared.value.Value.TheVariants.{Integer, Null};
-ghost use Rattle.vm_code.specs.Machine.{Closed, Open, closed_from, code_of, current, cursor_at, cursor_rows, inserted, is_bad, jump, put, read as read_of, skip, values_from, with_cursor, with_cursors, with_given, with_row, with_table, wrote};
+ghost use Rattle.vm_code.specs.Machine.{Closed, Open, closed_from, code_of, current, cursor_at, cursor_rows, inserted, is_bad, jump, put, read as read_of, skip, values_from, with_cursor, with_cursors, with_given, with_row, with_schema, with_table, without_rows, wrote};
 ghost use Rattle.vm_tables.specs.Rows.{LendsColumn};
 ghost use Rattle.vm_core.specs.Cursors.{has_first, has_next, on_first, on_next};
 ghost use Rattle.vm_core.specs.Events.{Acts, ActsOn, StopsOrActs};
@@ -26,7 +26,7 @@ use eng_record::Lent;
 use eng_value::{Affinity, Out, StoredRow, Text, Value};
 use std::alloc::{AllocError, Global};
 use std::marker::Model;
-use vm_code::{Op, Program, Unit};
+use vm_code::{Op, Program, SchemaChange, Unit};
 use vm_store::{Cursor, Frames, Registers, is_bad};
 use vm_tables::Tables;
 
@@ -432,14 +432,47 @@ impl Running {
         }
     }
 
-    /// Adds a table without rows behind the others and goes on.
+    /// Changes which tables there are and goes on.
     #[inline(never)]
-    pub fn add_table(&mut self, alloc: Global, tables: &mut Tables) -> Result<Pace, AllocError>
+    pub fn change_schema(
+        &mut self,
+        alloc: Global,
+        tables: &mut Tables,
+        change: SchemaChange,
+    ) -> Result<Pace, AllocError>
+        requires { self.old.pc + 1 < 2 ^ 64 }
+        ensures leads { ActsOn result self.old tables.old.world self.new tables.new.world (λ s. wrote s (with_schema change s.shared.written)) }
+        ensures marks { tables.new.marks ≡ tables.old.marks }
+    {
+        match change {
+            SchemaChange::AddTable => self.add_table(alloc, tables),
+            SchemaChange::DropTable { table } => self.drop_table(alloc, tables, table),
+        }
+    }
+
+    /// Adds a table without rows behind the others and goes on.
+    fn add_table(&mut self, alloc: Global, tables: &mut Tables) -> Result<Pace, AllocError>
         requires { self.old.pc + 1 < 2 ^ 64 }
         ensures leads { ActsOn result self.old tables.old.world self.new tables.new.world (λ s. wrote s (with_table s.shared.written)) }
         ensures marks { tables.new.marks ≡ tables.old.marks }
     {
         tables.add(alloc)?;
+        self.pc += 1;
+        Ok(Pace::Going)
+    }
+
+    /// Takes all rows from a table and goes on.
+    fn drop_table(
+        &mut self,
+        alloc: Global,
+        tables: &mut Tables,
+        table: u32,
+    ) -> Result<Pace, AllocError>
+        requires { self.old.pc + 1 < 2 ^ 64 }
+        ensures leads { ActsOn result self.old tables.old.world self.new tables.new.world (λ s. wrote s (without_rows s.shared.written table)) }
+        ensures marks { tables.new.marks ≡ tables.old.marks }
+    {
+        tables.drop_rows(alloc, table)?;
         self.pc += 1;
         Ok(Pace::Going)
     }

@@ -138,4 +138,4 @@ pub returns-in-Insert-clause-leads : goal.returns-in-Insert-clause-leads
 returns-in-Insert-clause-leads c ask = rw c.in-Insert.is (c.insert_registers.ensures.leads c.args.event.now)
 
 pub returns-in-Schema-clause-leads : goal.returns-in-Schema-clause-leads
-returns-in-Schema-clause-leads c ask = rw c.in-Schema.is (c.add_table.ensures.leads c.args.event.now)
+returns-in-Schema-clause-leads c ask = rw c.in-Schema.is (c.change_schema.ensures.leads c.args.event.now)
