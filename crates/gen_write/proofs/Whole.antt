@@ -1,8 +1,8 @@
--- The programs of an INSERT and of a CREATE TABLE.
+-- The programs of an INSERT, of a CREATE TABLE and a DROP TABLE, and of a statement that does nothing.
 use Rattle.std.proofs.Common.{◌≡◌, ℕ, ◌+◌, ◌*◌, ◌≤◌, List, [], length, find, sum_by, ℤ, Some, None, refl, sym, ap, ◌∙◌, subst, arith}
 use Rattle.eng_value.specs.Environments.{Surroundings}
 use Rattle.gen_write.specs.Stretches.{Puts, holds_bad, left_with, literals_run, refused_run, stored_run}
-use Rattle.gen_write.specs.Writes.{Course, create_run, create_steps, finished, put_run, put_steps, row_steps, run_by, source_of, source_run, untouched}
+use Rattle.gen_write.specs.Writes.{Course, create_run, create_steps, drop_run, drop_steps, finished, nothing_run, nothing_steps, put_run, put_steps, row_steps, run_by, source_of, source_run, untouched}
 use Rattle.gen_write.proofs.Refusals.{first_shared, untouched_is}
 use Rattle.gen_write.proofs.RowRuns.{t_puts}
 use Rattle.gen_write.proofs.Sources.{IsRefused, CoursesSame, TakesNoMore, is_refused, courses_same, takes_no_more}
@@ -11,8 +11,10 @@ use Rattle.sql_meaning.specs.declared.bound.BoundInsert.{BoundInsert}
 use Rattle.sql_meaning.specs.declared.bound.Literal.{Literal}
 use Rattle.vm_code.specs.declared.op.Op.TheVariants as op
 use Rattle.vm_code.specs.declared.program.Program.{Program}
+use Rattle.vm_code.specs.declared.schema_change.SchemaChange.{SchemaChange}
+use Rattle.vm_code.specs.declared.schema_change.SchemaChange.TheVariants.{AddTable, DropTable}
 use Rattle.vm_code.specs.Draft.{Draft, begun, with_op, with_cursor}
-use Rattle.vm_code.specs.Machine.{Closed, Open, Run, Setting, Shared, Performs, Ends, cursor_at, ending_by, setting, start, with_table}
+use Rattle.vm_code.specs.Machine.{Closed, Open, Finished, Run, Setting, Shared, Performs, Ends, cursor_at, ending_by, setting, start, with_schema}
 use Rattle.vm_code.specs.Frames.{no_calls, IsProgramOf}
 use Rattle.vm_code.specs.Balanced.{IsBalanced}
 use Rattle.vm_code.specs.Claims.{Claim, Last, Triple}
@@ -21,7 +23,7 @@ use Rattle.vm_code.proofs.Drafts.{g_cursor}
 use Rattle.vm_code.proofs.Triples.{no_labels, t_seq, t_more, t_draft, t_op, t_halt}
 use Rattle.vm_code.proofs.Loops.{t_move}
 use Rattle.vm_code.proofs.Balancing.{balanced_of}
-use Rattle.vm_code.proofs.Tracks.{st_op, st_opened}
+use Rattle.vm_code.proofs.Tracks.{st_none, st_op, st_opened}
 use Rattle.vm_code.proofs.Whole.{Begins, EndsAs, performs_of}
 
 -- ---- the rows of an INSERT
@@ -104,30 +106,55 @@ refusal-puts b row p e performs =
 pub rows-put : (b : BoundInsert) (p : Program) → find holds_bad b.rows ≡ None → Performs p (stored_run b) (λ x. sum_by row_steps b.rows + 3) → Performs p (put_run b) (put_steps b)
 rows-put b p e performs = performs_as (put_run b) (put_steps b) (rows_are b e) (λ x. omega arith) performs
 
--- ---- CREATE TABLE
+-- ---- CREATE TABLE and DROP TABLE
 
-abbrev pub create_code : Draft
-create_code = with_op (with_op (begun []) op.Schema) op.Halt
+-- at the start of a program that takes no cursor
+abbrev starts : Claim
+starts h0 h = (h ≡ h0) × Begins 0 h0
 
-abbrev start_create : Claim
-start_create h0 h = (h ≡ h0) × Begins 0 h0
+module _ (change : SchemaChange) where
+  abbrev changing : Draft
+  changing = with_op (begun []) (op.Schema change)
 
-abbrev with_table_added : Shared → Shared
-with_table_added x = record x { written = with_table x.written }
+  abbrev pub schema_code : Draft
+  schema_code = with_op changing op.Halt
 
-abbrev created : Claim
-created h0 h = h.shared ≡ with_table_added (first_shared h0)
+  abbrev with_change : Shared → Shared
+  with_change x = record x { written = with_schema change x.written }
 
-pub create-balanced : (p : Program) → IsProgramOf create_code p → IsBalanced p.main
-create-balanced p is =
-    balanced_of [] (with_op (begun []) op.Schema) op.Halt p (st_op [] [] (begun []) op.Schema (refl, refl)) refl refl is
+  abbrev schema_run : Surroundings → ℤ → Run
+  schema_run x last_rowid = record { ending = Finished; shared = with_change (untouched x.world last_rowid) }
 
-pub create-performs : (p : Program) → IsProgramOf create_code p → Performs p create_run create_steps
-create-performs p is = performs_of [] create_code p create_run create_steps is ends
-  where
-    ends : (m : Setting) → Triple m (begun []) create_code (λ h0. 2) no_labels (EndsAs m create_run) start_create (λ h0 h. ⊥)
-    ends m =
-        let last : Last = EndsAs m create_run in
-        let adding : Draft = with_op (begun []) op.Schema in
-        let adds : Triple m (begun []) adding (λ h0. 1) no_labels last start_create created = t_op m (begun []) op.Schema (λ h. record h { shared = with_table_added h.shared }) no_labels last start_create created (λ at s. refl) (λ h. (refl, refl)) (λ h0 h most wide pre. ap with_table_added (untouched_is h0 h pre)) in
-        t_more (λ h0. 2) (λ h0. omega arith) (t_seq adds (t_halt m adding no_labels last created (λ h0 h pre. (refl, pre))))
+  abbrev changed : Claim
+  changed h0 h = h.shared ≡ with_change (first_shared h0)
+
+  pub schema-balanced : (p : Program) → IsProgramOf schema_code p → IsBalanced p.main
+  schema-balanced p is =
+      balanced_of [] changing op.Halt p (st_op [] [] (begun []) (op.Schema change) (refl, refl)) refl refl is
+
+  schema-performs : (p : Program) → IsProgramOf schema_code p → Performs p schema_run (λ x. 2)
+  schema-performs p is = performs_of [] schema_code p schema_run (λ x. 2) is ends
+    where
+      ends : (m : Setting) → Triple m (begun []) schema_code (λ h0. 2) no_labels (EndsAs m schema_run) starts (λ h0 h. ⊥)
+      ends m =
+          let last : Last = EndsAs m schema_run in
+          let changes : Triple m (begun []) changing (λ h0. 1) no_labels last starts changed = t_op m (begun []) (op.Schema change) (λ h. record h { shared = with_change h.shared }) no_labels last starts changed (λ at s. refl) (λ h. (refl, refl)) (λ h0 h most wide pre. ap with_change (untouched_is h0 h pre)) in
+          t_more (λ h0. 2) (λ h0. omega arith) (t_seq changes (t_halt m changing no_labels last changed (λ h0 h pre. (refl, pre))))
+
+pub create-performs : (p : Program) → IsProgramOf (schema_code AddTable) p → Performs p create_run create_steps
+create-performs p is = schema-performs AddTable p is
+
+pub drop-performs : (table : ℕ) (p : Program) → IsProgramOf (schema_code (DropTable table)) p → Performs p (drop_run table) drop_steps
+drop-performs table p is = schema-performs (DropTable table) p is
+
+-- ---- a statement that does nothing
+
+abbrev pub nothing_code : Draft
+nothing_code = with_op (begun []) op.Halt
+
+pub nothing-balanced : (p : Program) → IsProgramOf nothing_code p → IsBalanced p.main
+nothing-balanced p is = balanced_of [] (begun []) op.Halt p (st_none [] [] (begun [])) refl refl is
+
+pub nothing-performs : (p : Program) → IsProgramOf nothing_code p → Performs p nothing_run nothing_steps
+nothing-performs p is =
+    performs_of [] nothing_code p nothing_run nothing_steps is (λ m. t_halt m (begun []) no_labels (EndsAs m nothing_run) starts (λ h0 h pre. (refl, untouched_is h0 h pre)))

@@ -13,7 +13,7 @@ use Rattle.sql_meaning.specs.Expression.{literal_out}
 use Rattle.sql_meaning.specs.Statement.{Item, Row, Failed as Bad, given_of, item_of, refusal_of}
 use Rattle.sql_meaning.specs.declared.bound.BoundInsert.{BoundInsert}
 use Rattle.sql_meaning.specs.declared.bound.Literal.{Literal}
-use Rattle.vm_code.specs.Machine.{World, Finished, Run, Shared, ending_by, rows_of, with_row, with_table, world_of}
+use Rattle.vm_code.specs.Machine.{World, Finished, Run, Shared, ending_by, rows_of, with_row, with_table, without_rows, world_of}
 
 -- nothing is given and nothing is written
 abbrev pub untouched : World → ℤ → Shared
@@ -27,6 +27,23 @@ create_run x last_rowid = record { ending = Finished; shared = record (untouched
 
 abbrev pub create_steps : Surroundings → ℕ
 create_steps x = 2
+
+-- ---- DROP TABLE
+
+-- the table of this number loses its rows
+abbrev pub drop_run : ℕ → Surroundings → ℤ → Run
+drop_run table x last_rowid = record { ending = Finished; shared = record (untouched x.world last_rowid) { written = without_rows (unwritten x.world last_rowid) table } }
+
+abbrev pub drop_steps : Surroundings → ℕ
+drop_steps x = 2
+
+-- ---- a statement that does nothing
+
+abbrev pub nothing_run : Surroundings → ℤ → Run
+nothing_run x last_rowid = record { ending = Finished; shared = untouched x.world last_rowid }
+
+abbrev pub nothing_steps : Surroundings → ℕ
+nothing_steps x = 1
 
 -- ---- INSERT
 

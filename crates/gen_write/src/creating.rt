@@ -6,7 +6,7 @@ ghost use Rattle.vm_code.specs.Machine.{Performs};
 
 use sqlite_items::Items;
 use std::alloc::{AllocError, Global};
-use vm_code::{Builder, Op, Program};
+use vm_code::{Builder, Op, Program, SchemaChange};
 
 /// The program of a CREATE TABLE (SQL As Understood By SQLite, "CREATE TABLE"), which adds the table's list of rows behind the
 /// others. What the catalog keeps of the table is not its work. Only memory can fail.
@@ -15,7 +15,9 @@ pub fn compile_create(alloc: Global) -> Result<Program, AllocError>
     ensures balanced { IfOk result (λ p. IsBalanced p.main) }
 {
     let mut b = Builder::new(alloc, Items::new(alloc));
-    b.op(Op::Schema)?;
+    b.op(Op::Schema {
+        change: SchemaChange::AddTable,
+    })?;
     b.op(Op::Halt)?;
     Ok(b.finish_program())
 }
