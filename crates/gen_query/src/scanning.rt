@@ -97,7 +97,6 @@ pub(crate) fn emit_row(
 {
     let next = b.label()?;
     let causes = b.take()?;
-    b.op(Op::Null { to: causes })?;
     emit_conjuncts(alloc, b, conjuncts, causes, next)?;
     let first = b.next_register();
     emit_results(alloc, b, results)?;
