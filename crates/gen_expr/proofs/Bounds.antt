@@ -3,13 +3,15 @@ use Rattle.std.proofs.Common.{arith, subst, ◌≡◌, ℕ, ◌+◌, ◌*◌, �
 use Rattle.std.specs.Prelude.{sum, sum_by}
 use Rattle.std.proofs.Math.Nat.{mul-le-mul_left}
 use Rattle.std.proofs.lemmas.List.Sums.{sum_by-cons}
+use Rattle.eng_value.specs.declared.operators.BinaryOperator.{BinaryOperator}
+use Rattle.eng_value.specs.declared.operators.BinaryOperator.TheVariants as binary
 use Rattle.sql_meaning.specs.declared.bound.BoundArm.{BoundArm}
 use Rattle.sql_meaning.specs.declared.bound.BoundExpr.{BoundExpr}
 use Rattle.sql_meaning.specs.declared.bound.BoundExpr.TheFolds.{fold-roll-BoundExpr, fold-roll-BoundArm, fold-roll-BoundMatch, ind-BoundExpr, map-BoundExpr}
 use Rattle.sql_meaning.specs.declared.bound.BoundExpr.TheOpen.{BoundExpr-F, BoundArm-F, BoundMatch-F}
 use Rattle.sql_meaning.specs.declared.bound.BoundMatch.{BoundMatch}
 use Rattle.sql_meaning.specs.Sizes.{nodes_of, nodes_of_arm, nodes_of_match, nodes_step, arm_nodes_step, match_nodes_step, all_nodes}
-use Rattle.gen_expr.specs.Steps.{steps_of, arm_steps_of, match_steps_of, steps_step, arm_step, match_step, and_two}
+use Rattle.gen_expr.specs.Steps.{steps_of, arm_steps_of, match_steps_of, steps_step, arm_step, match_step, and_two, test_steps}
 
 -- ---- every expression
 
@@ -61,12 +63,24 @@ match-within : (a : Expr') (arms : List Match') (otherwise : Expr') → stepped 
 match-within a [] otherwise = omega (arith, a.1, otherwise.1)
 match-within a (x ∷ arms) otherwise = omega (arith, x.1, match-within a arms otherwise, sum-cons (match_steps_of x.0) (map match_steps_of (map (λ e. e.0) arms)))
 
+-- a test has at most two
+test_few : (op : BinaryOperator) → test_steps op ≤ 2
+test_few (binary.Arithmetic o) = omega arith
+test_few (binary.Integers o) = omega arith
+test_few binary.Concatenate = omega arith
+test_few binary.And = omega arith
+test_few binary.Or = omega arith
+test_few (binary.Compare o sides) = omega arith
+test_few (binary.Is sides) = omega arith
+test_few binary.Like = omega arith
+test_few binary.Glob = omega arith
+
 step-within : (y : BoundExpr-F Expr' Arm' Match') → stepped (plain y) + 2 ≤ 3 * noded (plain y)
 step-within (BoundExpr-F.Literal l) = omega arith
 step-within (BoundExpr-F.Column item place) = omega arith
 step-within (BoundExpr-F.Parameter number) = omega arith
 step-within (BoundExpr-F.Unary op a) = omega (arith, a.1)
-step-within (BoundExpr-F.Binary op a b) = omega (arith, a.1, b.1)
+step-within (BoundExpr-F.Binary op a b) = omega (arith, a.1, b.1, test_few op)
 step-within (BoundExpr-F.LikeEscaped a b c) = omega (arith, a.1, b.1, c.1)
 step-within (BoundExpr-F.Between above below a low high) = omega (arith, a.1, low.1, high.1)
 step-within (BoundExpr-F.In sides a others) = omega (arith, a.1, twos-within others)

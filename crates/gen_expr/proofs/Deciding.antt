@@ -8,16 +8,18 @@ use Rattle.eng_value.specs.Collations.{keys_of}
 use Rattle.eng_value.specs.Comparisons.{comparison_of}
 use Rattle.eng_value.specs.Environments.{Environment}
 use Rattle.eng_value.specs.Outs.{turned, truth_value}
-use Rattle.eng_value.specs.Truths.{chosen, choice_of, truth_in, truth_of, truth_of_number}
+use Rattle.eng_value.specs.Truths.{and_of, both, chosen, choice_of, one_of_both, or_of, out_of, truth_in, truth_of, truth_of_number}
 use Rattle.eng_value.specs.declared.compare_op.CompareOp.TheVariants as compare
+use Rattle.eng_value.specs.declared.operators.BinaryOperator.TheVariants as binary
 use Rattle.eng_value.specs.declared.out.Out.{Out}
 use Rattle.eng_value.specs.declared.out.Out.TheVariants.{Good, Bad}
 use Rattle.eng_value.specs.declared.truth.Truth.{Truth}
 use Rattle.eng_value.specs.declared.truth.Truth.TheVariants as truth
+use Rattle.eng_value.specs.declared.value.Value.{Value}
 use Rattle.eng_value.specs.declared.value.Value.TheVariants.{Null, Integer, Text, Blob}
-use Rattle.gen_expr.specs.Parts.{decided_by, decided_arm, decided_match, decided_known, first_of, first_in, out_or}
+use Rattle.gen_expr.specs.Parts.{IsDecidedBy, decided_by, decided_arm, decided_match, decided_known, first_of, first_in, out_or}
 use Rattle.sql_meaning.specs.Expression.{Arm, MatchArm, chosen_in, matched_in, first_known, in_all}
-use Rattle.vm_code.specs.Machine.{is_bad, is_null, is_false, is_rejected}
+use Rattle.vm_code.specs.Machine.{is_bad, is_null, is_false, is_true, is_rejected}
 
 -- ---- the truth of a truth
 
@@ -37,6 +39,54 @@ truth_of-number (Bad causes) = refl
 truth_of-twice : (a : Out) → truth_of (truth_of a) ≡ truth_of a
 unfolding truth_of
 truth_of-twice a = truth_of-number (turned to_number a)
+
+-- ---- a truth is what it is told by
+
+out_of-truth_value : (zero : Bool) → out_of (truth_in (Good (truth_value (not zero)))) ≡ Good (truth_value (not zero))
+out_of-truth_value true = refl
+out_of-truth_value false = refl
+
+out_of-known : (v : Value) → out_of (truth_in (Good (truth_of_number v))) ≡ Good (truth_of_number v)
+out_of-known Null = refl
+out_of-known (Integer n) = out_of-truth_value (int_eq n (pos 0))
+out_of-known (Text text) = refl
+out_of-known (Blob bytes) = refl
+
+out_of-number : (number : Out) → let t = turned (λ v. Good (truth_of_number v)) number in out_of (truth_in t) ≡ t
+out_of-number (Good v) = out_of-known v
+out_of-number (Bad causes) = refl
+
+out_of-truth : (a : Out) → out_of (truth_in (truth_of a)) ≡ truth_of a
+unfolding truth_of
+out_of-truth a = out_of-number (turned to_number a)
+
+-- ---- a left side that decides
+
+false_side : (s t : Truth) → is_false false s ≡ true → s ≡ both s t
+false_side truth.True t is = cc
+false_side truth.False t is = refl
+false_side truth.Unknown t is = cc
+false_side (truth.Failed causes) t is = cc
+
+true_side : (s t : Truth) → is_true false s ≡ true → s ≡ one_of_both s t
+true_side truth.True t is = refl
+true_side truth.False t is = cc
+true_side truth.Unknown t is = cc
+true_side (truth.Failed causes) t is = cc
+
+pub and_decided : IsDecidedBy binary.And false
+unfolding and_of
+and_decided keys a b = (
+  ap (λ t. out_of (both (truth_in t) (truth_in (truth_of b)))) (truth_of-twice a),
+  λ is. sym (out_of-truth a) ∙ ap out_of (false_side (truth_in (truth_of a)) (truth_in (truth_of b)) (ap (λ t. is_false false (truth_in t)) (sym (truth_of-twice a)) ∙ is)),
+)
+
+pub or_decided : IsDecidedBy binary.Or true
+unfolding or_of
+or_decided keys a b = (
+  ap (λ t. out_of (one_of_both (truth_in t) (truth_in (truth_of b)))) (truth_of-twice a),
+  λ is. sym (out_of-truth a) ∙ ap out_of (true_side (truth_in (truth_of a)) (truth_in (truth_of b)) (ap (λ t. is_true false (truth_in t)) (sym (truth_of-twice a)) ∙ is)),
+)
 
 -- ---- tests of a condition's truth
 

@@ -1,5 +1,5 @@
 -- The code of each kind of expression, by the code of its parts.
-use Rattle.std.proofs.Common.{◌≡◌, ◌≢◌, ◌∙◌, ℕ, zero, suc, ◌+◌, ◌≤◌, ◌<◌, List, [], ◌∷◌, ◌++◌, length, map, fold, take, get_or, refl, sym, ap, subst, arith, Some}
+use Rattle.std.proofs.Common.{◌≡◌, ◌≢◌, ◌∙◌, Bool, ℕ, zero, suc, ◌+◌, ◌≤◌, ◌<◌, List, [], ◌∷◌, ◌++◌, length, map, fold, take, get_or, refl, sym, ap, subst, arith, Some}
 use Rattle.std.specs.Prelude.{sum_by}
 use Rattle.std.proofs.lemmas.List.{take_more}
 use Rattle.std.proofs.lemmas.List.Sums.{fold-append}
@@ -21,10 +21,10 @@ use Rattle.eng_value.specs.declared.out.Out.TheVariants.{Good}
 use Rattle.eng_value.specs.declared.value.Value.{Value}
 use Rattle.eng_value.specs.declared.value.Value.TheVariants as value
 use Rattle.gen_expr.specs.declared.parts.Operands.{Operands}
-use Rattle.gen_expr.specs.Parts.{Turns, Decides, decided_arm, decided_known, decided_match, first_in, first_of, with_arm_left, with_arm_tested, with_between, with_known_left, with_like_escaped, with_member_begun, with_or_equal}
-use Rattle.gen_expr.specs.Steps.{steps_of, arm_steps_of, match_steps_of}
+use Rattle.gen_expr.specs.Parts.{Turns, Decides, IsDecidedBy, decided_arm, decided_known, decided_match, first_in, first_of, with_arm_left, with_arm_tested, with_between, with_known_left, with_left_tested, with_like_escaped, with_member_begun, with_or_equal}
+use Rattle.gen_expr.specs.Steps.{steps_of, arm_steps_of, match_steps_of, test_steps}
 use Rattle.gen_expr.proofs.Deciding.{first_in-last, chosen_in-first, matched_in-first, first_known-first}
-use Rattle.gen_expr.proofs.Forms.{arm_decides, begun_turns, between_leaves, known_decides, of_one, of_three, of_two, or_equal_turns}
+use Rattle.gen_expr.proofs.Forms.{arm_decides, begun_turns, between_leaves, decided_leaves, known_decides, of_one, of_three, of_two, or_equal_turns}
 use Rattle.gen_expr.proofs.StepLaws.{steps_of-Literal, steps_of-Column, steps_of-Parameter, steps_of-Unary, steps_of-Binary, steps_of-LikeEscaped, steps_of-Between, steps_of-In, steps_of-Coalesce, steps_of-Choose, steps_of-Match, steps_of-Call, sum_by-last}
 use Rattle.gen_expr.proofs.Stretches.{decides_as, decides_then, leaves_held, leaves_turns, turns_as, turns_by, turns_decided, turns_leaves, turns_then}
 use Rattle.sql_meaning.specs.Clauses.{value_of-Literal, value_of-Column, value_of-Parameter, value_of-Unary, value_of-Binary, value_of-LikeEscaped, value_of-Between, value_of-In, value_of-Coalesce, value_of-Choose, value_of-Match, value_of-Call}
@@ -107,9 +107,28 @@ pub of_unary : (a b : Draft) (o : UnaryOperator) (p : Operand) (first to : ℕ) 
 of_unary a b o p first to x first_is l lt =
     of_last (e.Unary o x) (op.Unary o p to) first to (λ hosts. of_one (unary_of o)) (refl, refl) first_is l lt (λ m at s. refl) (λ env. sym (value_of-Unary o x env)) (omega (arith, steps_of-Unary o x))
 
-pub of_binary : (a b d : Draft) (o : BinaryOperator) (p q : Operand) (first to : ℕ) (x y : BoundExpr) → first ≡ a.next → OffersOne a b p x → OffersOne b d q y → to < a.next → Emits a (released (with_op d (op.Binary o p q to)) first) to (e.Binary o x y)
-of_binary a b d o p q first to x y first_is l r lt =
-    of_last (e.Binary o x y) (op.Binary o p q to) first to (λ hosts. of_two (binary_of (keys_of hosts) o)) (refl, refl) first_is (offers_then l r) lt (λ m at s. refl) (λ env. sym (value_of-Binary o x y env)) (omega (arith, steps_of-Binary o x y))
+-- an operator on two expressions, in so many instructions
+abbrev pub Joins : Draft → Draft → ℕ → BinaryOperator → BoundExpr → BoundExpr → ℕ → Type 0
+Joins a b to o x y n = Leaves no_calls a b to (λ env. binary_of (keys_of env.hosts) o (value_of x env) (value_of y env)) (λ env. n)
+
+joins_as : {a b : Draft} {to i : ℕ} (o : BinaryOperator) (x y : BoundExpr) (n : ℕ) → i ≤ n → Joins a b to o x y i → Joins a b to o x y n
+joins_as o x y n le l = leaves_as (λ env. binary_of (keys_of env.hosts) o (value_of x env) (value_of y env)) n (λ env. refl) le l
+
+pub of_binary : (a b : Draft) (o : BinaryOperator) (to : ℕ) (x y : BoundExpr) → Joins a b to o x y (steps_of x + steps_of y + 1 + test_steps o) → Emits a b to (e.Binary o x y)
+of_binary a b o to x y l =
+    leaves_as (value_of (e.Binary o x y)) (steps_of (e.Binary o x y)) (λ env. sym (value_of-Binary o x y env)) (omega (arith, steps_of-Binary o x y)) l
+
+pub both_joined : (a b d : Draft) (o : BinaryOperator) (p q : Operand) (first to : ℕ) (x y : BoundExpr) → first ≡ a.next → OffersOne a b p x → OffersOne b d q y → to < a.next → Joins a (released (with_op d (op.Binary o p q to)) first) to o x y (steps_of x + steps_of y + 1 + test_steps o)
+both_joined a b d o p q first to x y first_is l r lt =
+    subst (λ k. Joins a (released (with_op d (op.Binary o p q to)) k) to o x y (steps_of x + steps_of y + 1 + test_steps o)) (sym first_is) (joins_as o x y (steps_of x + steps_of y + 1 + test_steps o) (omega arith) (leaves_by (op.Binary o p q to) to (λ hosts. of_two (binary_of (keys_of hosts) o)) (refl, refl) (offers_then l r) lt (λ m at s. refl)))
+
+pub decided_within : (a b : Draft) (o : BinaryOperator) (to : ℕ) (x y : BoundExpr) → test_steps o ≡ 2 → Joins a b to o x y (steps_of x + steps_of y + 3) → Joins a b to o x y (steps_of x + steps_of y + 1 + test_steps o)
+decided_within a b o to x y is l = joins_as o x y (steps_of x + steps_of y + 1 + test_steps o) (omega (arith, is)) l
+
+pub decided_joined : (a b t c d z : Draft) (o : BinaryOperator) (wanted : Bool) (q : Operand) (to end first : ℕ) (x y : BoundExpr) → IsDecidedBy o wanted → Emits a b to x → end ≡ length b.labels → t ≡ with_left_tested b wanted to → first ≡ t.next → OffersOne t c q y → d ≡ released (with_op c (op.Binary o (operand.Register to) q to)) first → z ≡ bound d end → to < a.next → a.next ≤ a.most → Joins a z to o x y (steps_of x + steps_of y + 3)
+decided_joined a b t c d z o wanted q to end first x y decided l end_is t_is first_is r d_is z_is lt counted =
+    subst (λ (k : Draft). Joins a k to o x y (steps_of x + steps_of y + 3)) (sym (z_is ∙ ap (λ (k : Draft). bound k end) d_is))
+    (decided_leaves a b c o wanted q to end first (steps_of x) (steps_of y) (value_of x) (value_of y) decided l end_is (first_is ∙ ap (λ (k : Draft). k.next) t_is) (subst (λ (k : Draft). OffersOne k c q y) t_is r) lt counted)
 
 -- three operands
 abbrev pub OffersThree : Draft → Draft → Operands → BoundExpr → BoundExpr → BoundExpr → Type 0

@@ -1,12 +1,13 @@
 -- What each form of expression needs of the code for its parts.
-use Rattle.std.proofs.Common.{◌≡◌, ◌≢◌, ℕ, ◌+◌, ◌≤◌, ◌<◌, List, [], ◌∷◌, length, Option, Some, None, pos, refl, sym, ap, ◌∙◌, subst, arith, inl, inr}
+use Rattle.std.proofs.Common.{◌≡◌, ◌≢◌, Bool, ℕ, ◌+◌, ◌≤◌, ◌<◌, List, [], ◌∷◌, length, Option, Some, None, pos, refl, sym, ap, ◌∙◌, subst, arith, inl, inr}
 use Rattle.std.specs.Prelude.{slice_get, true, false}
-use Rattle.eng_value.specs.Applied.{falsehood_of, merged, or_equal}
+use Rattle.eng_value.specs.Applied.{binary_of, falsehood_of, merged, or_equal}
 use Rattle.eng_value.specs.Collations.{keys_of}
 use Rattle.eng_value.specs.Comparisons.{comparison_of}
 use Rattle.eng_value.specs.Environments.{Environment}
 use Rattle.eng_value.specs.Truths.{and_of, or_of, truth_in, truth_of}
 use Rattle.eng_value.specs.declared.compare_op.CompareOp.TheVariants as compare
+use Rattle.eng_value.specs.declared.operators.BinaryOperator.{BinaryOperator}
 use Rattle.eng_value.specs.declared.operators.BinaryOperator.TheVariants as binary
 use Rattle.eng_value.specs.declared.operators.Sides.{Sides}
 use Rattle.eng_value.specs.declared.operators.UnaryOperator.TheVariants as unary
@@ -14,20 +15,23 @@ use Rattle.eng_value.specs.declared.out.Out.{Out}
 use Rattle.eng_value.specs.declared.out.Out.TheVariants.{Good, Bad}
 use Rattle.eng_value.specs.declared.value.Value.TheVariants.{Null, Integer}
 use Rattle.gen_expr.specs.declared.parts.Operands.{Operands}
-use Rattle.gen_expr.specs.Parts.{Turns, Decides, decided_by, decided_known, with_arm_left, with_arm_tested, with_between, with_known_left, with_member_begun, with_or_equal}
+use Rattle.gen_expr.specs.Parts.{Turns, Decides, IsDecidedBy, decided_by, decided_known, has_truth, jump_on, with_arm_left, with_arm_tested, with_between, with_known_left, with_left_tested, with_member_begun, with_or_equal}
 use Rattle.gen_expr.proofs.Deciding.{decided_bad, decided_rejected, decided_accepted, known_null, known_other}
 use Rattle.gen_expr.proofs.Stretches.{as_begun, begun_but, Reads, Turned, Won, Open, turns_of, t_offers, t_turns, decides_of}
 use Rattle.sql_meaning.specs.Expression.{between_of}
+use Rattle.vm_code.specs.declared.op.Op.{Op}
 use Rattle.vm_code.specs.declared.op.Op.TheVariants as op
 use Rattle.vm_code.specs.declared.operand.Operand.{Operand}
 use Rattle.vm_code.specs.declared.operand.Operand.TheVariants as operand
-use Rattle.vm_code.specs.Draft.{Draft, with_op, with_label, taken}
+use Rattle.vm_code.specs.Draft.{Draft, bound, released, with_op, with_label, taken}
+use Rattle.vm_code.specs.Track.{used_by, way_of}
 use Rattle.vm_code.specs.Tracked.{Among, Steady}
-use Rattle.vm_code.specs.Machine.{operand_in, read, is_bad, is_null, is_rejected}
-use Rattle.vm_code.specs.Frames.{Grows, Here, Leaves, Offers, environment_of, no_calls}
+use Rattle.vm_code.specs.declared.way.Way.TheVariants as way
+use Rattle.vm_code.specs.Machine.{Setting, State, act, jump_if, operand_in, read, is_bad, is_null, is_rejected}
+use Rattle.vm_code.specs.Frames.{Grows, Here, Leaves, Offers, environment_of, no_calls, placed}
 use Rattle.vm_code.specs.Claims.{Claim, Labels, Triple}
 use Rattle.vm_code.proofs.Drafts.{grows_then, g_op, g_taken, g_label, g_bound, g_released, open_new}
-use Rattle.vm_code.proofs.Tracks.{place-bound, st_fork, st_goto, st_inner, st_made, st_op, st_released, st_taken, st_then}
+use Rattle.vm_code.proofs.Tracks.{place-bound, st_fork, st_goto, st_inner, st_label, st_made, st_op, st_released, st_taken, st_then}
 use Rattle.vm_code.proofs.Effects.{But, but_regs, but_env, t_leaves, t_put, leaves_of}
 use Rattle.vm_code.proofs.Triples.{no_labels, no_last, with_claim, t_seq, t_more, t_draft, t_bind, t_test, t_goto}
 
@@ -76,6 +80,84 @@ between_leaves a b above below o first to n f g k first_is x lt =
     (but_regs regs (λ i below_i ne. same i ne) pre.0, is ∙ ap (λ v. and_of v (read h.regs to)) pre.1 ∙ ap (and_of (at_least (environment_of m h0))) pre.2)) in
     let free = t_draft m no_labels no_last done (g_released d3 first) refl in
     t_more (λ w. n + 3) (λ w. omega arith) (t_seq (t_seq (t_seq (t_seq (t_seq offered take) low) high) both) free))
+
+-- ---- operators whose left side may decide alone
+
+jumps_on : (m : Setting) (wanted : Bool) (register target : ℕ) (at : ℕ → ℕ) (s : State) → act m (Some (placed at (jump_on wanted register target))) s ≡ jump_if (has_truth wanted (read s.regs register)) s (at target)
+jumps_on m true register target at s = refl
+jumps_on m false register target at s = refl
+
+forks_on : (wanted : Bool) (register target : ℕ) → way_of (jump_on wanted register target) ≡ way.Forks target
+forks_on true register target = refl
+forks_on false register target = refl
+
+uses_none : (wanted : Bool) (register target : ℕ) → used_by (jump_on wanted register target) ≡ []
+uses_none true register target = refl
+uses_none false register target = refl
+
+pub decided_leaves : (a b c : Draft) (operator : BinaryOperator) (wanted : Bool) (right : Operand) (to end first i n : ℕ) (f g : Environment → Out) → IsDecidedBy operator wanted → Leaves no_calls a b to (λ env. f env) (λ env. i) → end ≡ length b.labels → first ≡ b.next → Offers no_calls (with_left_tested b wanted to) c (right ∷ []) (λ env. g env ∷ []) (λ env. n) → to < a.next → a.next ≤ a.most → Leaves no_calls a (bound (released (with_op c (op.Binary operator (operand.Register to) right to)) first) end) to (λ env. binary_of (keys_of env.hosts) operator (f env) (g env)) (λ env. i + n + 3)
+decided_leaves a b c operator wanted right to end first i n f g decided l end_is first_is x lt counted =
+    let all : Environment → Out = λ env. binary_of (keys_of env.hosts) operator (f env) (g env) in
+    leaves_of to all as_begun grown (first_is ∙ l.next) steady (λ h. refl) (λ m called.
+    let done : Claim = λ h0 h. But a.next to h0 h × (read h.regs to ≡ all (environment_of m h0)) in
+    let labels : Labels = with_claim end done no_labels in
+    let c1 : Claim = λ h0 h. But a.next to h0 h × (read h.regs to ≡ f (environment_of m h0)) in
+    let c2 : Claim = λ h0 h. But a.next to h0 h × (read h.regs to ≡ truth_of (f (environment_of m h0))) in
+    let c3 : Claim = λ h0 h. c2 h0 h × Reads m h c.next (right ∷ []) (g (environment_of m h0) ∷ []) in
+    let left : Triple m a b (λ w. i) labels no_last as_begun c1 = t_leaves m tt labels no_last as_begun c1 l (λ h0 h pre. ap (environment_of m) pre) (λ h0 h regs pre long is same.
+    (but_regs regs same (begun_but a.next to h0 h pre), is ∙ ap (λ (z : Here). f (environment_of m z)) pre)) in
+    let label = t_draft m labels no_last c1 (g_label b) refl in
+    let truth : Triple m d1 d2 (λ w. 1) labels no_last c1 c2 = t_put m d1 truth_op to (λ h. truth_of (read h.regs to)) labels no_last c1 c2 (omega (arith, l.grows.most)) (λ at s. refl) (λ h0 h regs pre long is same.
+    (but_regs regs (λ k below ne. same k ne) pre.0, is ∙ ap truth_of pre.1)) in
+    let tested : Triple m d2 d3 (λ w. 1) labels no_last c2 c2 = t_test m d2 test_op (length b.labels) (λ h. has_truth wanted (read h.regs to)) labels no_last c2 c2 (jumps_on m wanted to (length b.labels))
+    (λ h0 h pre is. inl (sym end_is, (pre.0, pre.1 ∙ (decided (keys_of m.hosts) (f (environment_of m h0)) (g (environment_of m h0))).1 (ap (has_truth wanted) (sym pre.1) ∙ is))))
+    (λ h0 h pre is. pre) in
+    let offered : Triple m d3 c (λ w. n) labels no_last c2 c3 = t_offers m labels no_last c2 c3 x (λ h0 h regs pre reads same.
+    ((but_regs regs (λ k below other. same k (omega (arith, l.next))) pre.0, same to (omega (arith, l.next)) ∙ pre.1), λ q kept. reads q kept ∙ ap (λ env. g env ∷ []) (but_env m pre.0))) in
+    let last : Triple m c d4 (λ w. 1) labels no_last c3 done = t_put m c last_op to (λ h. binary_of (keys_of m.hosts) operator (read h.regs to) (operand_in m h.regs h.inputs h.scene h.shared right)) labels no_last c3 done (omega (arith, l.next, x.next, x.counted)) (λ at s. refl) (λ h0 h regs pre long is same.
+    (but_regs regs (λ k below ne. same k ne) pre.0.0, is ∙ ap (λ v. binary_of (keys_of m.hosts) operator v (operand_in m h.regs h.inputs h.scene h.shared right)) pre.0.1 ∙ ap (of_one (binary_of (keys_of m.hosts) operator (truth_of (f (environment_of m h0))))) (pre.1 h.regs (λ k below. refl)) ∙ (decided (keys_of m.hosts) (f (environment_of m h0)) (g (environment_of m h0))).0)) in
+    let free = t_draft m labels no_last done (g_released d4 first) refl in
+    let whole = t_bind {g = no_labels} end done is_open (λ h0 h pre. pre) (t_seq (t_seq (t_seq (t_seq (t_seq (t_seq left label) truth) tested) offered) last) free) in
+    t_more (λ w. i + n + 3) (λ w. omega arith) whole)
+  where
+    truth_op : Op
+    truth_op = op.Unary unary.Truth (operand.Register to) to
+
+    test_op : Op
+    test_op = jump_on wanted to (length b.labels)
+
+    last_op : Op
+    last_op = op.Binary operator (operand.Register to) right to
+
+    d1 : Draft
+    d1 = with_label b
+
+    d2 : Draft
+    d2 = with_op d1 truth_op
+
+    d3 : Draft
+    d3 = with_op d2 test_op
+
+    d4 : Draft
+    d4 = with_op c last_op
+
+    d5 : Draft
+    d5 = released d4 first
+
+    is_open : slice_get d5.labels end ≡ Some None
+    is_open = x.grows.open_labels end (subst (λ k. slice_get (with_label b).labels k ≡ Some None) (sym end_is) (open_new b))
+
+    behind : Grows d1 d5
+    behind = grows_then (g_op d1 truth_op) (grows_then (g_op d2 test_op) (grows_then x.grows (grows_then (g_op c last_op) (g_released d4 first))))
+
+    grown : Grows a (bound d5 end)
+    grown = grows_then l.grows (g_bound d5 end (grows_then (g_label b) behind) (omega (arith, end_is)) is_open)
+
+    inside : List ℕ
+    inside = end ∷ []
+
+    steady : Steady [] [] a (bound d5 end)
+    steady = st_then l.grows l.steady (st_label end end_is behind (st_then (g_op d1 truth_op) (st_op [] inside d1 truth_op (refl, refl)) (st_then (g_op d2 test_op) (st_fork [] inside d2 test_op (length b.labels) (forks_on wanted to (length b.labels)) (uses_none wanted to (length b.labels)) (inl end_is)) (st_then x.grows (st_inner [] inside x.steady) (st_then (g_op c last_op) (st_op [] inside c last_op (refl, refl)) (st_released [] inside d4 first))))))
 
 -- ---- IN: none is equal so far, and one operand more that may be
 

@@ -12,7 +12,7 @@ use Rattle.sql_meaning.specs.declared.bound.BoundExpr.{BoundExpr, the_lemmas}
 use Rattle.sql_meaning.specs.declared.bound.BoundExpr.TheVariants as e
 use Rattle.sql_meaning.specs.declared.bound.BoundMatch.{BoundMatch}
 use Rattle.sql_meaning.specs.declared.bound.Literal.{Literal}
-use Rattle.gen_expr.specs.Steps.{steps_of, arm_steps_of, match_steps_of, and_two}
+use Rattle.gen_expr.specs.Steps.{steps_of, arm_steps_of, match_steps_of, and_two, test_steps}
 
 pub steps_of-Literal : (l : Literal) → steps_of (e.Literal l) ≡ 1
 steps_of-Literal l = search (rules, the_lemmas)
@@ -26,7 +26,7 @@ steps_of-Parameter number = search (rules, the_lemmas)
 pub steps_of-Unary : (op : UnaryOperator) (a : BoundExpr) → steps_of (e.Unary op a) ≡ steps_of a + 1
 steps_of-Unary op a = search (rules, the_lemmas)
 
-pub steps_of-Binary : (op : BinaryOperator) (a b : BoundExpr) → steps_of (e.Binary op a b) ≡ steps_of a + steps_of b + 1
+pub steps_of-Binary : (op : BinaryOperator) (a b : BoundExpr) → steps_of (e.Binary op a b) ≡ steps_of a + steps_of b + 1 + test_steps op
 steps_of-Binary op a b = search (rules, the_lemmas)
 
 pub steps_of-LikeEscaped : (a b c : BoundExpr) → steps_of (e.LikeEscaped a b c) ≡ steps_of a + steps_of b + steps_of c + 1

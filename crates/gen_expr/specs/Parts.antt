@@ -1,11 +1,13 @@
 -- What the parts of an expression's code do: those behind the codes of operands, and those that decide a value.
-use Rattle.std.specs.Prelude.{◌≡◌, ℕ, true, List, [], ◌∷◌, length, pos, Some, None}
+use Rattle.std.specs.Prelude.{◌≡◌, ℕ, Bool, true, false, List, [], ◌∷◌, length, pos, Some, None}
 use Rattle.std.specs.declared.option.Option.{Option}
-use Rattle.eng_value.specs.Collations.{keys_of}
+use Rattle.eng_value.specs.Applied.{binary_of}
+use Rattle.eng_value.specs.Collations.{Keys, keys_of}
 use Rattle.eng_value.specs.Comparisons.{comparison_of}
 use Rattle.eng_value.specs.Environments.{Environment}
 use Rattle.eng_value.specs.Truths.{truth_in, truth_of}
 use Rattle.eng_value.specs.declared.compare_op.CompareOp.TheVariants as compare
+use Rattle.eng_value.specs.declared.operators.BinaryOperator.{BinaryOperator}
 use Rattle.eng_value.specs.declared.operators.BinaryOperator.TheVariants as binary
 use Rattle.eng_value.specs.declared.operators.Sides.{Sides}
 use Rattle.eng_value.specs.declared.operators.UnaryOperator.TheVariants as unary
@@ -16,13 +18,14 @@ use Rattle.eng_value.specs.declared.truth.Truth.TheVariants as truth
 use Rattle.eng_value.specs.declared.value.Value.TheVariants as value
 use Rattle.gen_expr.specs.declared.parts.Operands.{Operands}
 use Rattle.sql_meaning.specs.Expression.{Arm, MatchArm}
+use Rattle.vm_code.specs.declared.op.Op.{Op}
 use Rattle.vm_code.specs.declared.op.Op.TheVariants as op
 use Rattle.vm_code.specs.declared.operand.Operand.{Operand}
 use Rattle.vm_code.specs.declared.operand.Operand.TheVariants as operand
 use Rattle.vm_code.specs.Draft.{Draft, with_op, with_label, bound, taken, released}
 use Rattle.vm_code.specs.Tracked.{Steady}
 use Rattle.vm_code.specs.Frames.{Holds, Grows, Ready, Left, here, environment_of}
-use Rattle.vm_code.specs.Machine.{Setting, State, read}
+use Rattle.vm_code.specs.Machine.{Setting, State, is_accepted, is_rejected, read}
 
 -- ---- instructions behind operands
 
@@ -49,6 +52,26 @@ with_arm_tested d to end = with_op (with_op (with_op (with_label d) (op.Unary un
 
 abbrev pub with_arm_left : Draft → ℕ → ℕ → Draft
 with_arm_left d end next = bound (with_op d (op.Goto end)) next
+
+-- ---- operators whose left side may decide alone
+
+-- whether it has this truth; NULL and what is bad have none
+abbrev pub has_truth : Bool → Out → Bool
+has_truth true a = is_accepted false a
+has_truth false a = is_rejected false a
+
+-- the truth of the left side counts as that side does, and it is what the operator comes to where it is this one
+abbrev pub IsDecidedBy : BinaryOperator → Bool → Type 0
+IsDecidedBy operator wanted =
+    (keys : Keys) (a b : Out) → (binary_of keys operator (truth_of a) b ≡ binary_of keys operator a b)
+    × (has_truth wanted (truth_of a) ≡ true → truth_of a ≡ binary_of keys operator a b)
+
+abbrev pub jump_on : Bool → ℕ → ℕ → Op
+jump_on true register target = op.If register target false
+jump_on false register target = op.IfNot register target false
+
+abbrev pub with_left_tested : Draft → Bool → ℕ → Draft
+with_left_tested d wanted to = with_op (with_op (with_label d) (op.Unary unary.Truth (operand.Register to) to)) (jump_on wanted to (length d.labels))
 
 -- ---- code that leaves a value by what registers hold
 

@@ -1,15 +1,16 @@
 // The code of an expression.
 ghost use Rattle.std.specs.Prelude.{◌≡◌, ◌+◌, ◌<◌, ◌≤◌, [], ◌∷◌, OnOk, IfOk, map, sum_by};
-ghost use Rattle.eng_value.specs.Applied.{member_of};
+ghost use Rattle.eng_value.specs.Applied.{binary_of, member_of};
 ghost use Rattle.eng_value.specs.Collations.{keys_of};
-ghost use Rattle.gen_expr.specs.Steps.{arm_steps_of, match_steps_of, steps_of};
+ghost use Rattle.gen_expr.specs.Parts.{IsDecidedBy};
+ghost use Rattle.gen_expr.specs.Steps.{arm_steps_of, match_steps_of, steps_of, test_steps};
 ghost use Rattle.sql_meaning.specs.Expression.{arm_of, chosen_in, first_known, in_all, match_of, matched_in, value_of};
 ghost use Rattle.vm_code.specs.Frames.{Leaves, Offers, no_calls};
 
 use crate::literals::{constant, emit_literal};
 use crate::parts::{
-    Operands, begin_member, between, binary, call, leave_arm, like_escaped, or_equal, read_column,
-    read_parameter, test_arm, unary, unless_null,
+    Operands, begin_member, between, binary, call, deciding, leave_arm, like_escaped, or_equal,
+    read_column, read_parameter, test_arm, test_left, unary, unless_null,
 };
 use eng_value::{BinaryOperator, CompareOp, Sides};
 use sql_meaning::{BoundArm, BoundExpr, BoundMatch};
@@ -37,9 +38,7 @@ pub fn emit(alloc: Global, b: &mut Builder, e: &BoundExpr, to: u32) -> Result<()
             unary(b, *operator, inner, first, to)?;
         }
         BoundExpr::Binary(operator, left, right) => {
-            let left = operand(alloc, b, left.get())?;
-            let right = operand(alloc, b, right.get())?;
-            binary(b, *operator, left, right, first, to)?;
+            emit_binary(alloc, b, *operator, left.get(), right.get(), to)?;
         }
         BoundExpr::LikeEscaped(text, pattern, escape) => {
             let operands = three_operands(alloc, b, text.get(), pattern.get(), escape.get())?;
@@ -65,6 +64,57 @@ pub fn emit(alloc: Global, b: &mut Builder, e: &BoundExpr, to: u32) -> Result<()
         }
     }
     Ok(())
+}
+
+// What an operator makes of two expressions.
+#[cycle(emitting)]
+fn emit_binary(
+    alloc: Global,
+    b: &mut Builder,
+    operator: BinaryOperator,
+    left: &BoundExpr,
+    right: &BoundExpr,
+    to: u32,
+) -> Result<(), AllocError>
+    requires taken { to < b.old.next }
+    requires counted { b.old.next ≤ b.old.most }
+    ensures leaves { OnOk result (Leaves no_calls b.old b.new to (λ env. binary_of (keys_of env.hosts) operator (value_of left.now env) (value_of right.now env)) (λ _. steps_of left.now + steps_of right.now + 1 + test_steps operator)) }
+    ensures units { OnOk result (b.new.units ≡ b.old.units) }
+    ensures cursors { OnOk result (b.new.cursors ≡ b.old.cursors) }
+{
+    if let Some(wanted) = deciding(operator, right) {
+        return emit_decided(alloc, b, operator, wanted, left, right, to);
+    }
+    let first = b.next_register();
+    let left = operand(alloc, b, left)?;
+    let right = operand(alloc, b, right)?;
+    binary(b, operator, left, right, first, to)
+}
+
+// The same where a truth of the left side decides: where it has that truth the right side is not evaluated.
+#[cycle(emitting)]
+fn emit_decided(
+    alloc: Global,
+    b: &mut Builder,
+    operator: BinaryOperator,
+    wanted: bool,
+    left: &BoundExpr,
+    right: &BoundExpr,
+    to: u32,
+) -> Result<(), AllocError>
+    requires decided { IsDecidedBy operator wanted }
+    requires taken { to < b.old.next }
+    requires counted { b.old.next ≤ b.old.most }
+    ensures leaves { OnOk result (Leaves no_calls b.old b.new to (λ env. binary_of (keys_of env.hosts) operator (value_of left.now env) (value_of right.now env)) (λ _. steps_of left.now + steps_of right.now + 3)) }
+    ensures units { OnOk result (b.new.units ≡ b.old.units) }
+    ensures cursors { OnOk result (b.new.cursors ≡ b.old.cursors) }
+{
+    emit(alloc, b, left, to)?;
+    let end = test_left(b, wanted, to)?;
+    let first = b.next_register();
+    let right = operand(alloc, b, right)?;
+    binary(b, operator, Operand::Register(to), right, first, to)?;
+    b.bind(end)
 }
 
 // An operand that reads what an expression comes to. What is always the same, a parameter and a column take no code; anything

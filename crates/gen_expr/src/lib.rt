@@ -3,9 +3,9 @@
 //! `emit` writes the code of an expression; its contract, `Leaves`, says that in every program that the code becomes part of it
 //! leaves what the expression comes to in a register and keeps the others that are taken, in at most so many instructions
 //! (specs/Steps.antt). What an expression comes to says sql_meaning (`value_of`). Operands are evaluated from left to right, each
-//! once; what is always the same, a parameter and a column take no code as operands, since the instruction that takes them reads
-//! them. CASE and coalesce jump past what does not count, and all other code goes straight on. Begin with `emit`; specs/Parts.antt
-//! says what the parts of its code do.
+//! once at most; what is always the same, a parameter and a column take no code as operands, since the instruction that takes them
+//! reads them. CASE and coalesce jump past what does not count, AND and OR past a right side that is long where the left one decides,
+//! and all other code goes straight on. Begin with `emit`; specs/Parts.antt says what the parts of its code do.
 #![tactic(auto)]
 
 mod emitting;

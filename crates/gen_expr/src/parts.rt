@@ -1,10 +1,12 @@
 // What stands behind the codes of operands: instructions that read their values.
-ghost use Rattle.std.specs.Prelude.{◌≡◌, ◌≤◌, OnOk, IfOk, None, Some, length, slice_get};
-ghost use Rattle.gen_expr.specs.Parts.{with_arm_left, with_arm_tested, with_between, with_known_left, with_like_escaped, with_member_begun, with_or_equal};
+ghost use Rattle.std.specs.Prelude.{◌≡◌, ◌≤◌, true, OnOk, IfOk, IfSome, None, Some, length, slice_get};
+ghost use Rattle.gen_expr.specs.Parts.{IsDecidedBy, jump_on, with_arm_left, with_arm_tested, with_between, with_known_left, with_left_tested, with_like_escaped, with_member_begun, with_or_equal};
+ghost use Rattle.gen_expr.specs.Steps.{steps_of, test_steps};
 ghost use Rattle.vm_code.specs.Draft.{released, with_op};
 ghost use Rattle.vm_code.specs.declared.op.Op.TheVariants as op;
 
 use eng_value::{BinaryOperator, Builtin, Collation, CompareOp, Sides, UnaryOperator};
+use sql_meaning::BoundExpr;
 use sqlite_items::Items;
 use std::alloc::AllocError;
 use vm_code::{Builder, Op, Operand};
@@ -76,6 +78,82 @@ pub(crate) fn binary(
     })?;
     b.release(first);
     Ok(())
+}
+
+/// The truth of the left side that decides an operator alone, where it has one, so that the right side need not be evaluated. There
+/// is none, either, where the right side is so short that a test of the left one gains nothing.
+pub(crate) fn deciding(operator: BinaryOperator, right: &BoundExpr) -> Option<bool>
+    ensures decided { IfSome result (λ wanted. IsDecidedBy operator wanted) }
+    ensures steps { IfSome result (λ _. test_steps operator ≡ 2) }
+{
+    if is_short(right) {
+        return None;
+    }
+    match operator {
+        BinaryOperator::And => Some(false),
+        BinaryOperator::Or => Some(true),
+        _ => None,
+    }
+}
+
+/// Whether an expression is a leaf or a comparison of two leaves.
+fn is_short(e: &BoundExpr) -> bool
+    ensures { result ≡ true → steps_of e.now ≤ 3 }
+{
+    match e {
+        BoundExpr::Binary(BinaryOperator::Compare(_, _), left, right) => {
+            is_leaf(left.get()) && is_leaf(right.get())
+        }
+        BoundExpr::Binary(BinaryOperator::Is(_), left, right) => {
+            is_leaf(left.get()) && is_leaf(right.get())
+        }
+        _ => is_leaf(e),
+    }
+}
+
+/// Whether an expression has no code as an operand.
+fn is_leaf(e: &BoundExpr) -> bool
+    ensures { result ≡ true → steps_of e.now ≡ 1 }
+{
+    match e {
+        BoundExpr::Literal(_) => true,
+        BoundExpr::Column { item: _, column: _ } => true,
+        BoundExpr::Parameter(_) => true,
+        _ => false,
+    }
+}
+
+/// Makes the value in the register `to` its truth, and goes to a label that it gives where that is the one that is wanted.
+pub(crate) fn test_left(b: &mut Builder, wanted: bool, to: u32) -> Result<usize, AllocError>
+    ensures { IfOk result (λ end. (end ≡ length b.old.labels) × (b.new ≡ with_left_tested b.old wanted to)) }
+{
+    let end = b.label()?;
+    b.op(Op::Unary {
+        operator: UnaryOperator::Truth,
+        operand: Operand::Register(to),
+        to,
+    })?;
+    b.op(jump_on(wanted, to, end))?;
+    Ok(end)
+}
+
+/// A jump where a register has the truth that is wanted; NULL has none.
+fn jump_on(wanted: bool, register: u32, target: usize) -> Op
+    ensures { result ≡ jump_on wanted register target }
+{
+    if wanted {
+        Op::If {
+            register,
+            target,
+            on_null: false,
+        }
+    } else {
+        Op::IfNot {
+            register,
+            target,
+            on_null: false,
+        }
+    }
 }
 
 /// A function of arguments, whose registers, from `first` on, are free behind it.

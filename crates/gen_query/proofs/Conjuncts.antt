@@ -1,11 +1,11 @@
 -- Conjuncts one after the other.
 use Rattle.std.proofs.Common.{◌≡◌, ◌≢◌, ℕ, ◌+◌, ◌≤◌, ◌<◌, List, [], ◌∷◌, ◌++◌, Bool, true, false, length, sum_by, if◌then◌else◌, Some, None, refl, sym, ap, ◌∙◌, subst, arith, inl, ⊎_elim}
-use Rattle.std.proofs.lemmas.List.Sums.{sum_by_push}
+use Rattle.std.proofs.lemmas.List.Sums.{sum_by-cons, sum_by_push}
 use Rattle.std.specs.declared.option.Option.{Option}
 use Rattle.std.specs.Option.{option_and_then}
 use Rattle.std.specs.Ordering.{int_eq}
 use Rattle.eng_value.specs.Applied.{merged}
-use Rattle.eng_value.specs.Environments.{Environment}
+use Rattle.eng_value.specs.Environments.{Environment, no_causes}
 use Rattle.eng_value.specs.Outs.{truth_value, turned}
 use Rattle.eng_value.specs.Casts.{to_number}
 use Rattle.eng_value.specs.Truths.{truth_in, truth_of, truth_of_number}
@@ -24,12 +24,12 @@ use Rattle.vm_code.specs.declared.op.Op.TheVariants as op
 use Rattle.vm_code.specs.Draft.{Draft, with_op, taken, given_back}
 use Rattle.vm_code.specs.Tracked.{Steady}
 use Rattle.vm_code.specs.Machine.{Setting, read, is_false, is_rejected}
-use Rattle.vm_code.specs.Frames.{Here, with_regs, environment_of, Leaves, Sifts, no_calls}
+use Rattle.vm_code.specs.Frames.{Grows, Here, environment_of, Leaves, Sifts, no_calls}
 use Rattle.vm_code.specs.Claims.{Claim, Labels, Triple}
-use Rattle.vm_code.proofs.Drafts.{grows_then, g_op, g_taken, g_given_back}
-use Rattle.vm_code.proofs.Tracks.{st_fork, st_given_back, st_inner, st_op, st_taken, st_then}
+use Rattle.vm_code.proofs.Drafts.{grows_none, grows_then, g_op, g_taken, g_given_back}
+use Rattle.vm_code.proofs.Tracks.{st_fork, st_given_back, st_inner, st_none, st_op, st_taken, st_then}
 use Rattle.vm_code.proofs.Sifting.{sifts_of, sifts_same, sifts_then}
-use Rattle.vm_code.proofs.Triples.{no_labels, no_last, with_claim, t_seq, t_more, t_draft, t_test}
+use Rattle.vm_code.proofs.Triples.{no_labels, no_last, with_claim, t_seq, t_more, t_draft, t_test, t_use}
 use Rattle.vm_code.proofs.Effects.{t_put, t_leaves, But, but_none, but_regs, but_env}
 
 -- ---- truths
@@ -80,74 +80,92 @@ module _ (a c : Draft) (conjunct : BoundExpr) (value causes label : ℕ) (v_is :
   abbrev jumped : Draft
   jumped = with_op c (op.IfNot value label true)
 
-  abbrev merging : Draft
-  merging = with_op jumped (op.Merge value causes)
+  abbrev clearing : Draft
+  clearing = with_op jumped (op.Null causes)
 
-  abbrev started : Claim
-  started h0 h = But a.next causes h0 h × (read h.regs causes ≡ read h0.regs causes)
-
-  module _ (m : Setting) where
-    abbrev truth_at : Here → Out
-    truth_at h = truth_of (value_of conjunct (environment_of m h))
-
-    abbrev outcome_at : Here → Option Out
-    outcome_at h = after_conjunct (read h.regs causes) (truth_in (truth_at h))
-
-    abbrev known : Claim
-    known h0 h = started h0 h × (read h.regs value ≡ truth_at h0)
-
-    abbrev kept : Claim
-    kept h0 h = known h0 h × (is_false true (truth_in (truth_at h0)) ≡ false)
-
-    abbrev end : Claim
-    end h0 h = But a.next causes h0 h × (outcome_at h0 ≡ Some (read h.regs causes))
-
-    abbrev dropped : Claim
-    dropped h0 h = But a.next causes h0 h × (outcome_at h0 ≡ None)
-
-    abbrev labels : Labels
-    labels = with_claim label dropped no_labels
-
-    -- the other registers are as they were where only the value's was written
-    still_started : (h0 h : Here) (regs : List Out) → ((k : ℕ) → k ≢ value → read regs k ≡ read h.regs k) → started h0 h → started h0 (with_regs h regs)
-    still_started h0 h regs same pre =
-        (but_regs regs (λ k lt ne. same k (omega (arith, v_is))) pre.0, same causes (omega (arith, v_is)) ∙ pre.1)
-
-    gets : Triple m a c (λ h0. steps_of conjunct + 1) labels no_last started known
-    gets =
-        let take = t_draft m labels no_last started (g_taken a) refl in
-        let leave = t_leaves m tt labels no_last started known x (λ h0 h pre. but_env m pre.0) (λ h0 h regs pre long is same.
-        ((but_regs regs (λ k lt ne. same k (omega arith) (omega (arith, v_is))) pre.0, same causes (omega arith) (omega (arith, v_is)) ∙ pre.1), is ∙ ap (λ env. truth_of (value_of conjunct env)) (but_env m pre.0))) in
-        t_more (λ h0. steps_of conjunct + 1) (λ h0. omega arith) (t_seq take leave)
-
-    jumps : Triple m c jumped (λ h0. 1) labels no_last known kept
-    jumps = t_test m c (op.IfNot value label true) label (λ h. is_rejected true (read h.regs value)) labels no_last known kept (λ at s. refl) (λ h0 h pre b. inl (refl, (pre.0.0, rejected_truth (truth_in (truth_at h0)) (read h0.regs causes) (rejects h0 h pre ∙ b)))) (λ h0 h pre b. (pre, rejects h0 h pre ∙ b))
-      where
-        rejects : (h0 h : Here) → known h0 h → is_false true (truth_in (truth_at h0)) ≡ is_rejected true (read h.regs value)
-        rejects h0 h pre =
-            ap (is_false true) (sym (truth-twice (value_of conjunct (environment_of m h0)))) ∙ ap (is_rejected true) (sym pre.1)
-
-    merges : Triple m jumped merging (λ h0. 1) labels no_last kept end
-    merges = t_put m jumped (op.Merge value causes) causes (λ h. merged (read h.regs value) (read h.regs causes)) labels no_last kept end (omega (arith, x.grows.most)) (λ at s. refl) (λ h0 h regs pre long is same. (
-      but_regs regs (λ k lt ne. same k ne) pre.0.0.0,
-      sym (merged_truth (truth_at h0) (read h0.regs causes) pre.1) ∙ ap Some (sym (is ∙ ap (λ v. merged v (read h.regs causes)) pre.0.1 ∙ ap (merged (truth_at h0)) pre.0.0.1)),
-    ))
-
-    whole : Triple m a (given_back merging) (λ h0. steps_of conjunct + 3) labels no_last started end
-    whole =
-        let back = t_draft m labels no_last end (g_given_back merging) refl in
-        t_more (λ h0. steps_of conjunct + 3) (λ h0. omega arith) (t_seq (t_seq (t_seq gets jumps) merges) back)
+  -- the causes are added to those that count, by what their register held
+  abbrev adding : Draft → Draft
+  adding d = with_op d (op.Merge value causes)
 
   abbrev outside : List ℕ
   outside = label ∷ []
 
-  steady : Steady [] outside a (given_back merging)
-  steady =
-      st_then (g_taken a) (st_taken [] outside a) (st_then x.grows (st_inner [] outside x.steady) (st_then (g_op c (op.IfNot value label true)) (st_fork [] outside c (op.IfNot value label true) label refl refl (inl refl)) (st_then (g_op jumped (op.Merge value causes)) (st_op [] outside jumped (op.Merge value causes) (refl, refl)) (st_given_back [] outside merging))))
+  module _ (found : Out → Out) where
+    abbrev sifted_by : Environment → Out → Option Out
+    sifted_by env held = after_conjunct (found held) (truth_in (truth_of (value_of conjunct env)))
 
-  pub sifts_conjunct : Sifts no_calls a (given_back merging) causes label (λ env found. after_conjunct found (truth_in (truth_of (value_of conjunct env)))) (λ env. steps_of conjunct + 3)
+    abbrev started : Claim
+    started h0 h = But a.next causes h0 h × (read h.regs causes ≡ read h0.regs causes)
+
+    module _ (m : Setting) where
+      abbrev truth_at : Here → Out
+      truth_at h = truth_of (value_of conjunct (environment_of m h))
+
+      abbrev outcome_at : Here → Option Out
+      outcome_at h = sifted_by (environment_of m h) (read h.regs causes)
+
+      abbrev known : Claim
+      known h0 h = started h0 h × (read h.regs value ≡ truth_at h0)
+
+      abbrev kept : Claim
+      kept h0 h = known h0 h × (is_false true (truth_in (truth_at h0)) ≡ false)
+
+      abbrev ready : Claim
+      ready h0 h =
+          (But a.next causes h0 h × (read h.regs causes ≡ found (read h0.regs causes))) × (read h.regs value ≡ truth_at h0) × (is_false true (truth_in (truth_at h0)) ≡ false)
+
+      abbrev end : Claim
+      end h0 h = But a.next causes h0 h × (outcome_at h0 ≡ Some (read h.regs causes))
+
+      abbrev dropped : Claim
+      dropped h0 h = But a.next causes h0 h × (outcome_at h0 ≡ None)
+
+      abbrev labels : Labels
+      labels = with_claim label dropped no_labels
+
+      gets : Triple m a c (λ h0. steps_of conjunct + 1) labels no_last started known
+      gets =
+          let take = t_draft m labels no_last started (g_taken a) refl in
+          let leave = t_leaves m tt labels no_last started known x (λ h0 h pre. but_env m pre.0) (λ h0 h regs pre long is same.
+          ((but_regs regs (λ k lt ne. same k (omega arith) (omega (arith, v_is))) pre.0, same causes (omega arith) (omega (arith, v_is)) ∙ pre.1), is ∙ ap (λ env. truth_of (value_of conjunct env)) (but_env m pre.0))) in
+          t_more (λ h0. steps_of conjunct + 1) (λ h0. omega arith) (t_seq take leave)
+
+      jumps : Triple m c jumped (λ h0. 1) labels no_last known kept
+      jumps = t_test m c (op.IfNot value label true) label (λ h. is_rejected true (read h.regs value)) labels no_last known kept (λ at s. refl) (λ h0 h pre b. inl (refl, (pre.0.0, rejected_truth (truth_in (truth_at h0)) (found (read h0.regs causes)) (rejects h0 h pre ∙ b)))) (λ h0 h pre b. (pre, rejects h0 h pre ∙ b))
+        where
+          rejects : (h0 h : Here) → known h0 h → is_false true (truth_in (truth_at h0)) ≡ is_rejected true (read h.regs value)
+          rejects h0 h pre =
+              ap (is_false true) (sym (truth-twice (value_of conjunct (environment_of m h0)))) ∙ ap (is_rejected true) (sym pre.1)
+
+      tests : Triple m a jumped (λ h0. steps_of conjunct + 2) labels no_last started kept
+      tests = t_more (λ h0. steps_of conjunct + 2) (λ h0. omega arith) (t_seq gets jumps)
+
+      adds : (d : Draft) → c.most ≤ d.most → Triple m d (given_back (adding d)) (λ h0. 1) labels no_last ready end
+      adds d wide =
+          let merge = t_put m d (op.Merge value causes) causes (λ h. merged (read h.regs value) (read h.regs causes)) labels no_last ready end (omega (arith, x.grows.most, wide)) (λ at s. refl) (λ h0 h regs pre long is same. (
+            but_regs regs (λ k lt ne. same k ne) pre.0.0,
+            sym (merged_truth (truth_at h0) (found (read h0.regs causes)) pre.2) ∙ ap Some (sym (is ∙ ap (λ v. merged v (read h.regs causes)) pre.1 ∙ ap (merged (truth_at h0)) pre.0.1)),
+          )) in
+          t_more (λ h0. 1) (λ h0. omega arith) (t_seq merge (t_draft m labels no_last end (g_given_back (adding d)) refl))
+
+    -- behind the test, by what stands between it and the adding
+    sifts_by : (d : Draft) (n total : ℕ) → steps_of conjunct + 3 + n ≤ total → Grows jumped d → d.next ≡ jumped.next → Steady [] outside jumped d → ((m : Setting) → Triple m jumped d (λ h0. n) (labels m) no_last (kept m) (ready m)) → Sifts no_calls a (given_back (adding d)) causes label sifted_by (λ env. total)
+    sifts_by d n total few grows next steady between =
+        sifts_of causes label sifted_by started (grows_then (g_taken a) (grows_then x.grows (grows_then (g_op c (op.IfNot value label true)) (grows_then grows (grows_then (g_op d (op.Merge value causes)) (g_given_back (adding d))))))) (omega (arith, x.next, next)) (st_then (g_taken a) (st_taken [] outside a) (st_then x.grows (st_inner [] outside x.steady) (st_then (g_op c (op.IfNot value label true)) (st_fork [] outside c (op.IfNot value label true) label refl refl (inl refl)) (st_then grows steady (st_then (g_op d (op.Merge value causes)) (st_op [] outside d (op.Merge value causes) (refl, refl)) (st_given_back [] outside (adding d))))))) (λ h. (but_none a.next causes h, refl)) (λ m called.
+        t_more (λ h0. total) (λ h0. omega (arith, few)) (t_seq (t_seq (tests m) (between m)) (adds m d (omega (arith, grows.most)))))
+
+  -- behind others it adds to what the register holds
+  pub sifts_conjunct : Sifts no_calls a (given_back (adding jumped)) causes label (λ env found. after_conjunct found (truth_in (truth_of (value_of conjunct env)))) (λ env. steps_of conjunct + 3)
   sifts_conjunct =
-      sifts_of causes label (λ env found. after_conjunct found (truth_in (truth_of (value_of conjunct env)))) started (grows_then (g_taken a) (grows_then x.grows (grows_then (g_op c (op.IfNot value label true)) (grows_then (g_op jumped (op.Merge value causes)) (g_given_back merging))))) (omega (arith, x.next)) steady (λ h. (but_none a.next causes h, refl)) (λ m called. whole m)
+      let same : Out → Out = λ held. held in
+      sifts_by same jumped 0 (steps_of conjunct + 3) (omega arith) (grows_none jumped) refl (st_none [] outside jumped) (λ m. t_use (kept same m) (ready same m) (λ h0 h pre. pre) (λ h0 h pre. (pre.0.0, pre.0.1, pre.1)) (t_draft m (labels same m) no_last (kept same m) (grows_none jumped) refl))
+
+  -- the first begins with none
+  pub sifts_first : Sifts no_calls a (given_back (adding clearing)) causes label (λ env found. after_conjunct no_causes (truth_in (truth_of (value_of conjunct env)))) (λ env. steps_of conjunct + 4)
+  sifts_first =
+      let none : Out → Out = λ held. no_causes in
+      sifts_by none clearing 1 (steps_of conjunct + 4) (omega arith) (g_op jumped (op.Null causes)) refl (st_op [] outside jumped (op.Null causes) (refl, refl)) (λ m. t_put m jumped (op.Null causes) causes (λ h. no_causes) (labels none m) no_last (kept none m) (ready none m) (omega (arith, x.grows.most)) (λ at s. refl) (λ h0 h regs pre long is same.
+      ((but_regs regs (λ k lt ne. same k ne) pre.0.0.0, is), same value (omega (arith, v_is)) ∙ pre.0.1, pre.1)))
 
 -- ---- one after the other
 
@@ -184,3 +202,23 @@ steps_last cs c = sym (sum_by_push (λ d. steps_of d + 3) cs c)
 pub sifts_more : {a b z : Draft} (causes label : ℕ) (cs : List BoundExpr) (c : BoundExpr) → Sifts no_calls a b causes label (λ env. sifted cs env) (λ env. conjuncts_steps cs) → Sifts no_calls b z causes label (λ env found. after_conjunct found (truth_in (truth_of (value_of c env)))) (λ env. steps_of c + 3) → Sifts no_calls a z causes label (λ env. sifted (cs ++ c ∷ []) env) (λ env. conjuncts_steps (cs ++ c ∷ []))
 sifts_more causes label cs c x y =
     sifts_same causes label (λ env v. option_and_then (by_conjunct c env) (sifted cs env v)) (λ env. sifted (cs ++ c ∷ []) env) (λ env. conjuncts_steps (cs ++ c ∷ [])) (λ env v. and_then-if_some (sifted cs env v) (by_conjunct c env) ∙ sifted_last cs c env v) (λ env. steps_last cs c) (sifts_then causes label (λ env. sifted cs env) (λ env. by_conjunct c env) x y)
+
+-- the first, and all others
+pub sifts_all : {a b z : Draft} (causes label : ℕ) (first : BoundExpr) (others : List BoundExpr) → Sifts no_calls a b causes label (λ env found. after_conjunct no_causes (truth_in (truth_of (value_of first env)))) (λ env. steps_of first + 4) → Sifts no_calls b z causes label (λ env. sifted others env) (λ env. conjuncts_steps others) → Sifts no_calls a z causes label (λ env found. sifted (first ∷ others) env no_causes) (λ env. conjuncts_steps (first ∷ others) + 1)
+sifts_all causes label first others x y =
+    sifts_same causes label (λ env v. option_and_then (sifted others env) (by_conjunct first env no_causes)) (λ env v. sifted (first ∷ others) env no_causes) (λ env. conjuncts_steps (first ∷ others) + 1) (λ env v. and_then-if_some (by_conjunct first env no_causes) (sifted others env)) (λ env. omega (arith, sum_by-cons (λ d. steps_of d + 3) first others)) (sifts_then causes label (λ env v. by_conjunct first env no_causes) (λ env. sifted others env) x y)
+
+-- without conjuncts there is no cause
+cleared : (a : Draft) (causes label : ℕ) → causes < a.next → a.next ≤ a.most → Sifts no_calls a (with_op a (op.Null causes)) causes label (λ env found. sifted [] env no_causes) (λ env. conjuncts_steps [] + 1)
+cleared a causes label below counted =
+    let clears : Environment → Out → Option Out = λ env found. Some no_causes in
+    let begun : Claim = λ h0 h. But a.next causes h0 h in
+    sifts_of causes label clears begun (g_op a (op.Null causes)) refl (st_op [] (label ∷ []) a (op.Null causes) (refl, refl)) (λ h. but_none a.next causes h) (λ m called.
+    let rejected : Claim = λ h0 h. But a.next causes h0 h × (clears (environment_of m h0) (read h0.regs causes) ≡ None) in
+    let kept_all : Claim = λ h0 h. But a.next causes h0 h × (clears (environment_of m h0) (read h0.regs causes) ≡ Some (read h.regs causes)) in
+    t_put m a (op.Null causes) causes (λ h. no_causes) (with_claim label rejected no_labels) no_last begun kept_all (omega arith) (λ at s. refl) (λ h0 h regs pre long is same.
+    (but_regs regs (λ k lt ne. same k ne) pre, ap Some (sym is))))
+
+pub sifts_cleared : (a : Draft) (causes label : ℕ) (conjuncts : List BoundExpr) → length conjuncts ≡ 0 → causes < a.next → a.next ≤ a.most → Sifts no_calls a (with_op a (op.Null causes)) causes label (λ env found. sifted conjuncts env no_causes) (λ env. conjuncts_steps conjuncts + 1)
+sifts_cleared a causes label [] none below counted = cleared a causes label below counted
+sifts_cleared a causes label (c ∷ cs) none below counted = absurd (omega (arith, none))

@@ -26,7 +26,7 @@ use Rattle.vm_code.proofs.Drafts.{g_bound, g_label, g_op, g_released, g_taken, g
 use Rattle.vm_code.proofs.Tracks.{has-bound, place-bound, st_fork, st_goto, st_inner, st_leave, st_made, st_on, st_op, st_released, st_taken, st_then}
 use Rattle.vm_code.proofs.Registers.{outs_same, values_outs}
 use Rattle.vm_code.proofs.Triples.{no_labels, with_claim, t_seq, t_more, t_draft, t_op, t_test, t_goto, t_bind, t_halt_bad}
-use Rattle.vm_code.proofs.Effects.{t_put, does_of, But, but_none, but_regs, but_env, EndsDone, EndsFailed}
+use Rattle.vm_code.proofs.Effects.{does_of, But, but_none, but_regs, but_env, EndsDone, EndsFailed}
 use Rattle.vm_code.proofs.Fills.{t_fills}
 
 -- ---- the item by what the registers hold
@@ -55,7 +55,7 @@ but_memory {mark} {to} {h0} {h} x =
 
 -- ---- the code of a row
 
-module _ (a x y z : Draft) (conjuncts results : List BoundExpr) (counted : a.next ≤ a.most) (sx : Sifts no_calls (with_op (taken (with_label a)) (op.Null a.next)) x a.next (length a.labels) (λ env. sifted conjuncts env) (λ env. conjuncts_steps conjuncts)) (fy : Fills no_calls x y (length results) (λ env. values_in results env) (λ env. sum_by steps_of results)) (gz : Gathers y z x.next (y.next - x.next) a.next) where
+module _ (a x y z : Draft) (conjuncts results : List BoundExpr) (counted : a.next ≤ a.most) (sx : Sifts no_calls (taken (with_label a)) x a.next (length a.labels) (λ env found. sifted conjuncts env no_causes) (λ env. conjuncts_steps conjuncts + 1)) (fy : Fills no_calls x y (length results) (λ env. values_in results env) (λ env. sum_by steps_of results)) (gz : Gathers y z x.next (y.next - x.next) a.next) where
   abbrev causes : ℕ
   causes = a.next
 
@@ -67,9 +67,6 @@ module _ (a x y z : Draft) (conjuncts results : List BoundExpr) (counted : a.nex
 
   abbrev fail : ℕ
   fail = length z.labels
-
-  abbrev nulling : Draft
-  nulling = with_op (taken (with_label a)) (op.Null causes)
 
   abbrev testing : Draft
   testing = with_op (with_label z) (op.IsBad causes fail)
@@ -105,7 +102,7 @@ module _ (a x y z : Draft) (conjuncts results : List BoundExpr) (counted : a.nex
 
   grows_leaving : Grows a leaving
   grows_leaving =
-      grows_then (g_label a) (grows_then (g_taken (with_label a)) (grows_then (g_op (taken (with_label a)) (op.Null causes)) (grows_then sx.grows (grows_then fy.grows (grows_then gz.grows (grows_then (g_label z) (grows_then (g_op (with_label z) (op.IsBad causes fail)) (grows_then (g_op testing (op.ResultRow x.next count)) (g_op giving (op.Goto next))))))))))
+      grows_then (g_label a) (grows_then (g_taken (with_label a)) (grows_then sx.grows (grows_then fy.grows (grows_then gz.grows (grows_then (g_label z) (grows_then (g_op (with_label z) (op.IsBad causes fail)) (grows_then (g_op testing (op.ResultRow x.next count)) (g_op giving (op.Goto next)))))))))
 
   grows_row : Grows a row_code
   grows_row =
@@ -124,7 +121,7 @@ module _ (a x y z : Draft) (conjuncts results : List BoundExpr) (counted : a.nex
 
   steady_row : Steady [] [] a row_code
   steady_row =
-      st_made next refl (place-bound halting next next_there) (st_then (g_taken (with_label a)) (st_taken [] outside (with_label a)) (st_then (g_op (taken (with_label a)) (op.Null causes)) (st_op [] outside (taken (with_label a)) (op.Null causes) (refl, refl)) (st_then sx.grows sx.steady (st_then fy.grows (st_inner [] outside fy.steady) (st_then gz.grows (st_inner [] outside gz.steady) (st_on (g_label z).marks steady_giving (st_released [] outside (bound halting next) causes)))))))
+      st_made next refl (place-bound halting next next_there) (st_then (g_taken (with_label a)) (st_taken [] outside (with_label a)) (st_then sx.grows sx.steady (st_then fy.grows (st_inner [] outside fy.steady) (st_then gz.grows (st_inner [] outside gz.steady) (st_on (g_label z).marks steady_giving (st_released [] outside (bound halting next) causes))))))
 
   abbrev started : Claim
   started = But causes causes
@@ -139,9 +136,6 @@ module _ (a x y z : Draft) (conjuncts results : List BoundExpr) (counted : a.nex
 
     abbrev outs_of : Here → List Out
     outs_of h = values_in results (environment_of m h)
-
-    abbrev nulled : Claim
-    nulled h0 h = started h0 h × (read h.regs causes ≡ no_causes)
 
     abbrev kept : Claim
     kept h0 h = started h0 h × (sifted conjuncts (environment_of m h0) no_causes ≡ Some (read h.regs causes))
@@ -186,17 +180,13 @@ module _ (a x y z : Draft) (conjuncts results : List BoundExpr) (counted : a.nex
       ap (λ l. gives l (memory_of 0 h0)) (items-none conjuncts results (sight_of m h0) none) ∙ ap Done (with_given-nil (memory_of 0 h0) ∙ but_memory but),
     )
 
-    begins : Triple m a nulling (λ h0. 1) innermost last started nulled
-    begins =
+    sifts : Triple m a x (λ h0. conjuncts_steps conjuncts + 1) innermost last started kept
+    sifts =
         let take = t_draft m innermost last started (grows_then (g_label a) (g_taken (with_label a))) refl in
-        let clear = t_put m (taken (with_label a)) (op.Null causes) causes (λ h. no_causes) innermost last started nulled (omega arith) (λ at s. refl) (λ h0 h regs pre long is same.
-        (but_regs regs (λ k lt ne. same k ne) pre, is)) in
-        t_more (λ h0. 1) (λ h0. omega arith) (t_seq take clear)
-
-    sifts : Triple m nulling x (λ h0. conjuncts_steps conjuncts) innermost last nulled kept
-    sifts = t_sifts m tt innermost last nulled kept sx (λ h0 h pre. but_env m pre.0) (λ h0 h regs v pre is long has same.
-        (but_regs regs (λ k lt ne. same k (omega arith) ne) pre.0, sym (ap (λ env. sifted conjuncts env no_causes) (but_env m pre.0)) ∙ sym (ap (sifted conjuncts (environment_of m h)) pre.1) ∙ is ∙ ap Some (sym has))) (λ h0 h regs pre is long same.
-        inr (inl (refl, rejected h0 (with_regs h regs) (but_regs regs (λ k lt ne. same k (omega arith) ne) pre.0) (sym (ap (λ env. sifted conjuncts env no_causes) (but_env m pre.0)) ∙ sym (ap (sifted conjuncts (environment_of m h)) pre.1) ∙ is))))
+        let sift = t_sifts m tt innermost last started kept sx (λ h0 h pre. but_env m pre) (λ h0 h regs v pre is long has same.
+        (but_regs regs (λ k lt ne. same k (omega arith) ne) pre, sym (ap (λ env. sifted conjuncts env no_causes) (but_env m pre)) ∙ is ∙ ap Some (sym has))) (λ h0 h regs pre is long same.
+        inr (inl (refl, rejected h0 (with_regs h regs) (but_regs regs (λ k lt ne. same k (omega arith) ne) pre) (sym (ap (λ env. sifted conjuncts env no_causes) (but_env m pre)) ∙ is)))) in
+        t_more (λ h0. conjuncts_steps conjuncts + 1) (λ h0. omega arith) (t_seq take sift)
 
     fills : Triple m x y (λ h0. sum_by steps_of results) innermost last kept filled
     fills = t_fills m tt innermost last kept filled fy (λ h0 h pre. but_env m pre.0) (λ h0 h regs pre long is same.
@@ -237,7 +227,7 @@ module _ (a x y z : Draft) (conjuncts results : List BoundExpr) (counted : a.nex
 
     whole : Triple m a row_code (λ h0. row_steps conjuncts results) outer last started done
     whole =
-        let good_way = t_seq (t_seq (t_seq (t_seq (t_seq (t_seq begins sifts) fills) gathers) tests) given) leaves in
+        let good_way = t_seq (t_seq (t_seq (t_seq (t_seq sifts fills) gathers) tests) given) leaves in
         let at_fail = t_bind fail bad_row (open_new z) (λ h0 h no. absurd no) good_way in
         let all = t_bind next done next_there (λ h0 h no. absurd no) (t_seq at_fail fails) in
         let back = t_draft m outer last done (g_released (bound halting next) causes) refl in

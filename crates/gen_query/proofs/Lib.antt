@@ -4,5 +4,6 @@ mod Gathering
 mod Listing
 mod Giving
 mod Looping
+mod Following
 mod Performing
 pub mod Sizing

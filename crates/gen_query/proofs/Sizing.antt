@@ -1,11 +1,11 @@
 -- How many instructions a query takes by how large it is.
 use Rattle.std.proofs.Common.{◌≡◌, ℕ, ◌+◌, ◌*◌, ◌≤◌, List, [], ◌∷◌, length, arith}
-use Rattle.std.specs.Prelude.{Option, Some, None}
+use Rattle.std.specs.Prelude.{Option, Some, None, sum_by}
 use Rattle.std.proofs.Math.Nat.{mul-le-mul_left}
 use Rattle.std.proofs.lemmas.List.Sums.{sum_by-cons}
 use Rattle.gen_expr.specs.Steps.{steps_of}
 use Rattle.gen_expr.proofs.Bounds.{steps_and_two_within}
-use Rattle.gen_query.specs.Queries.{StepsAreFew, conjuncts_steps, results_steps, row_steps, rows_seen, steps_over}
+use Rattle.gen_query.specs.Queries.{StepsAreFew, ValuesStepsAreFew, conjuncts_steps, results_steps, row_steps, rows_in_turn_steps, rows_seen, steps_over}
 use Rattle.sql_meaning.specs.Sizes.{all_nodes}
 use Rattle.sql_meaning.specs.declared.bound.BoundExpr.{BoundExpr}
 use Rattle.sql_meaning.specs.declared.bound.BoundSelect.{BoundSelect}
@@ -33,3 +33,12 @@ steps_few (Some table) conjuncts results w =
 
 pub steps-few : (q : BoundSelect) → StepsAreFew q
 steps-few q x = steps_few q.table q.conjuncts q.results x.world
+
+-- ---- VALUES
+
+rows_few : (rows : List (List BoundExpr)) → rows_in_turn_steps rows ≤ 4 * sum_by all_nodes rows + 5 * length rows
+rows_few [] = omega arith
+rows_few (row ∷ rows) = omega (arith, results_few row, rows_few rows, sum_by-cons (row_steps []) row rows, sum_by-cons all_nodes row rows)
+
+pub values-few : (rows : List (List BoundExpr)) → ValuesStepsAreFew rows
+values-few rows x = omega (arith, rows_few rows)

@@ -34,6 +34,15 @@ run_by w last_rowid items =
 abbrev pub query_run : BoundSelect → Surroundings → ℤ → Run
 query_run q x last_rowid = run_by x.world last_rowid (items_in q x)
 
+-- ---- VALUES
+
+-- the item of each row in turn; its expressions see no row of a FROM
+abbrev pub values_items : List (List BoundExpr) → Surroundings → List Item
+values_items rows x = map (λ row. shown row (environment x [] [] []) no_causes) rows
+
+abbrev pub values_run : List (List BoundExpr) → Surroundings → ℤ → Run
+values_run rows x last_rowid = run_by x.world last_rowid (values_items rows x)
+
 -- ---- a stretch of its code
 
 abbrev pub outcome_by : Option CauseSet → Memory → Outcome
@@ -70,6 +79,10 @@ effect_over item (Some table) conjuncts results = scan_effect item table conjunc
 abbrev pub rows_effect : ℕ → BoundSelect → Effect
 rows_effect item q = effect_over item q.table q.conjuncts q.results
 
+-- the items of rows of VALUES
+abbrev pub values_effect : List (List BoundExpr) → Effect
+values_effect rows sight causes x = gives (map (λ row. shown row sight.env no_causes) rows) x
+
 abbrev pub cursors_of : Option ℕ → ℕ
 cursors_of None = 0
 cursors_of (Some table) = 1
@@ -103,6 +116,13 @@ by_world n sight causes x = n (world_of x.shared)
 abbrev pub query_steps : BoundSelect → Surroundings → ℕ
 query_steps q x = rows_steps q x.world + 1
 
+-- those of rows that no conjunct rejects, one after the other
+abbrev pub rows_in_turn_steps : List (List BoundExpr) → ℕ
+rows_in_turn_steps rows = sum_by (row_steps []) rows
+
+abbrev pub values_steps : List (List BoundExpr) → Surroundings → ℕ
+values_steps rows x = rows_in_turn_steps rows + 1
+
 -- how many rows it reads
 abbrev pub rows_seen : Option ℕ → World → ℕ
 rows_seen None w = 0
@@ -112,3 +132,8 @@ rows_seen (Some table) w = length (rows_of w table)
 abbrev pub StepsAreFew : BoundSelect → Type 0
 StepsAreFew q =
     (x : Surroundings) → query_steps q x ≤ 16 + (1 + rows_seen q.table x.world) * (4 * (all_nodes q.conjuncts + all_nodes q.results) + 6)
+
+-- those of VALUES by how many nodes its rows have, and how many rows there are
+abbrev pub ValuesStepsAreFew : List (List BoundExpr) → Type 0
+ValuesStepsAreFew rows =
+    (x : Surroundings) → values_steps rows x ≤ 4 * sum_by all_nodes rows + 5 * length rows + 1

@@ -1,11 +1,12 @@
 // The program of a query.
 ghost use Rattle.std.specs.Prelude.{IfOk};
-ghost use Rattle.gen_query.specs.Queries.{query_run, query_steps};
+ghost use Rattle.gen_query.specs.Queries.{query_run, query_steps, values_run, values_steps};
 ghost use Rattle.vm_code.specs.Balanced.{IsBalanced};
 ghost use Rattle.vm_code.specs.Machine.{Performs};
 
 use crate::scanning::emit_rows;
-use sql_meaning::BoundSelect;
+use crate::values::emit_values;
+use sql_meaning::{BoundExpr, BoundSelect};
 use sqlite_items::Items;
 use std::alloc::{AllocError, Global};
 use vm_code::{Builder, Op, Program};
@@ -20,6 +21,19 @@ pub fn compile(alloc: Global, query: &BoundSelect) -> Result<Program, AllocError
 {
     let mut b = Builder::new(alloc, Items::new(alloc));
     emit_rows(alloc, &mut b, query)?;
+    b.op(Op::Halt)?;
+    Ok(b.finish_program())
+}
+
+/// The program of `VALUES (e, ..), (e, ..)` (SQL As Understood By SQLite, "SELECT"): it gives the results of each row in turn. Where
+/// one is bad the run fails for the causes of all results of its row, as far as they may be named, behind the rows in front. It
+/// reads and writes no table. Only memory can fail.
+pub fn compile_values(alloc: Global, rows: &[Items<BoundExpr>]) -> Result<Program, AllocError>
+    ensures performs { IfOk result (λ p. Performs p (values_run rows.now) (values_steps rows.now)) }
+    ensures balanced { IfOk result (λ p. IsBalanced p.main) }
+{
+    let mut b = Builder::new(alloc, Items::new(alloc));
+    emit_values(alloc, &mut b, rows)?;
     b.op(Op::Halt)?;
     Ok(b.finish_program())
 }

@@ -85,7 +85,7 @@ fn open_loop(b: &mut Builder, table: u32) -> Result<Loop, AllocError>
 
 /// Writes the code of a row: where no conjunct rejects it, it gives the results, or gives up for the causes of the conjuncts
 /// and of all results. What the conjuncts and results see is the environment of the frame.
-fn emit_row(
+pub(crate) fn emit_row(
     alloc: Global,
     b: &mut Builder,
     conjuncts: &[BoundExpr],
@@ -97,7 +97,6 @@ fn emit_row(
 {
     let next = b.label()?;
     let causes = b.take()?;
-    b.op(Op::Null { to: causes })?;
     emit_conjuncts(alloc, b, conjuncts, causes, next)?;
     let first = b.next_register();
     emit_results(alloc, b, results)?;

@@ -2,6 +2,7 @@
 ghost use Rattle.std.specs.Prelude.{◌≡◌, ◌+◌, ◌<◌, ◌≤◌, true, OnOk};
 ghost use Rattle.eng_value.specs.Applied.{binary_of, unary_of};
 ghost use Rattle.eng_value.specs.Collations.{Keys};
+ghost use Rattle.eng_value.specs.Environments.{no_causes};
 ghost use Rattle.eng_value.specs.Truths.{truth_in, truth_of};
 ghost use Rattle.eng_value.specs.declared.out.Out.{Out};
 ghost use Rattle.gen_expr.specs.Steps.{steps_of};
@@ -9,7 +10,9 @@ ghost use Rattle.gen_query.specs.Queries.{conjuncts_steps};
 ghost use Rattle.gen_query.specs.Truths.{GivesTruth, IsTruth};
 ghost use Rattle.sql_meaning.specs.Expression.{value_of};
 ghost use Rattle.sql_meaning.specs.Statement.{after_conjunct, sifted};
+ghost use Rattle.vm_code.specs.Draft.{given_back, with_op};
 ghost use Rattle.vm_code.specs.Frames.{Leaves, Sifts, no_calls};
+ghost use Rattle.vm_code.specs.declared.op.Op.TheVariants as op;
 
 use eng_value::{BinaryOperator, UnaryOperator};
 use gen_expr::emit;
@@ -17,8 +20,9 @@ use sql_meaning::BoundExpr;
 use std::alloc::{AllocError, Global};
 use vm_code::{Builder, Op, Operand};
 
-/// Writes code that jumps to the label `next` where one of the conjuncts is false or NULL, and else adds the causes of those that
-/// are bad to those in the register `causes`. A bad one does not jump, so a later one that is false still rejects the row.
+/// Writes code that jumps to the label `next` where one of the conjuncts is false or NULL, and else leaves the causes of those that
+/// are bad in the register `causes`. A bad one does not jump, so a later one that is false still rejects the row. The register is
+/// cleared behind the test of the first, so that a row which that one rejects takes no instruction for it.
 pub(crate) fn emit_conjuncts(
     alloc: Global,
     b: &mut Builder,
@@ -28,16 +32,40 @@ pub(crate) fn emit_conjuncts(
 ) -> Result<(), AllocError>
     requires taken { causes < b.old.next }
     requires counted { b.old.next ≤ b.old.most }
-    ensures sifts { OnOk result (Sifts no_calls b.old b.new causes next (λ env. sifted conjuncts.now env) (λ _. conjuncts_steps conjuncts.now)) }
+    ensures sifts { OnOk result (Sifts no_calls b.old b.new causes next (λ env _. sifted conjuncts.now env no_causes) (λ _. conjuncts_steps conjuncts.now + 1)) }
     ensures cursors { OnOk result (b.new.cursors ≡ b.old.cursors) }
 {
-    for conjunct in conjuncts {
+    let Some((first, others)) = conjuncts.split_first() else {
+        return b.op(Op::Null { to: causes });
+    };
+    emit_first(alloc, b, first, causes, next)?;
+    for conjunct in others {
         emit_conjunct(alloc, b, conjunct, causes, next)?;
     }
     Ok(())
 }
 
-/// The same for one conjunct.
+/// The same for the first conjunct, whatever the register `causes` held.
+fn emit_first(
+    alloc: Global,
+    b: &mut Builder,
+    conjunct: &BoundExpr,
+    causes: u32,
+    next: usize,
+) -> Result<(), AllocError>
+    requires taken { causes < b.old.next }
+    requires counted { b.old.next ≤ b.old.most }
+    ensures sifts { OnOk result (Sifts no_calls b.old b.new causes next (λ env _. after_conjunct no_causes (truth_in (truth_of (value_of conjunct.now env)))) (λ _. steps_of conjunct.now + 4)) }
+    ensures cursors { OnOk result (b.new.cursors ≡ b.old.cursors) }
+{
+    let value = b.take()?;
+    emit_truth(alloc, b, conjunct, value)?;
+    reject(b, value, next)?;
+    b.op(Op::Null { to: causes })?;
+    add_causes(b, value, causes)
+}
+
+/// The same for a conjunct behind others, whose causes the register `causes` holds.
 fn emit_conjunct(
     alloc: Global,
     b: &mut Builder,
@@ -52,13 +80,29 @@ fn emit_conjunct(
 {
     let value = b.take()?;
     emit_truth(alloc, b, conjunct, value)?;
+    reject(b, value, next)?;
+    add_causes(b, value, causes)
+}
+
+/// Goes to the label `next` where a truth is false or NULL.
+fn reject(b: &mut Builder, truth: u32, next: usize) -> Result<(), AllocError>
+    ensures { OnOk result (b.new ≡ with_op b.old (op.IfNot truth next true)) }
+{
     b.op(Op::IfNot {
-        register: value,
+        register: truth,
         target: next,
         on_null: true,
-    })?;
+    })
+}
+
+/// Adds the causes of a truth to those in the register `causes`. The truth's own register, the last one that is taken, is free
+/// behind it.
+fn add_causes(b: &mut Builder, truth: u32, causes: u32) -> Result<(), AllocError>
+    requires { 0 < b.old.next }
+    ensures { OnOk result (b.new ≡ given_back (with_op b.old (op.Merge truth causes))) }
+{
     b.op(Op::Merge {
-        from: value,
+        from: truth,
         to: causes,
     })?;
     b.give_back();

@@ -1,7 +1,9 @@
 use Rattle.std.proofs.Common.{◌≡◌, ◌∙◌, length, refl, ap, arith}
 use Rattle.std.specs.Prelude.{slice_get}
-use Rattle.vm_code.specs.Draft.{Draft}
-use Rattle.gen_expr.proofs.Expressions.{of_literal, of_column, of_parameter, literal_offered, column_offered, parameter_offered, register_offered, of_unary, of_binary, three_offered, of_like_escaped, of_between, none_offered, all_more, of_call, member_more, of_in, known_more, of_coalesce, choice_more, of_choose, match_more, of_match}
+use Rattle.std.proofs.lemmas.Result.{on_ok_weaker}
+use Rattle.vm_code.specs.declared.op.Op.TheVariants as op
+use Rattle.vm_code.specs.Draft.{Draft, bound, released, with_op}
+use Rattle.gen_expr.proofs.Expressions.{of_literal, of_column, of_parameter, literal_offered, column_offered, parameter_offered, register_offered, of_unary, of_binary, both_joined, decided_joined, decided_within, three_offered, of_like_escaped, of_between, none_offered, all_more, of_call, member_more, of_in, known_more, of_coalesce, choice_more, of_choose, match_more, of_match}
 use Rattle.gen_expr.proofs.Assembly.{beside_of, beside_on, turns_at, decides_at, emits_from, all_offered, label_open, tested_open, arm_parts, arm_steps, match_parts, match_steps, member_all, known_all, choice_all, match_all}
 use Rattle.gen_expr.proofs.Stretches.{decides_none, turns_none}
 use Rattle.gen_expr.specs.Parts.{with_arm_tested}
@@ -25,10 +27,9 @@ pub emit-returns-in_ok-unary-in-Unary-clause-leaves : goal.emit-returns-in_ok-un
 emit-returns-in_ok-unary-in-Unary-clause-leaves t c =
     rw (c.in-Unary.is, ← c.get.ensures, c.in_ok-unary-in-Unary.ensures) (of_unary c.args.b.now c.operand.new.b c.in-Unary.operator c.in_ok-inner-in-Unary.inner c.next_register-first.result c.args.to _ c.next_register-first.ensures c.in_ok-inner-in-Unary.ensures.offers c.requires.taken)
 
-pub emit-returns-in_ok-binary-in-Binary-clause-leaves : goal.emit-returns-in_ok-binary-in-Binary-clause-leaves
-emit-returns-in_ok-binary-in-Binary-clause-leaves t c =
-    rw (c.in-Binary.is, ← c.get-in-Binary.ensures, ← c.get-in-Binary-2.ensures, c.in_ok-binary-in-Binary.ensures)
-    (of_binary c.args.b.now c.operand-in-Binary.new.b c.operand-in-Binary-2.new.b c.in-Binary.operator c.in_ok-left-in-Binary.left c.in_ok-right-in-Binary.right c.next_register-first.result c.args.to _ _ c.next_register-first.ensures c.in_ok-left-in-Binary.ensures.offers c.in_ok-right-in-Binary.ensures.offers c.requires.taken)
+pub emit-returns-in_ok-emit_binary-in-Binary-clause-leaves : goal.emit-returns-in_ok-emit_binary-in-Binary-clause-leaves
+emit-returns-in_ok-emit_binary-in-Binary-clause-leaves t c =
+    rw (c.in-Binary.is, ← c.get-in-Binary.ensures, ← c.get-in-Binary-2.ensures) (of_binary c.args.b.now c.emit_binary.new.b c.in-Binary.operator c.args.to _ _ c.in_ok-emit_binary-in-Binary.ensures.leaves)
 
 pub emit-returns-in_ok-like_escaped-in-LikeEscaped-clause-leaves : goal.emit-returns-in_ok-like_escaped-in-LikeEscaped-clause-leaves
 emit-returns-in_ok-like_escaped-in-LikeEscaped-clause-leaves t c =
@@ -60,6 +61,20 @@ pub emit-returns-in_ok-call-in-Call-clause-leaves : goal.emit-returns-in_ok-call
 emit-returns-in_ok-call-in-Call-clause-leaves t c =
     rw (c.in-Call.is, ← c.as_slice-in-Call.ensures, c.in_ok-call-in-Call.ensures)
     (of_call c.args.b.now c.all_operands.new.b c.in-Call.function c.in-Call.collation c.in_ok-args-in-Call.args c.next_register-first.result c.args.to _ c.next_register-first.ensures c.in_ok-args-in-Call.ensures.offers c.requires.taken)
+
+-- ---- operators on two expressions
+
+pub emit_binary-returns-in-Some-clause-leaves : goal.emit_binary-returns-in-Some-clause-leaves
+emit_binary-returns-in-Some-clause-leaves t c =
+    on_ok_weaker c.emit_decided.result (λ l. decided_within c.args.b.now c.emit_decided.new.b c.args.operator c.args.to c.args.left.now c.args.right.now c.in-Some.ensures.steps l) c.emit_decided.ensures.leaves
+
+pub emit_binary-returns-clause-leaves : goal.emit_binary-returns-clause-leaves
+emit_binary-returns-clause-leaves t c =
+    on_ok_weaker {P = c.binary.new.b ≡ released (with_op c.operand-2.new.b (op.Binary c.args.operator c.in_ok-left.left c.in_ok-right.right c.args.to)) c.next_register-first.result} c.binary.result (λ is. rw is (both_joined c.args.b.now c.operand.new.b c.operand-2.new.b c.args.operator c.in_ok-left.left c.in_ok-right.right c.next_register-first.result c.args.to c.args.left.now c.args.right.now c.next_register-first.ensures c.in_ok-left.ensures.offers c.in_ok-right.ensures.offers c.requires.taken)) c.binary.ensures
+
+pub emit_decided-returns-clause-leaves : goal.emit_decided-returns-clause-leaves
+emit_decided-returns-clause-leaves t c =
+    on_ok_weaker {P = c.bind.new.self ≡ bound c.binary.new.b c.in_ok-end.end} c.bind.result (λ is. decided_joined c.args.b.now c.emit.new.b c.test_left.new.b c.operand.new.b c.binary.new.b c.bind.new.self c.args.operator c.args.wanted c.in_ok-right.right c.args.to c.in_ok-end.end c.next_register-first.result c.args.left.now c.args.right.now c.requires.decided c.in_ok-emit.ensures.leaves c.in_ok-end.ensures.0 c.in_ok-end.ensures.1 c.next_register-first.ensures c.in_ok-right.ensures.offers c.in_ok-binary.ensures is c.requires.taken c.requires.counted) c.bind.ensures
 
 -- ---- operands
 

@@ -54,27 +54,33 @@ invariant-emit_match-loop-arm l = record {
   cursors : l.b.cursors ≡ l.initial.b.cursors;
 }
 
--- what is emitted gets smaller: three times the depth, one more for an operand, and two more where a function goes over parts of an expression
+-- what is emitted gets smaller: four times the depth, one more for an operand, two more where a function goes over parts of an expression, and three more where that is handed on
 abbrev pub decreases-emit : goal.decreases-emit
-decreases-emit l = 3 * goal.size-emit l
+decreases-emit l = 4 * goal.size-emit l
+
+abbrev pub decreases-emit_binary : goal.decreases-emit_binary
+decreases-emit_binary l = 4 * max (the_size l.left.now) (the_size l.right.now) + 3
+
+abbrev pub decreases-emit_decided : goal.decreases-emit_decided
+decreases-emit_decided l = 4 * max (the_size l.left.now) (the_size l.right.now) + 2
 
 abbrev pub decreases-operand : goal.decreases-operand
-decreases-operand l = 3 * goal.size-operand l + 1
+decreases-operand l = 4 * goal.size-operand l + 1
 
 abbrev pub decreases-all_operands : goal.decreases-all_operands
-decreases-all_operands l = 3 * goal.size-all_operands l + 2
+decreases-all_operands l = 4 * goal.size-all_operands l + 2
 
 abbrev pub decreases-three_operands : goal.decreases-three_operands
-decreases-three_operands l = 3 * max (the_size l.x.now) (max (the_size l.y.now) (the_size l.z.now)) + 2
+decreases-three_operands l = 4 * max (the_size l.x.now) (max (the_size l.y.now) (the_size l.z.now)) + 2
 
 abbrev pub decreases-emit_known : goal.decreases-emit_known
-decreases-emit_known l = 3 * goal.size-emit_known l + 2
+decreases-emit_known l = 4 * goal.size-emit_known l + 2
 
 abbrev pub decreases-emit_member : goal.decreases-emit_member
-decreases-emit_member l = 3 * max (the_size l.tested.now) (most the_size l.others.now) + 2
+decreases-emit_member l = 4 * max (the_size l.tested.now) (most the_size l.others.now) + 2
 
 abbrev pub decreases-emit_choice : goal.decreases-emit_choice
-decreases-emit_choice l = 3 * max (goal.size-emit_choice l) (the_size l.otherwise.now) + 2
+decreases-emit_choice l = 4 * max (goal.size-emit_choice l) (the_size l.otherwise.now) + 2
 
 abbrev pub decreases-emit_match : goal.decreases-emit_match
-decreases-emit_match l = 3 * max (the_size l.tested.now) (max (most match_size l.arms.now) (the_size l.otherwise.now)) + 2
+decreases-emit_match l = 4 * max (the_size l.tested.now) (max (most match_size l.arms.now) (the_size l.otherwise.now)) + 2

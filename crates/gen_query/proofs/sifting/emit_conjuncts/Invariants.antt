@@ -6,6 +6,6 @@ use Rattle.gen_query.proofs.sifting.emit_conjuncts.Given as goal
 
 abbrev pub invariant-loop-conjunct : goal.invariant-loop-conjunct
 invariant-loop-conjunct l = record {
-  sifts : Sifts no_calls l.initial.b l.b l.causes l.next (λ env. sifted (take l.conjunct-index l.conjuncts) env) (λ env. conjuncts_steps (take l.conjunct-index l.conjuncts));
+  sifts : Sifts no_calls l.initial.b l.b l.causes l.next (λ env. sifted (take l.conjunct-index l.others) env) (λ env. conjuncts_steps (take l.conjunct-index l.others));
   cursors : l.b.cursors ≡ l.initial.b.cursors;
 }

@@ -1,0 +1,26 @@
+// The rows of VALUES.
+ghost use Rattle.std.specs.Prelude.{◌≡◌, ◌≤◌, OnOk, None};
+ghost use Rattle.gen_query.specs.Queries.{by_world, rows_in_turn_steps, values_effect};
+ghost use Rattle.vm_code.specs.Frames.{Does, no_calls};
+
+use crate::scanning::emit_row;
+use sql_meaning::BoundExpr;
+use sqlite_items::Items;
+use std::alloc::{AllocError, Global};
+use vm_code::Builder;
+
+/// Writes code that gives the item of each row in turn, up to the first that is bad: the code of one row behind that of another.
+pub(crate) fn emit_values(
+    alloc: Global,
+    b: &mut Builder,
+    rows: &[Items<BoundExpr>],
+) -> Result<(), AllocError>
+    requires counted { b.old.next ≤ b.old.most }
+    ensures does { OnOk result (Does no_calls b.old b.new 0 0 None (values_effect rows.now) (by_world (λ _. rows_in_turn_steps rows.now))) }
+    ensures cursors { OnOk result (b.new.cursors ≡ b.old.cursors) }
+{
+    for row in rows {
+        emit_row(alloc, b, &[], row.as_slice())?;
+    }
+    Ok(())
+}
