@@ -1,11 +1,13 @@
 // The tokens that are left.
 
-ghost use Rattle.std.specs.Prelude.{◌≡◌, ◌<◌, ◌∷◌, [], IfOk};
-ghost use Rattle.sql_grammar.specs.Rules.{has, one, opening, starts};
+ghost use Rattle.std.specs.Prelude.{◌≡◌, ◌<◌, ◌∷◌, [], Ok, Err, IfOk, IfErr};
+ghost use Rattle.sql_grammar.specs.Marks as marks;
+ghost use Rattle.sql_grammar.specs.Marks.{count, operator, outside, part};
+ghost use Rattle.sql_grammar.specs.Rules.{has, one, opening, starts, taken};
 ghost use Rattle.parse_cursor.specs.Gives.{Gives, closed};
 
 use crate::error::ParseError;
-use sql_grammar::{Counts, Limit, Role, count};
+use sql_grammar::{Counts, Limit, MAX_NESTINGS, MAX_OPERATORS, MAX_PARTS, Role, count};
 use sql_tree::{Token, TokenKind};
 
 /// The tokens from the next one on, with what those before it counted.
@@ -41,16 +43,7 @@ impl<'a> Cursor<'a> {
         ensures { Gives (one role kinds.now self.old.counts self.old.rest.now) result self.new.counts self.new.rest.now }
     {
         match self.rest {
-            [token, rest @ ..] if holds(kinds, token.kind) => {
-                match count(role, self.counts) {
-                    Ok(counts) => {
-                        self.rest = rest;
-                        self.counts = counts;
-                        Ok(*token)
-                    }
-                    Err(limit) => Err(ParseError::TooMuch(limit)),
-                }
-            }
+            [token, rest @ ..] if holds(kinds, token.kind) => self.take(token, rest, role),
             _ => Err(ParseError::Syntax),
         }
     }
@@ -59,7 +52,24 @@ impl<'a> Cursor<'a> {
     pub fn expect(&mut self, kind: TokenKind, role: Role) -> Result<Token, ParseError>
         ensures { Gives (one role (kind ∷ []) self.old.counts self.old.rest.now) result self.new.counts self.new.rest.now }
     {
-        self.expect_any(&[kind], role)
+        match self.rest {
+            [token, rest @ ..] if token.kind == kind => self.take(token, rest, role),
+            _ => Err(ParseError::Syntax),
+        }
+    }
+
+    /// Takes the next token, which stands in front of these, unless it passes a limit.
+    fn take(&mut self, token: &Token, rest: &'a [Token], role: Role) -> Result<Token, ParseError>
+        requires { self.old.rest.now ≡ token.now ∷ rest.now }
+        ensures { Gives (taken (count role self.old.counts) token.now rest.now) result self.new.counts self.new.rest.now }
+    {
+        match count_here(&mut self.counts, role) {
+            Ok(()) => {
+                self.rest = rest;
+                Ok(*token)
+            }
+            Err(limit) => Err(ParseError::TooMuch(limit)),
+        }
     }
 
     /// Takes the next token, which is of this kind and opens a nesting, where so many may still be opened.
@@ -83,6 +93,87 @@ impl<'a> Cursor<'a> {
     {
         self.expect(kind, role)?;
         Ok(found)
+    }
+}
+
+/// Counts a token of this role, unless it passes a limit. The counts are large to copy, and most tokens change little of them.
+#[tactic(auto, unfolding(sql_grammar::specs::Marks::count))]
+fn count_here(counts: &mut Counts, role: Role) -> Result<(), Limit>
+    ensures counts { IfOk result (λ _. count role counts.old ≡ Ok counts.new) }
+    ensures limit { IfErr result (λ limit. count role counts.old ≡ Err limit) }
+{
+    match role {
+        Role::Quiet => Ok(()),
+        Role::Operator => count_operator(counts),
+        Role::Outside => {
+            leave(counts);
+            Ok(())
+        }
+        Role::Part => {
+            leave(counts);
+            count_part(counts)
+        }
+        Role::Opening => {
+            leave(counts);
+            count_opening(counts)
+        }
+        Role::Closing => {
+            leave(counts);
+            counts.depth = counts.depth.saturating_sub(1);
+            Ok(())
+        }
+        _ => {
+            *counts = count(role, *counts)?;
+            Ok(())
+        }
+    }
+}
+
+fn count_operator(counts: &mut Counts) -> Result<(), Limit>
+    ensures counts { IfOk result (λ _. operator counts.old ≡ Ok counts.new) }
+    ensures limit { IfErr result (λ limit. operator counts.old ≡ Err limit) }
+{
+    if counts.operators < MAX_OPERATORS {
+        counts.operators += 1;
+        Ok(())
+    } else {
+        Err(Limit::Operators)
+    }
+}
+
+fn count_part(counts: &mut Counts) -> Result<(), Limit>
+    ensures counts { IfOk result (λ _. part counts.old ≡ Ok counts.new) }
+    ensures limit { IfErr result (λ limit. part counts.old ≡ Err limit) }
+{
+    let depth = counts.depth;
+    if depth < MAX_NESTINGS + 1 && counts.parts[depth] < MAX_PARTS {
+        counts.parts[depth] += 1;
+        Ok(())
+    } else {
+        Err(Limit::Parts)
+    }
+}
+
+// The query that stands directly in the bracket begins anew.
+fn count_opening(counts: &mut Counts) -> Result<(), Limit>
+    ensures counts { IfOk result (λ _. marks.opening counts.old ≡ Ok counts.new) }
+    ensures limit { IfErr result (λ limit. marks.opening counts.old ≡ Err limit) }
+{
+    if counts.depth < MAX_NESTINGS {
+        counts.depth += 1;
+        counts.parts[counts.depth] = 0;
+        Ok(())
+    } else {
+        Err(Limit::Nestings)
+    }
+}
+
+// Outside of all expressions the next one begins anew.
+fn leave(counts: &mut Counts)
+    ensures { counts.new ≡ outside counts.old }
+{
+    if counts.within == 0 {
+        counts.operators = 0;
     }
 }
 

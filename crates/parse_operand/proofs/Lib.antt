@@ -4,3 +4,4 @@ pub mod Bracketed
 pub mod Wrapped
 pub mod Inside
 pub mod Lists
+pub mod Alone

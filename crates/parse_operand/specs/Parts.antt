@@ -1,15 +1,20 @@
 -- Parts of rules that functions of their own parse.
-use Rattle.std.specs.Prelude.{List, Option}
+use Rattle.std.specs.Prelude.{List, [], ◌∷◌, Option}
 use Rattle.sql_tree.specs.declared.token.TokenKind.{TokenKind}
+use Rattle.sql_tree.specs.declared.token.TokenKind.TheVariants as kind
 use Rattle.sql_tree.specs.declared.expr.Arguments.{Arguments}
 use Rattle.sql_tree.specs.declared.expr.Expr.{Expr}
 use Rattle.sql_tree.specs.declared.expr.Expr.TheVariants as tree
 use Rattle.sql_tree.specs.declared.expr.TypeName.{TypeName}
 use Rattle.sql_tree.specs.declared.query.Query.{Query}
 use Rattle.sql_grammar.specs.declared.counts.Role.TheVariants as role
-use Rattle.sql_grammar.specs.Rules.{seq, to}
+use Rattle.sql_grammar.specs.Rules.{Kinds, seq, to}
 use Rattle.sql_grammar.specs.Grammar.{Of, after, maybe, or_none, in_parentheses, parenthesized, subquery, arguments, condition, cast, members, raise, expr, exprs, arms, otherwise}
 use Rattle.sql_grammar.specs.Bodies.{rules}
+
+-- what tells that an expression of a list ends
+abbrev pub list_ends : Kinds
+list_ends = kind.Comma ∷ kind.RightParen ∷ []
 
 -- "(" ["*" | [DISTINCT] expr {"," expr}] ")"
 unfoldable pub in_arguments : Of (Arguments × List Expr)

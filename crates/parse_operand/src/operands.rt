@@ -10,6 +10,7 @@ ghost use Rattle.parse_cursor.specs.Gives.{Gives};
 ghost use Rattle.parse_operand.specs.Nests.{Nests};
 ghost use Rattle.parse_operand.specs.Parts as part;
 
+use crate::primaries::{LITERALS, sees_lone_literal};
 use parse_cursor::{Cursor, Element, ParseError};
 use sql_grammar::Role;
 use sql_tree::{Expr, Query, TokenKind};
@@ -75,6 +76,9 @@ impl<F: Fn(Global, &mut Cursor<'_>, usize) -> Result<Boxed<Expr>, ParseError>, G
     ghost depth = { λ it. it.depth - 1 };
 
     fn read(&self, tokens: &mut Cursor<'_>) -> Result<Expr, ParseError> {
+        if sees_lone_literal(tokens) {
+            return Ok(Expr::Literal(tokens.expect_any(&LITERALS, Role::Quiet)?));
+        }
         Ok(self.inner(tokens)?.into_inner())
     }
 }

@@ -1,7 +1,7 @@
 // Operands: literals, names, and what stands in brackets.
 
-ghost use Rattle.std.specs.Prelude.{ℕ, ◌<◌, ◌-◌};
-ghost use Rattle.sql_grammar.specs.Rules.{reads};
+ghost use Rattle.std.specs.Prelude.{ℕ, ◌≡◌, ◌<◌, ◌-◌, ◌&&◌, drop};
+ghost use Rattle.sql_grammar.specs.Rules.{reads, starts};
 ghost use Rattle.sql_grammar.specs.Grammar as spec;
 ghost use Rattle.sql_grammar.specs.Grammar.{Name};
 ghost use Rattle.sql_grammar.specs.Bodies.{rules};
@@ -17,7 +17,7 @@ use sql_tree::{Expr, Query, Token, TokenKind, TypeName};
 use sqlite_items::Boxed;
 use std::alloc::Global;
 
-const LITERALS: [TokenKind; 6] = [
+pub(crate) const LITERALS: [TokenKind; 6] = [
     TokenKind::Number,
     TokenKind::Text,
     TokenKind::Blob,
@@ -25,6 +25,18 @@ const LITERALS: [TokenKind; 6] = [
     TokenKind::True,
     TokenKind::False,
 ];
+
+/// Whether an expression comes next that is a literal and nothing else, as a comma or a closing bracket right behind it tells. Most
+/// values of an INSERT are such.
+pub(crate) fn sees_lone_literal(tokens: &Cursor<'_>) -> bool
+    ensures { result ≡ (starts spec.literal_kinds tokens.now.rest.now && starts part.list_ends (drop 1 tokens.now.rest.now)) }
+{
+    match tokens.rest {
+        [_, next, ..] => tokens.sees_any(&LITERALS)
+            && (next.kind == TokenKind::Comma || next.kind == TokenKind::RightParen),
+        _ => false,
+    }
+}
 
 /// A number, a text, a blob, NULL, TRUE or FALSE.
 #[tactic(auto, using(crate::proofs::Straight::literal_is))]

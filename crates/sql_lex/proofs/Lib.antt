@@ -13,3 +13,4 @@ mod Semicolons
 mod Signing
 mod Taking
 mod Widths
+mod WordPieces

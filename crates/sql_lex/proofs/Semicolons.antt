@@ -47,7 +47,7 @@ no_word is_word kind_of (k ∷ ks) all = by (is_word k) (same_kind (kind_of k) k
     by false true e all h = false_true all
     by false false e all h = h all
 
-word_none : (word : List ℕ) → same_kind (word_kind word) kind.Semicolon ≡ false
+pub word_none : (word : List ℕ) → same_kind (word_kind word) kind.Semicolon ≡ false
 unfolding word_kind
 word_none word = no_word (λ k. str_eq_ignore_ascii_case k.0.now word) (λ k. k.1) KEYWORDS refl
 

@@ -1,12 +1,34 @@
 // Where a statement ends in a text, and white space and comments in front of it.
-ghost use Rattle.std.specs.Prelude.{◌≡◌, ◌+◌, ◌<◌, ◌≤◌, length, slice_index, IfSome};
+ghost use Rattle.std.specs.Prelude.{◌≡◌, ◌+◌, ◌<◌, ◌≤◌, ◌∷◌, length, slice_index, IfSome};
 ghost use Rattle.std.specs.Str.{IsCharBoundary};
 ghost use Rattle.sql_lex.specs.Cutting.{blank_of, blank_width, statement_end};
+ghost use Rattle.sql_lex.specs.Pieces.{piece};
+ghost use Rattle.sql_lex.specs.Reading.{EndsAlike};
+ghost use Rattle.sql_lex.specs.Tokens.{width_of};
 
 use crate::front::{behind, first_byte};
+use crate::numbers::is_x;
 use crate::piece::{Piece, front_piece};
 use crate::placing::width_of;
 use crate::reading::{Reading, behind_piece, is_end};
+use crate::words::{begins_word, word_width};
+use sql_tree::TokenKind;
+
+// What a text goes on with, as far as that tells where the statement ends. Behind the first words of one that creates no trigger no
+// word does, so none is looked for among the keywords.
+fn piece_behind(reading: Reading, text: &[u8], first: u8, rest: &[u8]) -> Piece
+    requires { text.now ≡ first ∷ rest.now }
+    ensures alike { EndsAlike reading result (piece first rest.now) }
+    ensures some { 1 ≤ width_of result }
+    ensures within { width_of result ≤ length text.now }
+{
+    match reading {
+        Reading::Other if begins_word(first) && !is_x(first) => {
+            Piece::Lexeme(TokenKind::Word, word_width(text))
+        }
+        _ => front_piece(text, first, rest),
+    }
+}
 
 /// The byte of the first `;` that ends the statement with which a text begins, none where the statement goes on behind the text
 /// (Command Line Shell For SQLite). A `;` in a text, in a quoted name or in a comment ends nothing. A statement that creates a
@@ -25,7 +47,7 @@ pub fn statement_end(text: &str) -> Option<usize>
     let mut start: usize = 0;
     let mut reading = Reading::Start;
     while let Some((first, more)) = first_byte(rest) {
-        let piece = front_piece(rest, first, more);
+        let piece = piece_behind(reading, rest, first, more);
         if is_end(reading, piece) {
             return Some(start);
         }
@@ -46,6 +68,19 @@ fn blank_of(piece: Piece) -> usize
     }
 }
 
+// How many bytes a text begins with that are a blank. A statement mostly begins with a word, which is no blank however it goes on.
+fn blank_in_front(text: &[u8], first: u8, rest: &[u8]) -> usize
+    requires { text.now ≡ first ∷ rest.now }
+    ensures value { result ≡ blank_of (piece first rest.now) }
+    ensures within { result ≤ length text.now }
+{
+    if begins_word(first) && !is_x(first) {
+        0
+    } else {
+        blank_of(front_piece(text, first, rest))
+    }
+}
+
 /// How many bytes of white space or of a comment a text begins with: one byte of white space, a comment as a whole, or 0 where the
 /// text is empty or begins with a token (SQL As Understood By SQLite, "Comment Syntax"). The text may be cut behind them.
 pub fn blank_width(text: &str) -> usize
@@ -55,7 +90,7 @@ pub fn blank_width(text: &str) -> usize
 {
     let bytes = text.as_bytes();
     match first_byte(bytes) {
-        Some((first, rest)) => blank_of(front_piece(bytes, first, rest)),
+        Some((first, rest)) => blank_in_front(bytes, first, rest),
         None => 0,
     }
 }

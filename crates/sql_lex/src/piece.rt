@@ -3,13 +3,13 @@ ghost use Rattle.std.specs.Prelude.{◌≡◌, ◌≤◌, ◌∷◌, length};
 ghost use Rattle.sql_lex.specs.Pieces.{piece};
 ghost use Rattle.sql_lex.specs.Tokens.{width_of};
 
-use crate::blanks::{comment_width, is_space, line_width};
+use crate::blanks::{comment_width, line_width};
 use crate::front::{begins_with, behind};
-use crate::numbers::{is_x, number};
+use crate::numbers::number;
 use crate::parameters::parameter;
 use crate::quotes::{blob, closed, up_to, up_to_quote};
 use crate::signs::sign;
-use crate::words::{begins_word, word};
+use crate::words::word;
 use sql_tree::TokenKind;
 
 /// What a text begins with, and how many bytes that takes.
@@ -22,35 +22,28 @@ pub(crate) enum Piece {
     Parameter(Option<u16>, usize),
 }
 
-// What a text begins with, by cases.
+// What a text begins with, by cases. The signs that begin no longer one are the most common pieces but for words and blanks.
 fn by_first(text: &[u8], first: u8, rest: &[u8]) -> Piece
     requires { text.now ≡ first ∷ rest.now }
     ensures { result ≡ piece first rest.now }
 {
-    if is_space(first) {
-        Piece::Blank(1)
-    } else if first == b'-' && begins_with(b'-', rest) {
-        Piece::Blank(1 + line_width(rest))
-    } else if first == b'/' && begins_with(b'*', rest) {
-        Piece::Blank(2 + comment_width(behind(rest, 1)))
-    } else if first == b'\'' {
-        closed(TokenKind::Text, up_to_quote(b'\'', rest), rest)
-    } else if first == b'"' {
-        closed(TokenKind::QuotedName, up_to_quote(b'"', rest), rest)
-    } else if first == b'`' {
-        closed(TokenKind::QuotedName, up_to_quote(b'`', rest), rest)
-    } else if first == b'[' {
-        closed(TokenKind::QuotedName, up_to(b']', rest), rest)
-    } else if is_x(first) && begins_with(b'\'', rest) {
-        blob(behind(rest, 1))
-    } else if begins_word(first) {
-        word(text)
-    } else if first.is_ascii_digit() {
-        number(text)
-    } else if first == b'?' {
-        parameter(rest)
-    } else {
-        sign(first, rest)
+    match first {
+        b' ' | b'\t' | b'\n' | b'\x0c' | b'\r' => Piece::Blank(1),
+        b'(' => Piece::Lexeme(TokenKind::LeftParen, 1),
+        b')' => Piece::Lexeme(TokenKind::RightParen, 1),
+        b',' => Piece::Lexeme(TokenKind::Comma, 1),
+        b';' => Piece::Lexeme(TokenKind::Semicolon, 1),
+        b'-' if begins_with(b'-', rest) => Piece::Blank(1 + line_width(rest)),
+        b'/' if begins_with(b'*', rest) => Piece::Blank(2 + comment_width(behind(rest, 1))),
+        b'\'' => closed(TokenKind::Text, up_to_quote(b'\'', rest), rest),
+        b'"' => closed(TokenKind::QuotedName, up_to_quote(b'"', rest), rest),
+        b'`' => closed(TokenKind::QuotedName, up_to_quote(b'`', rest), rest),
+        b'[' => closed(TokenKind::QuotedName, up_to(b']', rest), rest),
+        b'x' | b'X' if begins_with(b'\'', rest) => blob(behind(rest, 1)),
+        b'a'..=b'z' | b'A'..=b'Z' | b'_' | 128..=255 => word(text),
+        b'0'..=b'9' => number(text),
+        b'?' => parameter(rest),
+        _ => sign(first, rest),
     }
 }
 

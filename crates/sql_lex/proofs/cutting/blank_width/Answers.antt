@@ -1,4 +1,4 @@
-use Rattle.std.proofs.Common.{◌≡◌, ℕ, List, ◌∷◌, IsUtf8, IsCharBoundary, sym, ◌∙◌, subst}
+use Rattle.std.proofs.Common.{◌≡◌, ℕ, List, ◌∷◌, IsUtf8, IsCharBoundary, refl, sym, ◌∙◌, subst}
 use Rattle.std.proofs.lemmas.Str.{IsCharBoundary-start}
 use Rattle.sql_lex.specs.declared.piece.Piece.{Piece}
 use Rattle.sql_lex.specs.declared.piece.Piece.TheVariants.{Blank, Lexeme, Parameter}
@@ -21,4 +21,4 @@ front_boundary xs bytes b width p utf8 is e w =
 
 pub returns-in-Some-clause-back : goal.returns-in-Some-clause-back
 returns-in-Some-clause-back c =
-    front_boundary c.args.text.now c.in-Some.rest.now c.in-Some.first c.blank_of.result c.front_piece.result c.utf8.text (sym c.as_bytes-bytes.ensures.value ∙ c.in-Some.ensures) c.front_piece.ensures.value c.blank_of.ensures
+    front_boundary c.args.text.now c.in-Some.rest.now c.in-Some.first c.blank_in_front.result _ c.utf8.text (sym c.as_bytes-bytes.ensures.value ∙ c.in-Some.ensures) refl c.blank_in_front.ensures.value

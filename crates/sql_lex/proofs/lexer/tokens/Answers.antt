@@ -8,7 +8,7 @@ use Rattle.sql_lex.proofs.lexer.tokens.Goals as goal
 pub loop-first-init : goal.loop-first-init
 unfolding tokens_of
 loop-first-init c = record {
-  tokens = rw (c.new-tokens.ensures.items, c.as_bytes-rest.ensures.value) refl;
+  tokens = rw (c.in_ok-tokens.ensures.items, c.as_bytes-rest.ensures.value) refl;
   place = omega (arith, ap length c.as_bytes-rest.ensures.value);
   largest = omega arith;
 }
