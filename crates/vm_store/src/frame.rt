@@ -5,9 +5,7 @@ ghost use Rattle.eng_value.specs.declared.value.Value.TheVariants.{Integer};
 ghost use Rattle.vm_code.specs.Machine.{outs_from, put_all};
 
 use crate::{Cursor, Registers};
-use smallvec::SmallVec;
 use std::alloc::{AllocError, Global};
-use std::default::MadeWith;
 use std::marker::Model;
 
 /// A unit that waits for the results of another, and the first of the registers that they go to. Contracts see the frame of the
@@ -46,19 +44,6 @@ impl Model for Frame {
         } };
 }
 
-impl MadeWith<Global> for Frame {
-    fn made_with(alloc: Global) -> Frame {
-        Frame {
-            unit: 0,
-            pc: 0,
-            registers: Registers::empty(alloc),
-            args: Registers::empty(alloc),
-            cursors: Vec::new(alloc),
-            to: 0,
-        }
-    }
-}
-
 impl Frame {
     /// Takes the results of the unit that was called: what `count` of its registers hold, from `first` on. Takes no memory.
     pub fn receive(&mut self, results: &mut Registers, first: u32, count: u32)
@@ -75,10 +60,11 @@ impl Frame {
     }
 }
 
-/// The frames that wait. The first four take no memory of their own. Contracts see the list of them, the last called first.
+/// The frames that wait. Most programs call no unit, so there is no room for any before the first. Contracts see the list of them, the
+/// last called first.
 #[derive(Drop)]
 pub struct Frames {
-    frames: SmallVec<Frame, 4>,
+    frames: Vec<Frame>,
 }
 
 impl Model for Frames {
@@ -102,7 +88,7 @@ impl Frames {
         ensures { result ≡ [] }
     {
         Frames {
-            frames: SmallVec::new(alloc),
+            frames: Vec::new(alloc),
         }
     }
 
@@ -111,8 +97,7 @@ impl Frames {
         ensures ok { OnOk result (self.new ≡ frame ∷ self.old) }
         ensures err { OnErr result (self.new ≡ self.old) }
     {
-        self.frames.reserve(1)?;
-        self.frames.push_reserved(frame);
+        self.frames.push(frame)?;
         Ok(())
     }
 
