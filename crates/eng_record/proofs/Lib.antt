@@ -9,3 +9,4 @@ pub mod WritingLoops
 pub mod ReadingLoops
 pub mod ColumnSteps
 mod Lending
+mod ShortNumbers

@@ -61,10 +61,23 @@ fn header_at(alloc: Global, bytes: &[u8]) -> Result<(Vec<SerialType>, &[u8]), Re
     Ok((kinds, &rest[types_len..]))
 }
 
-/// How many bytes the types take, and the bytes behind the header's length.
+/// How many bytes the types take, and the bytes behind the header's length. Of a header that is shorter than 128 bytes the first
+/// byte says it, and no other length would be written so.
 #[inline(always)]
-#[tactic(auto, unfolding(crate::specs::Reading::header_len_at))]
 pub(crate) fn header_len_at(bytes: &[u8]) -> Result<(usize, &[u8]), RecordErr>
+    ensures exact { Gives (λ x. (x.0, x.1.now)) result (header_len_in bytes.now) }
+    ensures no_memory { IfErr result (λ e. e ≢ Mem) }
+{
+    match bytes {
+        [len, rest @ ..] if 0 < *len && *len < 128 => Ok((usize::from(*len) - 1, rest)),
+        _ => header_len_of_several(bytes),
+    }
+}
+
+/// The same of a header of any length.
+#[inline(never)]
+#[tactic(auto, unfolding(crate::specs::Reading::header_len_at))]
+fn header_len_of_several(bytes: &[u8]) -> Result<(usize, &[u8]), RecordErr>
     ensures exact { Gives (λ x. (x.0, x.1.now)) result (header_len_in bytes.now) }
     ensures no_memory { IfErr result (λ e. e ≢ Mem) }
 {

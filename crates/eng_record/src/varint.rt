@@ -65,9 +65,24 @@ fn push_leading(out: &mut Vec<u8>, count: usize, n: u64) -> Result<(), AllocErro
     Ok(())
 }
 
-/// The number at the front, which takes no more bytes than it needs, and the bytes behind it.
-#[tactic(auto, unfolding(crate::specs::Reading::varint_at))]
+/// The number at the front, which takes no more bytes than it needs, and the bytes behind it. A byte that none follows needs no look
+/// at how many there are.
+#[inline(always)]
 pub(crate) fn varint_at(bytes: &[u8]) -> Result<(u64, &[u8]), RecordErr>
+    ensures exact { Gives (λ x. (x.0, x.1.now)) result (varint_in bytes.now) }
+    ensures shorter { IfOk result (λ x. length x.1.now < length bytes.now) }
+    ensures no_memory { IfErr result (λ e. e ≢ Mem) }
+{
+    match bytes {
+        [byte, rest @ ..] if *byte < 128 => Ok((u64::from(*byte), rest)),
+        _ => varint_of_several(bytes),
+    }
+}
+
+/// The same for a number of any length.
+#[inline(never)]
+#[tactic(auto, unfolding(crate::specs::Reading::varint_at))]
+fn varint_of_several(bytes: &[u8]) -> Result<(u64, &[u8]), RecordErr>
     ensures exact { Gives (λ x. (x.0, x.1.now)) result (varint_in bytes.now) }
     ensures shorter { IfOk result (λ x. length x.1.now < length bytes.now) }
     ensures no_memory { IfErr result (λ e. e ≢ Mem) }

@@ -94,7 +94,7 @@ fn execute(
         Op::ResultRow { first, count } => running.give(alloc, *first, *count, event),
         Op::Null { to } => running.put_null(*to),
         Op::Integer { value, to } => running.put_integer(*value, *to),
-        Op::String8 { text, to } => running.put_text(text, *to),
+        Op::String8 { text, to } => running.put_text(alloc, text, *to),
         Op::Blob { blob, to } => running.put_blob(blob, *to),
         Op::Bad { cause, to } => running.put_bad(alloc, cause, *to),
         Op::Variable { number, to } => running.put_parameter(alloc, params, *number, *to),

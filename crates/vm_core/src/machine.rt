@@ -109,6 +109,13 @@ impl Machine {
         Event::Interrupted(budget.whole)
     }
 
+    /// Takes back a row that was given and is done with, so that the next one needs no memory of its own.
+    pub fn take_back(&mut self, row: Row)
+        ensures { self.new ≡ self.old }
+    {
+        self.running.take_back(row);
+    }
+
     /// How many rows the run changed.
     pub fn changes(&self) -> u64
         ensures { result ≡ self.now.changes }

@@ -86,9 +86,29 @@ impl Running {
         operator::binary(alloc, operator, left.as_out(), right.as_out())
     }
 
-    /// The same where both are integers and an integer comes of them; none says nothing.
+    /// The same where both are integers and an integer comes of them; none says nothing. LIKE and GLOB make nothing of two integers as
+    /// they are, so that for them no column is sought in vain.
     #[inline]
     pub(crate) fn integers(
+        &self,
+        params: &Row,
+        tables: &Tables,
+        operator: &BinaryOperator,
+        left: &Operand,
+        right: &Operand,
+    ) -> Option<i64>
+        ensures { let a = operand_now params.now self.now tables.now.world left.now in
+            let b = operand_now params.now self.now tables.now.world right.now in
+            IfSome result (λ n. binary_of own_keys operator.now a b ≡ Good (Integer n)) }
+    {
+        match operator {
+            BinaryOperator::Like | BinaryOperator::Glob => None,
+            _ => self.of_integers(params, tables, operator, left, right),
+        }
+    }
+
+    #[inline]
+    fn of_integers(
         &self,
         params: &Row,
         tables: &Tables,

@@ -23,15 +23,17 @@ use crate::jumping::Test;
 use crate::pace::Pace;
 use crate::values::stored;
 use eng_record::Lent;
-use eng_value::{Affinity, Out, StoredRow, Text, Value};
+use eng_value::{Affinity, Out, Row, StoredRow, Value};
 use std::alloc::{AllocError, Global};
 use std::marker::Model;
+use std::mem;
 use vm_code::{Op, Program, SchemaChange, Unit};
 use vm_store::{Cursor, Frames, Registers, is_bad};
 use vm_tables::Tables;
 
 /// The frame that runs, the frames that wait, how many rows were changed, and the rowid of the last row that was put. A register, an
-/// argument, a cursor or an instruction that is not there counts as the machine over lists says.
+/// argument, a cursor or an instruction that is not there counts as the machine over lists says. `spare` is a row that is done with,
+/// whose memory serves the next one.
 #[derive(Drop)]
 pub(crate) struct Running {
     pub(crate) unit: u32,
@@ -42,6 +44,7 @@ pub(crate) struct Running {
     pub(crate) frames: Frames,
     changes: u64,
     last_rowid: i64,
+    spare: Row,
 }
 
 impl Model for Running {
@@ -85,6 +88,7 @@ impl Running {
             frames: Frames::new(alloc),
             changes: 0,
             last_rowid,
+            spare: Row::empty(alloc),
         })
     }
 
@@ -209,14 +213,11 @@ impl Running {
         Ok(Pace::Going)
     }
 
-    /// Writes a text.
-    pub fn put_own_text(&mut self, text: Text, to: u32) -> Result<Pace, AllocError>
-        requires { self.old.pc + 1 < 2 ^ 64 }
-        ensures { Acts result self.old self.new (λ s. put s to (Good (sql.Text text))) }
+    /// Writes a copy of a text, and does not go on.
+    pub fn write_str(&mut self, alloc: Global, text: &str, to: u32) -> Result<(), AllocError>
+        ensures { OnOk result (self.new ≡ record self.old { regs = slice_set self.old.regs to (Good (sql.Text text.now)) }) }
     {
-        self.registers.write_text(to, text);
-        self.pc += 1;
-        Ok(Pace::Going)
+        self.registers.write_str(alloc, to, text)
     }
 
     /// Whether a register passes a test of a jump.
@@ -265,10 +266,18 @@ impl Running {
         ensures { StopsOrActs result event.new self.old self.new (λ s.
             skip (record s { shared = with_given s.shared (values_from s.regs first count) })) }
     {
-        let row = self.registers.values(alloc, first, count)?;
+        let spare = mem::replace(&mut self.spare, Row::empty(alloc));
+        let row = self.registers.values(spare, first, count)?;
         self.go_on();
         *event = Event::Row(row);
         Ok(Pace::Stopping)
+    }
+
+    /// Takes back a row that was given and is done with.
+    pub fn take_back(&mut self, row: Row)
+        ensures { self.new ≡ self.old }
+    {
+        self.spare = row;
     }
 
     /// Opens a cursor on a table, on no row, and goes on.

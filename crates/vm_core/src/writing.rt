@@ -29,22 +29,26 @@ use vm_tables::Tables;
 impl Running {
     /// Writes a copy of a text.
     #[inline(never)]
-    pub(crate) fn put_text(&mut self, text: &Text, to: u32) -> Result<Pace, AllocError>
+    pub(crate) fn put_text(
+        &mut self,
+        alloc: Global,
+        text: &Text,
+        to: u32,
+    ) -> Result<Pace, AllocError>
         requires { self.old.pc + 1 < 2 ^ 64 }
         ensures { Acts result self.old self.new (λ s. put s to (Good (value.Text text.now))) }
     {
-        let text = text.clone()?;
-        self.put_own_text(text, to)
+        self.put_str(alloc, text.as_str(), to)
     }
 
     /// The same of a text that is lent.
-    #[inline(never)]
-    fn put_str(&mut self, alloc: Global, text: &str, to: u32) -> Result<Pace, AllocError>
+    pub(crate) fn put_str(&mut self, alloc: Global, text: &str, to: u32) -> Result<Pace, AllocError>
         requires { self.old.pc + 1 < 2 ^ 64 }
         ensures { Acts result self.old self.new (λ s. put s to (Good (value.Text text.now))) }
     {
-        let text = Text::from_str(alloc, text)?;
-        self.put_own_text(text, to)
+        self.write_str(alloc, text, to)?;
+        self.go_on();
+        Ok(Pace::Going)
     }
 
     /// Writes a copy of a blob.
@@ -309,7 +313,7 @@ impl Running {
             wrote s (inserted (cursor_at s.scene.cursors cursor) s.shared.written row)) }
         ensures marks { tables.new.marks ≡ tables.old.marks }
     {
-        let values = self.registers().values(alloc, first, count)?;
+        let values = self.registers().values(Row::empty(alloc), first, count)?;
         let row = StoredRow::new(self.registers().integer(rowid), values);
         self.insert(alloc, tables, cursor, &row)
     }

@@ -75,10 +75,10 @@ impl Frame {
     }
 }
 
-/// The frames that wait. The first four take no memory of their own. Contracts see the list of them, the last called first.
+/// The frames that wait. The first takes no memory of its own. Contracts see the list of them, the last called first.
 #[derive(Drop)]
 pub struct Frames {
-    frames: SmallVec<Frame, 4>,
+    frames: SmallVec<Frame, 1>,
 }
 
 impl Model for Frames {

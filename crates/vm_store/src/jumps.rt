@@ -15,6 +15,8 @@ pub fn is_accepted(alloc: Global, out: &Out, on_null: bool) -> bool
     ensures { result ≡ is_accepted on_null out.now }
 {
     match out {
+        Out::Good(Value::Integer(n)) => *n != 0,
+        Out::Good(Value::Null) => on_null,
         Out::Good(value) => is_true(&to_number(alloc, value), on_null),
         Out::Bad(_) => false,
     }
@@ -26,6 +28,8 @@ pub fn is_rejected(alloc: Global, out: &Out, on_null: bool) -> bool
     ensures { result ≡ is_rejected on_null out.now }
 {
     match out {
+        Out::Good(Value::Integer(n)) => *n == 0,
+        Out::Good(Value::Null) => on_null,
         Out::Good(value) => is_false(&to_number(alloc, value), on_null),
         Out::Bad(_) => false,
     }

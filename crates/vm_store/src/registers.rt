@@ -1,5 +1,5 @@
 // Registers.
-ghost use Rattle.std.specs.Prelude.{◌≡◌, ◌+◌, [], replicate, slice_get, slice_index_or, slice_set, IfOk};
+ghost use Rattle.std.specs.Prelude.{◌≡◌, ◌+◌, [], replicate, slice_get, slice_index_or, slice_set, IfOk, OnOk};
 ghost use Rattle.std.specs.Option.{option_copied};
 ghost use Rattle.eng_value.specs.declared.out.Out.TheVariants.{Good};
 ghost use Rattle.eng_value.specs.declared.value.Value.TheVariants as sql;
@@ -48,7 +48,7 @@ impl Registers {
     pub fn nulls(alloc: Global, count: u32) -> Result<Registers, AllocError>
         ensures { IfOk result (λ registers. registers ≡ replicate count (Good Null)) }
     {
-        let mut outs = Vec::new(alloc);
+        let mut outs = Vec::with_capacity(alloc, count as usize)?;
         for _ in 0..count {
             outs.push(Out::Good(Value::Null))?;
         }
@@ -96,11 +96,15 @@ impl Registers {
         })
     }
 
-    /// Copies of the values of so many registers, from the first on; NULL for what is bad.
-    pub fn values(&self, alloc: Global, first: u32, count: u32) -> Result<Row, AllocError>
+    /// Copies of the values of so many registers, from the first on; NULL for what is bad. `spare` is a row that is done with, whose
+    /// memory is taken again.
+    pub fn values(&self, spare: Row, first: u32, count: u32) -> Result<Row, AllocError>
         ensures { IfOk result (λ row. row ≡ values_from self.now first count) }
     {
-        let mut row = Row::empty(alloc);
+        let mut values = spare.into_vec();
+        values.clear();
+        values.reserve(count as usize)?;
+        let mut row = Row::new(values);
         for i in 0..count {
             row.push(value(&self.outs, first as usize + i as usize)?)?;
         }
@@ -162,14 +166,15 @@ impl Registers {
         }
     }
 
-    /// Writes a text.
-    pub fn write_text(&mut self, register: u32, text: Text)
-        ensures { self.new ≡ slice_set self.old register (Good (sql.Text text)) }
+    /// Writes a copy of a text. A text that the register holds gives its memory for it.
+    pub fn write_str(&mut self, alloc: Global, register: u32, text: &str) -> Result<(), AllocError>
+        ensures { OnOk result (self.new ≡ slice_set self.old register (Good (sql.Text text.now))) }
     {
         let at = register as usize;
         if at < self.outs.len() {
-            set_text(&mut self.outs[at], text);
+            set_str(alloc, &mut self.outs[at], text)?;
         }
+        Ok(())
     }
 
     #[inline(never)]
@@ -242,13 +247,27 @@ fn set_integer(out: &mut Out, n: i64)
 }
 
 #[inline]
-fn set_text(out: &mut Out, text: Text)
-    ensures { out.new ≡ Good (sql.Text text) }
+fn set_str(alloc: Global, out: &mut Out, text: &str) -> Result<(), AllocError>
+    ensures { OnOk result (out.new ≡ Good (sql.Text text.now)) }
 {
     match out {
-        Out::Good(Value::Text(old)) => *old = text,
-        _ => *out = Out::Good(Value::Text(text)),
+        Out::Good(Value::Text(old)) => refill(alloc, old, text),
+        _ => {
+            *out = Out::Good(Value::Text(Text::from_str(alloc, text)?));
+            Ok(())
+        }
     }
+}
+
+/// Puts a copy of a text in the place of another, in the same memory where that is enough.
+fn refill(alloc: Global, text: &mut Text, new: &str) -> Result<(), AllocError>
+    ensures { OnOk result (text.new ≡ new.now) }
+{
+    let mut string = mem::replace(text, Text::new(String::new(alloc))).into_string();
+    string.clear();
+    string.push_str(new)?;
+    *text = Text::new(string);
+    Ok(())
 }
 
 #[inline(never)]

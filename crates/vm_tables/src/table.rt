@@ -135,11 +135,12 @@ impl Table {
         }
     }
 
-    /// Whether there is a row of this rowid.
+    /// Whether there is a row of this rowid. In constant time for one that is not below the last row's, as new rows mostly have.
     pub fn has(&self, rowid: i64) -> bool
         ensures { result ≡ is_some (row_under self.now rowid) }
     {
-        self.tree.get(&rowid_key(rowid)).is_some()
+        let last = self.tree.len().saturating_sub(1);
+        self.tree.get_near(&rowid_key(rowid), last).is_some()
     }
 
     /// The record of the row of this rowid, if there is one. In constant time where the row stands at the place `near`.
