@@ -10,7 +10,7 @@ ghost use Rattle.parse_cursor.specs.Gives.{Gives};
 
 use crate::queries::Queries;
 use parse_clause::Clauses;
-use parse_cursor::{Cursor, ParseError};
+use parse_cursor::{Cursor, ParseError, boxed};
 use parse_expr::Levels;
 use parse_operand::Operands;
 use sql_grammar::MAX_NESTINGS;
@@ -33,7 +33,16 @@ pub fn expr(alloc: Global, tokens: &mut Cursor<'_>, depth: usize) -> Result<Expr
 pub fn query(alloc: Global, tokens: &mut Cursor<'_>, depth: usize) -> Result<Query, ParseError>
     ensures { Gives (reads Name rules depth spec.query tokens.old.counts tokens.old.rest.now) result tokens.new.counts tokens.new.rest.now }
 {
-    Ok(boxed_query(alloc, tokens, depth)?.into_inner())
+    let operands = Operands {
+        alloc,
+        depth,
+        inner: boxed_expr,
+        query: boxed_query,
+    };
+    let clauses = Clauses {
+        levels: Levels { operands },
+    };
+    Queries { clauses }.query(tokens)
 }
 
 /// Parses `[WHERE expr]` in the same way.
@@ -92,5 +101,9 @@ fn boxed_query(
     let clauses = Clauses {
         levels: Levels { operands },
     };
-    Queries { clauses }.query(tokens)
+    let queries = Queries { clauses };
+    match queries.query(tokens) {
+        Ok(found) => boxed(alloc, found),
+        Err(why) => Err(why),
+    }
 }

@@ -10,7 +10,7 @@ ghost use Rattle.parse_operand.specs.Nests.{Nests};
 ghost use Rattle.parse_query.specs.Parts as part;
 
 use crate::queries::Queries;
-use parse_cursor::{Cursor, Element, ParseError, boxed, column_names, given_word, list, name};
+use parse_cursor::{Cursor, Element, ParseError, column_names, given_word, list, name};
 use sql_grammar::Role;
 use sql_tree::{CommonTable, Expr, Query, TokenKind};
 use sqlite_items::{Boxed, Items};
@@ -88,7 +88,7 @@ impl<
 
     /// `[WITH ..] core {comp core} [ORDER BY ..] [LIMIT ..]`, the last two behind a SELECT alone
     #[tactic(auto, using(crate::proofs::Tables::query_is))]
-    pub(crate) fn query(&self, tokens: &mut Cursor<'_>) -> Result<Boxed<Query>, ParseError>
+    pub(crate) fn query(&self, tokens: &mut Cursor<'_>) -> Result<Query, ParseError>
         requires exprs { Nests expr self.now.clauses.levels.operands.depth (F.pre self.now.clauses.levels.operands.inner) (F.post self.now.clauses.levels.operands.inner) }
         requires queries { Nests query self.now.clauses.levels.operands.depth (G.pre self.now.clauses.levels.operands.query) (G.post self.now.clauses.levels.operands.query) }
         ensures { Gives (reads Name rules self.now.clauses.levels.operands.depth spec.query tokens.old.counts tokens.old.rest.now) result tokens.new.counts tokens.new.rest.now }
@@ -105,13 +105,12 @@ impl<
             Ok(found) => found,
             Err(why) => return Err(why),
         };
-        let query = Query {
+        Ok(Query {
             with,
             first: parts.first,
             others: parts.others,
             order_by,
             limit,
-        };
-        boxed(self.clauses.levels.operands.alloc, query)
+        })
     }
 }
