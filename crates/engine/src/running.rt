@@ -166,7 +166,11 @@ fn next<M: Meanings, R: RowSink, L: Ledger>(
     ensures faults { R.fault_count rows.old ≤ R.fault_count rows.new }
 {
     match machine.step::<M, L>(alloc, tables, hosts, budget, steps) {
-        Event::Row(row) => hand_over(rows, &row),
+        Event::Row(row) => {
+            let taken = hand_over(rows, &row);
+            machine.take_back(row);
+            taken
+        }
         Event::Done => Ok(false),
         Event::Bad(causes) => Err(Stop::Bad(causes)),
         Event::Interrupted(ran) => Err(Stop::Interrupted(ran)),

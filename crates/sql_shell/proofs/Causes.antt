@@ -17,6 +17,7 @@ use Rattle.sql_meaning.specs.World.{Context, State, context}
 use Rattle.sql_shell.specs.declared.given.Given.{Given}
 use Rattle.sql_shell.specs.declared.stop.Stop.{Stop}
 use Rattle.sql_shell.specs.Running.{CameTo}
+use Rattle.sql_shell.specs.Taken.{rows_of}
 
 not_refused : (causes : Option CauseSet) → causes ≡ None → IsNamed causes None
 not_refused None e = tt
@@ -26,6 +27,11 @@ not_refused (Some set) e = cc
 pub refused_good : (r : Result Given Stop) (why : Cause) → IfOk r (λ g. g.failure ≡ Some (Refused why)) → IfOk r (λ g. is_bad_character g.failure ≡ false)
 refused_good (Ok g) why is = ap is_bad_character is
 refused_good (Err stop) why is = tt
+
+-- what is not refused is none either
+pub done_good : (r : Result Given Stop) → IfOk r (λ g. g.failure ≡ None) → IfOk r (λ g. is_bad_character g.failure ≡ false)
+done_good (Ok g) is = ap is_bad_character is
+done_good (Err stop) is = tt
 
 module _ (h : HostMeanings) (budget : ℕ) (s : State) (text : List ℕ) (rows : List (List Value)) (ran : ℕ) (next : State) where
   abbrev ctx : Context
@@ -41,10 +47,20 @@ module _ (h : HostMeanings) (budget : ℕ) (s : State) (text : List ℕ) (rows :
   came None = record { failure = None; given = rows; ran = ran; next = next }
   came (Some why) = record { failure = Some (Refused why); given = rows; ran = ran; next = next }
 
-  pub came_done : means.refusal ≡ None → GivesAll means (Some []) (Some rows) → next ≡ means.next → ran ≤ budget → ran ≤ bound → Comes budget 0 ctx text (came None)
+  came_done : means.refusal ≡ None → GivesAll means (Some []) (Some rows) → next ≡ means.next → ran ≤ budget → ran ≤ bound → Comes budget 0 ctx text (came None)
   came_done e gives becomes within few =
       subst (λ rs. Comes budget 0 ctx text (record { failure = None; given = rs; ran = ran; next = next })) (sym gives.2)
       (subst (λ st. Comes budget 0 ctx text (record { failure = None; given = gives.0; ran = ran; next = st })) (sym becomes) (as_meant None gives.0 ran (not_refused means.refusal e) gives.1 (omega arith) (omega arith)))
+
+  -- what is given of it
+  pub came_whole : ran ≤ budget → (TextIsTold ctx text → ran ≤ bound) → (r : Result Given Stop) → (TextIsTold ctx text → means.refusal ≡ None) → (TextIsTold ctx text → GivesAll means (Some []) (Some rows)) → (TextIsTold ctx text → next ≡ means.next)
+      → IfOk r (λ g. rows_of g.rows ≡ rows) → IfOk r (λ g. g.failure ≡ None) → IfOk r (λ g. CameTo h budget s text (rows_of g.rows) g.failure ran next)
+  came_whole within few (Err stop) done gives becomes rows_are why_is = tt
+  came_whole within few (Ok g) done gives becomes rows_are why_is =
+      λ told.
+      let comes = came_done (done told) (gives told) (becomes told) within (few told) in
+      subst (λ rs. Comes budget 0 ctx text (record { failure = g.failure; given = rs; ran = ran; next = next })) (sym rows_are)
+      (subst (λ w. Comes budget 0 ctx text (record { failure = w; given = rows; ran = ran; next = next })) (sym why_is) comes)
 
   -- a refusal names one of the causes
   came_named : (why : Cause) → IsNamed means.refusal (Some why) → GivesAll means (Some []) (Some rows) → next ≡ means.next → ran ≤ budget → ran ≤ bound → Comes budget 0 ctx text (came (Some why))
@@ -70,7 +86,7 @@ module _ (h : HostMeanings) (budget : ℕ) (s : State) (text : List ℕ) (rows :
   -- so that a refusal that ends no run is one that it can come to
   pub came_refused : ran ≤ budget → (TextIsTold ctx text → ran ≤ bound) → (why : Cause) (start end : List (List Value)) (r : Result Given Stop) → start ≡ [] → rows ≡ end
       → (TextIsTold ctx text → GivesFront means (Some start) (Some end)) → (TextIsTold ctx text → IsCause means s next budget bound ran (Some start) (Some end) (Rose 0 0) why)
-      → IfOk r (λ g. g.rows ≡ rows) → IfOk r (λ g. g.failure ≡ Some (Refused why)) → IfOk r (λ g. why ≢ cause.Mem) → IfOk r (λ g. CameTo h budget s text g.rows g.failure ran next)
+      → IfOk r (λ g. rows_of g.rows ≡ rows) → IfOk r (λ g. g.failure ≡ Some (Refused why)) → IfOk r (λ g. why ≢ cause.Mem) → IfOk r (λ g. CameTo h budget s text (rows_of g.rows) g.failure ran next)
   came_refused within few why start end (Err stop) none all front is rows_are why_is other = tt
   came_refused within few why start end (Ok g) none all front is rows_are why_is other =
       λ told.

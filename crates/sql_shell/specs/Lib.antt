@@ -1,3 +1,4 @@
 pub mod Courses
 pub mod Cuts
 pub mod Running
+pub mod Taken

@@ -2,21 +2,22 @@
 //!
 //! The way of a script, a module for each step: `reading` takes the source's bytes up to their ending, `characters` finds
 //! where they stop being UTF-8, `cutting` cuts them into statements and dot lines, `statement` runs a statement over a
-//! connection of the engine, `collected_rows` keeps its rows for what it gave (`given`), `printing` makes lines of them and of why a part failed,
+//! connection of the engine, whose rows `printed_rows` prints as they come for what it gave (`given`; `taken_rows` tells contracts which they are), `printing` makes lines of rows and of why a part failed,
 //! `writing` hands them to the sink, and `script` goes from part to part; `course` says how that went. `top` has the one
 //! public call, `run`, whose contract is the theorem of the engine.
 #![tactic(auto)]
 
 mod characters;
-mod collected_rows;
 mod course;
 mod cutting;
 mod given;
+mod printed_rows;
 mod printing;
 mod reading;
 mod script;
 mod statement;
 mod stop;
+mod taken_rows;
 mod top;
 mod writing;
 

@@ -3,9 +3,10 @@ ghost use Rattle.std.specs.Fmt.{decimal};
 ghost use Rattle.std.specs.Prelude.{◌≡◌, ◌++◌, ◌∷◌, [], codes, map, is_some, OnOk, IfOk};
 ghost use Rattle.std.specs.List.{flat_map, join_with_byte};
 ghost use Rattle.sql_meaning.specs.Script.{bar, error_line, error_lines, failure_code, failure_text, printed, row_line};
+ghost use Rattle.sql_shell.specs.Taken.{rows_of};
 
 use crate::given::Given;
-use eng_value::{Row, Rows, Value};
+use eng_value::{Row, Value};
 use itoa::Buffer;
 use sql_meaning::Failure;
 use std::alloc::AllocError;
@@ -48,21 +49,11 @@ fn print_values(values: &[Value], lines: &mut Vec<u8>) -> Result<(), AllocError>
 }
 
 /// Writes the line of a row.
-fn print_row(row: &Row, lines: &mut Vec<u8>) -> Result<(), AllocError>
+pub(crate) fn print_row(row: &Row, lines: &mut Vec<u8>) -> Result<(), AllocError>
     ensures { OnOk result (lines.new.items ≡ lines.old.items ++ row_line row.now) }
 {
     print_values(row.as_slice(), lines)?;
     lines.push(b'\n')?;
-    Ok(())
-}
-
-/// Writes a line for each row.
-fn print_rows(rows: &Rows, lines: &mut Vec<u8>) -> Result<(), AllocError>
-    ensures { OnOk result (lines.new.items ≡ lines.old.items ++ flat_map row_line rows.now) }
-{
-    for row in rows.as_slice() {
-        print_row(row, lines)?;
-    }
     Ok(())
 }
 
@@ -118,22 +109,27 @@ fn print_failures(failure: &Option<Failure>, lines: &mut Vec<u8>) -> Result<(), 
     }
 }
 
-/// Writes what a statement gave: a line for each row, and then the error line.
-fn print_lines(given: &Given, lines: &mut Vec<u8>) -> Result<(), AllocError>
-    ensures { OnOk result (lines.new.items ≡
-        lines.old.items ++ (flat_map row_line given.now.rows ++ error_lines given.now.failure)) }
-{
-    print_rows(&given.rows, lines)?;
-    print_failures(&given.failure, lines)?;
-    Ok(())
+/// The lines of a part, and whether one of them is an error line.
+#[derive(Drop)]
+pub(crate) struct Printed {
+    pub lines: Vec<u8>,
+    pub has_failed: bool,
 }
 
-/// Writes the lines of what a statement gave, and says whether it has an error line.
-pub(crate) fn print_given(given: Given, lines: &mut Vec<u8>) -> Result<bool, AllocError>
-    ensures lines { OnOk result (lines.new.items ≡
-        lines.old.items ++ (flat_map row_line given.rows ++ error_lines given.failure)) }
-    ensures failed { IfOk result (λ failed. failed ≡ is_some given.failure) }
+/// Writes the error line of what a statement gave, if it has one, behind the lines of its rows.
+pub(crate) fn print_given(given: Given) -> Result<Printed, AllocError>
+    ensures lines { IfOk result (λ p. p.lines.items ≡ flat_map row_line (rows_of given.rows) ++ error_lines given.failure) }
+    ensures failed { IfOk result (λ p. p.has_failed ≡ is_some given.failure) }
 {
-    print_lines(&given, lines)?;
-    Ok(given.failure.is_some())
+    let Given {
+        lines,
+        rows: _,
+        failure,
+    } = given;
+    let mut lines = lines;
+    print_failures(&failure, &mut lines)?;
+    Ok(Printed {
+        lines,
+        has_failed: failure.is_some(),
+    })
 }

@@ -50,10 +50,9 @@ fn run_statement<M: Meanings, K: Sink, L: Ledger>(
     ensures hosts { meant hosts.new ≡ M.hosts }
 {
     let given = run_text::<M, L>(alloc, hosts, connection, text, steps)?;
-    let mut lines = Vec::new(alloc);
-    let failed = print_given(given, &mut lines)?;
-    write_all(out, &lines)?;
-    Ok(failed)
+    let printed = print_given(given)?;
+    write_all(out, &printed.lines)?;
+    Ok(printed.has_failed)
 }
 
 /// Writes an error line.

@@ -5,10 +5,11 @@ ghost use Rattle.sql_meaning.specs.Script.{is_bad_character};
 ghost use Rattle.sql_meaning.specs.Work.{instruction_bound};
 ghost use Rattle.sql_meaning.specs.World.{context};
 ghost use Rattle.sql_shell.specs.Running.{CameTo};
+ghost use Rattle.sql_shell.specs.Taken.{rows_of};
 ghost use Rattle.vm_core.specs.Meant.{meant};
 
-use crate::collected_rows::CollectedRows;
 use crate::given::{Given, refused};
+use crate::printed_rows::PrintedRows;
 use crate::stop::Stop;
 use eng_value::{Meanings, Steps};
 use engine::{Connection, Hosts};
@@ -25,7 +26,7 @@ pub(crate) fn run_text<M: Meanings, L: Ledger>(
 ) -> Result<Given, Stop>
     requires told { meant hosts.old ≡ M.hosts }
     ensures came { IfOk result (λ g. CameTo M.hosts connection.old.budget connection.old.state text.now
-        g.rows g.failure (steps.new - steps.old) connection.new.state) }
+        (rows_of g.rows) g.failure (steps.new - steps.old) connection.new.state) }
     ensures characters { IfOk result (λ g. is_bad_character g.failure ≡ false) }
     ensures memory { IfErr result (λ stop. stop ≡ Stop.Memory) }
     ensures budget { connection.new.budget ≡ connection.old.budget }
@@ -35,12 +36,9 @@ pub(crate) fn run_text<M: Meanings, L: Ledger>(
         → steps.new ≤ steps.old + instruction_bound (context M.hosts connection.old.state []) text.now }
     ensures hosts { meant hosts.new ≡ M.hosts }
 {
-    let mut rows = CollectedRows::new(alloc);
+    let mut rows = PrintedRows::new(alloc);
     match connection.run(alloc, hosts, text, &[], &mut rows, steps) {
-        Ok(_) => Ok(Given {
-            rows: rows.into_rows(),
-            failure: None,
-        }),
-        Err(refusal) => refused(rows.into_rows(), refusal.cause),
+        Ok(_) => rows.into_given(None),
+        Err(refusal) => refused(rows, refusal.cause),
     }
 }
