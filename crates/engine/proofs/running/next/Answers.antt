@@ -12,7 +12,7 @@ returns-in-Mem-clause-next g c told ask =
 
 pub returns-in-Row-clause-next : goal.returns-in-Row-clause-next
 returns-in-Row-clause-next g c told ask =
-    handed (setting g.M.Meanings.hosts ask c.args.machine.now.params c.args.machine.now.prog) (c.step.new.budget.ran - c.args.budget.now.ran) c.step.new.budget.ran c.args.budget.now.whole c.args.machine.now c.args.tables.now.world (state_of c.step.new.self c.step.new.tables.world) c.in-Row.row (g.R.RowSink.taken c.args.rows.now) (g.R.RowSink.taken c.hand_over.new.rows) (Rose (g.R.RowSink.fault_count c.args.rows.now) (g.R.RowSink.fault_count c.hand_over.new.rows)) c.hand_over.result (c.in-Row.ensures.event told ask) c.hand_over.ensures.row
+    rw c.take_back.ensures (handed (setting g.M.Meanings.hosts ask c.args.machine.now.params c.args.machine.now.prog) (c.step.new.budget.ran - c.args.budget.now.ran) c.step.new.budget.ran c.args.budget.now.whole c.args.machine.now c.args.tables.now.world (state_of c.step.new.self c.step.new.tables.world) c.in-Row.row (g.R.RowSink.taken c.args.rows.now) (g.R.RowSink.taken c.hand_over-taken.new.rows) (Rose (g.R.RowSink.fault_count c.args.rows.now) (g.R.RowSink.fault_count c.hand_over-taken.new.rows)) c.hand_over-taken.result (c.in-Row.ensures.event told ask) c.hand_over-taken.ensures.row)
 
 pub returns-in-Interrupted-clause-next : goal.returns-in-Interrupted-clause-next
 returns-in-Interrupted-clause-next g c told ask =
