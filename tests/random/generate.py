@@ -1,5 +1,6 @@
 #!/usr/bin/env python3
-"""Writes scripts of random expressions over a small table, each with the lines that the definitions give it.
+"""Writes scripts of random expressions over a small table, and of tables that come and go, each with the lines that the definitions
+give it.
 
 `generate.py > scripts.jsonl` made the file beside it: a script a line, with a list for each line that is due, of what it may be.
 """
@@ -9,7 +10,9 @@ import random
 from meaning import lines_of
 
 SCRIPTS = 300
+TABLE_SCRIPTS = 100
 SEED = 20251
+NAMES = ["t", "T", '"u"', "[U]", "`v`", "é", "É", "sqlite_t"]
 TYPES = ["INTEGER", "INT", "TEXT", "VARCHAR(10)", "BLOB", "NUMERIC", "", "CLOB", "DECIMAL(10, 5)"]
 TEXTS = ["", "a", "A", "ab", "aB ", "b%", "5 apples", "12", " 7", "-3", "2.5", "x_y", "it''s", "[a-c]"]
 BLOBS = ["x''", "x'61'", "X'3132'", "x'ff'", "x'C3A9'"]
@@ -122,13 +125,84 @@ def literal(choose, bare):
     return choose.choice(["", "", "-", "+"]) + found if found.isdigit() else found
 
 
+class TableWriter:
+    """Statements about a few tables, whose columns are mostly those that were created last under the name."""
+
+    def __init__(self, choose):
+        self.r, self.known = choose, {}
+
+    def name(self):
+        if self.known and self.r.random() < 0.85:
+            return self.r.choice(list(self.known))
+        return self.r.choice(NAMES[:-1] if self.r.random() < 0.9 else NAMES)
+
+    def there(self, name):
+        return self.known.get(name, ["a", "b"])
+
+    def create(self):
+        name = self.name()
+        columns = self.r.sample(["a", "b", "c", "d", "é", "É"], self.r.randrange(1, 5)) + ["A"] * (self.r.random() < 0.1)
+        self.known.setdefault(name, columns)
+        words = ", ".join(("%s %s" % (c, self.r.choice(TYPES))).strip() for c in columns)
+        return "CREATE TABLE %s%s(%s)" % (self.r.choice(["", "", "IF NOT EXISTS "]), name, words)
+
+    def drop(self):
+        name = self.name()
+        self.known.pop(name, None)
+        return "DROP TABLE %s%s" % (self.r.choice(["", "IF EXISTS "]), name)
+
+    def row(self, width):
+        return "(%s)" % ", ".join(Writer(self.r, []).expr(self.r.choice([0, 0, 0, 1, 2])) for i in range(width))
+
+    def width(self, width):
+        return width if self.r.random() < 0.9 else width + 1
+
+    def insert(self):
+        name = self.name()
+        columns = self.there(name)
+        if self.r.random() < 0.15:
+            return "INSERT INTO %s DEFAULT VALUES" % name
+        named = ""
+        if self.r.random() < 0.5:
+            columns = [self.r.choice(columns * 3 + ["z"]) for i in range(self.r.randrange(1, 4))]
+            named = "(%s)" % ", ".join(columns)
+        rows = ", ".join(self.row(self.width(len(columns))) for i in range(self.r.randrange(1, 4)))
+        return "INSERT INTO %s%s VALUES %s" % (name, named, rows)
+
+    def values(self):
+        width = self.r.randrange(1, 4)
+        return "VALUES %s" % ", ".join(self.row(self.width(width)) for i in range(self.r.randrange(1, 4)))
+
+    def select(self):
+        name = self.name()
+        alias = self.r.choice(["", "", " AS x", " x", ' "t"'])
+        shown = alias.split()[-1] if alias else name
+        writer = Writer(self.r, self.there(name))
+        results = [self.r.choice([
+            lambda: "*", lambda: "%s.*" % self.r.choice([shown, shown, name]), lambda: "%s.%s" % (shown, self.r.choice(self.there(name))),
+            lambda: writer.expr(self.r.randrange(3)) + self.r.choice(["", " AS y", " y", ' "a"']),
+        ])() for i in range(self.r.randrange(1, 4))]
+        return "SELECT %s FROM %s%s" % (", ".join(results), name, alias)
+
+    def pragma(self):
+        return self.r.choice(["PRAGMA foreign_keys=OFF", "PRAGMA Foreign_Keys(off)", "PRAGMA foreign_keys=yes", "PRAGMA other"])
+
+    def script(self):
+        kinds = [(3, self.create), (2, self.drop), (9, self.insert), (1, self.values), (6, self.select), (0.3, self.pragma)]
+        found = [self.create(), self.create()]
+        found += [self.r.choices([k for w, k in kinds], [w for w, k in kinds])[0]() for i in range(self.r.randrange(10, 30))]
+        found += ["SELECT * FROM %s" % name for name in sorted(self.known)]
+        return ";\n".join(found) + ";\n"
+
+
 # Each operand of a BETWEEN stands twice in what it means, and so do its causes.
 NESTED = "SELECT 1.5" + " BETWEEN 0 AND 1" * 60 + ";\n"
 
 
 def scripts():
     source = random.Random(SEED)
-    return [script(source) for number in range(SCRIPTS)] + [NESTED]
+    found = [script(source) for number in range(SCRIPTS)] + [NESTED]
+    return found + [TableWriter(source).script() for number in range(TABLE_SCRIPTS)]
 
 
 if __name__ == "__main__":

@@ -9,11 +9,11 @@ import sys
 
 from values import *
 
-RESERVED = set("""ALL AND AS BETWEEN CASE CAST COLLATE CREATE DISTINCT ELSE END ESCAPE FROM GLOB IN INSERT INTO IS ISNULL LIKE NOT NOTNULL
-NULL OR SELECT TABLE THEN TRUE FALSE VALUES WHEN WHERE FILTER RAISE""".split())
+RESERVED = set("""ALL AND AS BETWEEN CASE CAST COLLATE CREATE DEFAULT DISTINCT DROP ELSE END ESCAPE EXISTS FROM GLOB IF IN INSERT INTO IS ISNULL
+LIKE NOT NOTNULL NULL OR SELECT TABLE THEN TRUE FALSE VALUES WHEN WHERE FILTER RAISE""".split())
 MAX_COLUMNS = 100
 TOKEN = re.compile(r"""\s+|(?P<text>'(?:[^']|'')*')|(?P<blob>[xX]'[0-9a-fA-F]*')|(?P<name>"(?:[^"]|"")*"|`(?:[^`]|``)*`|\[[^\]]*\])
-|(?P<word>[A-Za-z_][A-Za-z0-9_]*)|(?P<number>0[xX][0-9a-fA-F]+|(?:[0-9]+(?:\.[0-9]*)?|\.[0-9]+)(?:[eE][+-]?[0-9]+)?)
+|(?P<word>(?:[A-Za-z_]|[^\x00-\x7f])(?:[A-Za-z0-9_]|[^\x00-\x7f])*)|(?P<number>0[xX][0-9a-fA-F]+|(?:[0-9]+(?:\.[0-9]*)?|\.[0-9]+)(?:[eE][+-]?[0-9]+)?)
 |(?P<sign>\|\||<<|>>|<=|>=|<>|==|!=|[-+*/%(),.;=<>&|~])""", re.X)
 
 
@@ -115,10 +115,11 @@ def affinity_of(words):
 
 
 class Parser:
-    """A statement's tokens, and the table whose columns its names are. Names are bound while they are read, from left to right."""
+    """A statement's tokens, the table whose columns its names are, and what it is called. Names are bound while they are read, from
+    left to right."""
 
-    def __init__(self, tokens, table=None):
-        self.tokens, self.at, self.table = tokens, 0, table
+    def __init__(self, tokens):
+        self.tokens, self.at, self.table, self.shown = tokens, 0, None, None
 
     def kind(self, ahead=0):
         return self.tokens[self.at + ahead][0] if self.at + ahead < len(self.tokens) else "end"
@@ -133,6 +134,15 @@ class Parser:
         if self.kind() in kinds:
             return self.next()[0]
         return None
+
+    def takes_all(self, *kinds):
+        found = all(self.kind(n) == kind for n, kind in enumerate(kinds))
+        self.at += len(kinds) if found else 0
+        return found
+
+    def alias(self):
+        """The name that a result or an item gets, if it gets one."""
+        return self.name() if self.takes("AS") or self.kind() in ("word", "name") else None
 
     def expect(self, kind):
         if self.next()[0] != kind:
@@ -353,7 +363,7 @@ class Parser:
 
     def column(self, name, table=None):
         shown = name if table is None else table + "." + name
-        columns = self.table.columns if self.table and (table is None or same(self.table.name, table)) else []
+        columns = self.table.columns if self.table and (table is None or same(self.shown, table)) else []
         for place, column in enumerate(columns):
             if same(column[0], name):
                 found = Bound(lambda row: row[place], affinity=column[1])
@@ -396,6 +406,17 @@ class Table:
     def __init__(self, name, columns):
         self.name, self.columns, self.rows = name, columns, []
 
+    def place(self, name):
+        """The place of a column."""
+        for place, column in enumerate(self.columns):
+            if same(column[0], name):
+                return place
+        raise Refused("1: no such column: " + name)
+
+    def values(self):
+        """What each column comes to."""
+        return [lambda row, i=i: row[i] for i in range(len(self.columns))]
+
 
 class Connection:
     """The tables, by their names in lower case."""
@@ -406,10 +427,12 @@ class Connection:
     def run(self, text):
         """The rows that are given, and the causes any of which may be named."""
         try:
-            p = Parser([t for t in tokens_of(text)])
-            if p.kind() == "CREATE":
-                return self.create(p)
-            return self.insert(p) if p.kind() == "INSERT" else self.select(p)
+            p = Parser(tokens_of(text))
+            known = {"CREATE": self.create, "DROP": self.drop, "INSERT": self.insert, "VALUES": self.values, "SELECT": self.select}
+            found = known.get(p.kind(), self.pragma)(p)
+            if p.kind() != "end":
+                raise NotYet
+            return found
         except NotYet:
             return [], {"1: not built yet"}
         except Refused as why:
@@ -423,10 +446,13 @@ class Connection:
     def create(self, p):
         p.expect("CREATE")
         p.expect("TABLE")
+        unless_there = p.takes_all("IF", "NOT", "EXISTS")
         name = p.name()
         p.expect("(")
         definitions = p.listed(lambda: (p.name(), p.type_words() if p.kind() in ("word", "name") else []))
         p.expect(")")
+        if unless_there and folded(name) in self.tables:
+            return [], set()
         if folded(name).startswith("sqlite_"):
             raise Refused("1: reserved name: " + name)
         if folded(name) in self.tables:
@@ -444,38 +470,79 @@ class Connection:
         self.tables[folded(name)] = Table(name, columns)
         return [], set()
 
-    def insert(self, p):
-        p.expect("INSERT")
-        p.expect("INTO")
+    def drop(self, p):
+        p.expect("DROP")
+        p.expect("TABLE")
+        if_there = p.takes_all("IF", "EXISTS")
         name = p.name()
-        p.expect("VALUES")
+        if not if_there:
+            self.table(name)
+        self.tables.pop(folded(name), None)
+        return [], set()
 
-        def literal():
-            sign = p.takes("-", "+")
-            kind, text = p.next()
-            v = literal_of(kind, text)
-            if sign == "-" and kind == "number" and text.isdigit() and int(text) == 2 ** 63:
-                return -(2 ** 63)
-            return turned(lambda n: in_range(-n), v) if sign == "-" else v
+    def pragma(self, p):
+        """One does nothing, and there is no other."""
+        if not same(p.name(), "PRAGMA"):
+            raise NotYet
+        name, value = p.name(), None
+        if p.takes("="):
+            value = p.name()
+        elif p.takes("("):
+            value = p.name()
+            p.expect(")")
+        if same(name, "foreign_keys") and value is not None and same(value, "OFF"):
+            return [], set()
+        raise Refused("1: no such pragma: " + name)
+
+    def rows(self, p):
+        """Rows of expressions, all as wide as the first."""
+        p.expect("VALUES")
+        widths = []
 
         def row():
             p.expect("(")
-            found = p.listed(literal)
+            found = p.listed(p.expr)
             p.expect(")")
-            return found
-        rows = p.listed(row)
-        table = self.table(name)
-        if any(len(r) != len(rows[0]) for r in rows):
-            raise Refused("1: wrong number of values: VALUES")
-        if len(rows[0]) != len(table.columns):
-            raise Refused("1: wrong number of values: " + table.name)
-        for r in rows:
-            causes = frozenset().union(*map(causes_in, r))
+            widths.append(len(found))
+            if widths[-1] != widths[0]:
+                raise Refused("1: wrong number of values: VALUES")
+            return [e.value for e in found]
+        return p.listed(row)
+
+    def values(self, p):
+        given = []
+        for row in self.rows(p):
+            values = [v([]) for v in row]
+            causes = frozenset().union(*map(causes_in, values))
             if causes:
-                return [], causes
-        stored = [[store_as(a, v) for (c, a), v in zip(table.columns, r)] for r in rows]
-        for r in stored:
-            causes = frozenset().union(*map(causes_in, r))
+                return given, causes
+            given.append(values)
+        return given, set()
+
+    def insert(self, p):
+        """The source is computed as a whole, and a cause of any bad row may be named; then each row is stored in turn."""
+        p.expect("INSERT")
+        p.expect("INTO")
+        table = self.table(p.name())
+        places = range(len(table.columns))
+        if p.takes("("):
+            places = p.listed(lambda: table.place(p.name()))
+            p.expect(")")
+        if p.takes_all("DEFAULT", "VALUES"):
+            places, rows = [], [[]]
+        else:
+            rows = self.rows(p)
+            if len(rows[0]) != len(places):
+                raise Refused("1: wrong number of values: " + table.name)
+        source = [[v([]) for v in row] for row in rows]
+        causes = frozenset().union(*(causes_in(v) for row in source for v in row))
+        if causes:
+            return [], causes
+        stored = []
+        for row in source:
+            values = [row[list(places).index(k)] if k in places else None for k in range(len(table.columns))]
+            stored.append([store_as(a, v) for (c, a), v in zip(table.columns, values)])
+            causes = frozenset().union(*map(causes_in, stored[-1]))
             if causes:
                 return [], causes
         table.rows += stored
@@ -489,24 +556,35 @@ class Connection:
             kind = p.next()[0]
             depth += {"(": 1, "CASE": 1, ")": -1, "END": -1}.get(kind, 0)
         behind = p.at
-        p.table = self.table(p.name()) if p.takes("FROM") else None
+        if p.takes("FROM"):
+            p.table = self.table(p.name())
+            p.shown = p.alias() or p.table.name
         conjuncts = p.expr().conjuncts if p.takes("WHERE") else []
         if p.kind() != "end":
             raise NotYet
-        p.at = start
+        end, p.at = p.at, start
         results = []
         for found in p.listed(lambda: self.result(p)):
             results += found
         if p.at != behind:
             raise NotYet
+        p.at = end
         return self.shown(conjuncts, results, p.table.rows if p.table else [[]])
 
     def result(self, p):
         if p.takes("*"):
             if p.table is None:
                 raise Refused("1: misuse of: *")
-            return [lambda row, i=i: row[i] for i in range(len(p.table.columns))]
-        return [p.expr().value]
+            return p.table.values()
+        if p.kind() in ("word", "name") and p.kind(1) == "." and p.kind(2) == "*":
+            name = p.name()
+            p.at += 2
+            if p.table is None or not same(p.shown, name):
+                raise Refused("1: no such table: " + name)
+            return p.table.values()
+        found = p.expr().value
+        p.alias()
+        return [found]
 
     def shown(self, conjuncts, results, rows):
         given = []
@@ -534,7 +612,7 @@ def lines_of(script):
         given, causes = connection.run(text)
         lines += [[b"|".join(map(printed, row)).decode("latin-1")] for row in given]
         if causes:
-            lines.append(sorted("Error " + c for c in causes))
+            lines.append(sorted(("Error " + c).encode().decode("latin-1") for c in causes))
     return lines
 
 

@@ -39,7 +39,7 @@ bound_of-Parameter t s = rw (← x.rolls-Parameter t, fold-roll-Expr) refl
 pub bound_of-Column : (t : Token) (s : Scope) → bound_of (x.Column t) s ≡ column_bound (name_at s.text t) s.table
 bound_of-Column t s = rw (← x.rolls-Column t, fold-roll-Expr) refl
 
-pub bound_of-TableColumn : (t c : Token) (s : Scope) → bound_of (x.TableColumn t c) s ≡ table_column_bound (name_at s.text t) (name_at s.text c) s.table
+pub bound_of-TableColumn : (t c : Token) (s : Scope) → bound_of (x.TableColumn t c) s ≡ table_column_bound (name_at s.text t) (name_at s.text c) s.shown s.table
 bound_of-TableColumn t c s = rw (← x.rolls-TableColumn t c, fold-roll-Expr) refl
 
 pub bound_of-Unary : (o : UnaryOp) (a : Expr) (s : Scope) → bound_of (x.Unary o a) s ≡ (bound_of a s >>= λ x. Ok (unary_bound o x))

@@ -20,7 +20,7 @@ use Rattle.sql_meaning.specs.declared.bound.BoundArm.{BoundArm}
 use Rattle.sql_meaning.specs.declared.bound.BoundExpr.{BoundExpr}
 use Rattle.sql_meaning.specs.declared.bound.BoundMatch.{BoundMatch}
 use Rattle.sql_meaning.specs.Binding.{◌>>=◌, in_turn, Scope, Bound, Form, Plain, LeastMagnitude, Truth, Arm, all_in, option_in, option_list, bound_of, arm_bound, arm_parts, first_collation, first_explicit, tree_of, chosen_arm, matched_arm, literal_bound, parameter_bound, column_bound, column_found, column_place, table_column_bound, unary_bound, negative_bound, binary_bound, is_bound, not_bound, unknown_column, dotted, between_bound, like_bound, in_bound, collate_bound, collation_named, cast_bound, affinity_of_type, function_called, builtin_named, call_bound, case_bound}
-use Rattle.sql_meaning.specs.Names.{is_same_name}
+use Rattle.eng_entry.specs.Names.{is_same_name}
 use Rattle.sql_meaning.specs.Spelled.{name_at}
 use Rattle.bind_expr.specs.declared.groups.Group.{Group}
 use Rattle.bind_expr.specs.Gathers.{part_of, option_part, arm_in, operand, operand_of, operands_of, choice, choice_of, choices_of, matching, match_of, matches_of, call_part, case_part}
@@ -63,9 +63,9 @@ of_table : (right : Bool) (shown : List ℕ) (columns : List _) (place : Option 
 of_table true shown columns place = column_found_part shown columns place
 of_table false shown columns place = refl
 
-pub table_column_part : (table name : List ℕ) (entry : Option _) → part_in (table_column_bound table name entry) ≡ table_column_bound table name entry
-table_column_part table name None = refl
-table_column_part table name (Some t) = of_table (is_same_name t.name table) (dotted table name) t.columns (column_place t.columns name)
+pub table_column_part : (table name shown : List ℕ) (entry : Option _) → part_in (table_column_bound table name shown entry) ≡ table_column_bound table name shown entry
+table_column_part table name shown None = refl
+table_column_part table name shown (Some t) = of_table (is_same_name shown table) (dotted table name) t.columns (column_place t.columns name)
 
 -- ---- operators
 
@@ -211,8 +211,8 @@ part_of-Parameter t s = rw (bound_of-Parameter t s) refl
 pub part_of-Column : (t : Token) (s : Scope) → part_of s (x.Column t) ≡ column_bound (name_at s.text t) s.table
 part_of-Column t s = rw (bound_of-Column t s) (column_part (name_at s.text t) s.table)
 
-pub part_of-TableColumn : (t c : Token) (s : Scope) → part_of s (x.TableColumn t c) ≡ table_column_bound (name_at s.text t) (name_at s.text c) s.table
-part_of-TableColumn t c s = rw (bound_of-TableColumn t c s) (table_column_part (name_at s.text t) (name_at s.text c) s.table)
+pub part_of-TableColumn : (t c : Token) (s : Scope) → part_of s (x.TableColumn t c) ≡ table_column_bound (name_at s.text t) (name_at s.text c) s.shown s.table
+part_of-TableColumn t c s = rw (bound_of-TableColumn t c s) (table_column_part (name_at s.text t) (name_at s.text c) s.shown s.table)
 
 pub part_of-Unary : (o : UnaryOp) (a : Expr) (s : Scope) → part_of s (x.Unary o a) ≡ (part_of s a >>= λ x. Ok (unary_bound o x))
 part_of-Unary o a s =

@@ -13,7 +13,7 @@ use Rattle.eng_value.specs.declared.value.Value.TheVariants as value
 use Rattle.sql_meaning.specs.declared.bound.Literal.TheVariants as literal
 use Rattle.sql_meaning.specs.declared.column.Column.{Column}
 use Rattle.sql_meaning.specs.declared.column.TableEntry.{TableEntry}
-use Rattle.sql_meaning.specs.Names.{is_same_name}
+use Rattle.eng_entry.specs.Names.{is_same_name}
 use Rattle.sql_meaning.specs.Spelled.{name_at, literal_at}
 use Rattle.bind_expr.specs.declared.part.BoundPart.{BoundPart}
 use Rattle.bind_expr.specs.Parts.{part_in, unsplit, whole, Binds}
@@ -327,15 +327,15 @@ of_table_sized : (right : Bool) (shown : List ℕ) (columns : List Column) (plac
 of_table_sized true shown columns place b h = column_found_sized shown columns place b h
 of_table_sized false shown columns place b h = cc
 
-table_column_sized : (table name : List ℕ) (entry : Option TableEntry) (b : Bound) → table_column_bound table name entry ≡ Ok b → Sized 1 b
-table_column_sized table name None b h = cc
-table_column_sized table name (Some t) b h = of_table_sized (is_same_name t.name table) (dotted table name) t.columns (column_place t.columns name) b h
+table_column_sized : (table name shown : List ℕ) (entry : Option TableEntry) (b : Bound) → table_column_bound table name shown entry ≡ Ok b → Sized 1 b
+table_column_sized table name shown None b h = cc
+table_column_sized table name shown (Some t) b h = of_table_sized (is_same_name shown table) (dotted table name) t.columns (column_place t.columns name) b h
 
 column_case : (t : Token) → IsSized (x.Column t)
 column_case t s b h = rw (size-Column t) (column_sized (name_at s.text t) s.table b (sym (bound_of-Column t s) ∙ h))
 
 table_column_case : (t c : Token) → IsSized (x.TableColumn t c)
-table_column_case t c s b h = rw (size-TableColumn t c) (table_column_sized (name_at s.text t) (name_at s.text c) s.table b (sym (bound_of-TableColumn t c s) ∙ h))
+table_column_case t c s b h = rw (size-TableColumn t c) (table_column_sized (name_at s.text t) (name_at s.text c) s.shown s.table b (sym (bound_of-TableColumn t c s) ∙ h))
 
 unary_case : (o : UnaryOp) (a : Expr) → IsSized a → IsSized (x.Unary o a)
 unary_case o a ha s b h =

@@ -4,7 +4,7 @@ use Rattle.std.specs.List.{find}
 use Rattle.eng_value.specs.declared.builtin.Builtin.{Builtin}
 use Rattle.sql_meaning.specs.declared.builtins.ArgumentCount.{ArgumentCount}
 use Rattle.sql_meaning.specs.Binding.{NamedBuiltin}
-use Rattle.sql_meaning.specs.Names.{is_same_name}
+use Rattle.eng_entry.specs.Names.{is_same_name}
 
 -- a row of the table
 abbrev pub row : List ℕ → Builtin → ArgumentCount → NamedBuiltin

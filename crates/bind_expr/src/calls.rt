@@ -7,7 +7,7 @@ ghost use Rattle.sql_meaning.specs.declared.bound.BoundExpr.TheVariants as e;
 ghost use Rattle.std.specs.List.{find};
 ghost use Rattle.std.specs.Option.{option_map};
 ghost use Rattle.sql_meaning.specs.Binding.{builtin_named, call_checked, call_tree, function_called, takes, tree_by};
-ghost use Rattle.sql_meaning.specs.Names.{is_same_name};
+ghost use Rattle.eng_entry.specs.Names.{is_same_name};
 ghost use Rattle.sql_meaning.specs.Spelled.{name_at};
 ghost use Rattle.bind_expr.specs.Calls.{named_in, row};
 ghost use Rattle.bind_expr.specs.Groups.{call_group};
@@ -15,7 +15,8 @@ ghost use Rattle.bind_expr.specs.Parts.{itself, whole, Gives};
 
 use crate::groups::Group;
 use crate::part::{BoundPart, or_binary};
-use bind_name::{is_same, name};
+use bind_name::name;
+use eng_entry::is_same_name;
 use eng_value::{Builtin, Cause, Collation, NameKind, Text};
 use sql_meaning::{ArgumentCount, BUILTINS, BoundArm, BoundExpr};
 use sql_tree::{Arguments, Token};
@@ -30,7 +31,7 @@ fn named_in(
     ensures { option_map (λ b. row b.0.now b.1 b.2) result ≡ named_in (map (λ b. row b.0.now b.1 b.2) table.now) name.now }
 {
     for known in table {
-        if is_same(known.0.as_bytes(), name) {
+        if is_same_name(known.0.as_bytes(), name) {
             return Some(*known);
         }
     }

@@ -1,6 +1,5 @@
 // Columns by their names (SQL Language Expressions, section 3).
 ghost use Rattle.std.specs.Prelude.{◌≡◌, Some, slice_get, IfOk};
-ghost use Rattle.std.specs.Option.{option_copied};
 ghost use Rattle.eng_value.specs.declared.affinity.Affinity.TheVariants as affinity;
 ghost use Rattle.eng_value.specs.declared.cause.Cause.TheVariants as cause;
 ghost use Rattle.eng_value.specs.declared.cause.NameKind.TheVariants as named;
@@ -10,7 +9,8 @@ ghost use Rattle.bind_expr.specs.Parts.{whole, Gives};
 
 use crate::part::{BoundPart, Form};
 use crate::scope::Scope;
-use bind_name::{is_same, name};
+use bind_name::name;
+use eng_entry::is_same_name;
 use eng_value::{Affinity, Built, Cause, Collation, NameKind, Text};
 use sql_meaning::{BoundExpr, Column, TableEntry};
 use sql_tree::Token;
@@ -22,7 +22,7 @@ pub fn column_place(columns: &[Column], name: &[u8]) -> Option<usize>
 {
     columns
         .iter()
-        .position(|c| is_same(c.name.as_bytes(), name))
+        .position(|c| is_same_name(c.name.as_bytes(), name))
 }
 
 /// A place as bound trees count places. One that is too large is want of memory: no list is so long.
@@ -109,29 +109,24 @@ pub(crate) fn table_column(
     table: &Token,
     token: &Token,
 ) -> Result<BoundPart, Cause>
-    ensures { Gives whole (table_column_bound (name_at scope.now.text table.now) (name_at scope.now.text token.now) scope.now.table) result }
+    ensures { Gives whole (table_column_bound (name_at scope.now.text table.now) (name_at scope.now.text token.now) scope.now.shown scope.now.table) result }
 {
     let table = name(alloc, scope.text(), table)?;
     let name = name(alloc, scope.text(), token)?;
-    let shown = dotted(alloc, &table, &name)?;
-    column_of(scope.table(), shown, table.as_bytes(), name.as_bytes())
+    let called = dotted(alloc, &table, &name)?;
+    column_of(scope, called, table.as_bytes(), name.as_bytes())
 }
 
-/// The column of this name, where the table has that name.
-fn column_of(
-    entry: Option<&TableEntry>,
-    shown: Text,
-    table: &[u8],
-    name: &[u8],
-) -> Result<BoundPart, Cause>
-    requires { shown ≡ dotted table.now name.now }
-    ensures { Gives whole (table_column_bound table.now name.now (option_copied entry.entry)) result }
+/// The column of this name, where the table is called so. A refusal calls the column as `called` says.
+fn column_of(scope: &Scope<'_>, called: Text, table: &[u8], name: &[u8]) -> Result<BoundPart, Cause>
+    requires { called ≡ dotted table.now name.now }
+    ensures { Gives whole (table_column_bound table.now name.now scope.now.shown scope.now.table) result }
 {
-    match entry {
-        Some(entry) if is_same(entry.name.as_bytes(), table) => {
+    match scope.table() {
+        Some(entry) if is_same_name(scope.shown(), table) => {
             let columns = entry.columns.as_slice();
-            column_found(shown, columns, column_place(columns, name))
+            column_found(called, columns, column_place(columns, name))
         }
-        _ => Err(Cause::Unknown(NameKind::Column, shown)),
+        _ => Err(Cause::Unknown(NameKind::Column, called)),
     }
 }

@@ -6,7 +6,8 @@ ghost use Rattle.bind_expr.specs.Parts as part;
 ghost use Rattle.bind_expr.specs.Parts.{collated, collation_in, itself, whole, Gives};
 
 use crate::part::{BoundPart, Form};
-use bind_name::{is_least_magnitude, is_same, literal, name, slice_of};
+use bind_name::{is_least_magnitude, literal, name, slice_of};
+use eng_entry::is_same_name;
 use eng_value::{Affinity, Built, Cause, Collation, NameKind};
 use sql_meaning::BoundExpr;
 use sql_tree::{Token, TokenKind};
@@ -53,11 +54,11 @@ pub(crate) fn parameter_part(token: &Token) -> BoundPart
 fn collation_named(name: &[u8]) -> Option<Collation>
     ensures { result ≡ collation_named name.now }
 {
-    if is_same(name, b"BINARY") {
+    if is_same_name(name, b"BINARY") {
         Some(Collation::Built(Built::Binary))
-    } else if is_same(name, b"NOCASE") {
+    } else if is_same_name(name, b"NOCASE") {
         Some(Collation::Built(Built::NoCase))
-    } else if is_same(name, b"RTRIM") {
+    } else if is_same_name(name, b"RTRIM") {
         Some(Collation::Built(Built::Rtrim))
     } else {
         None

@@ -18,9 +18,7 @@ mod operators;
 mod part;
 mod scope;
 
-pub use bind_name::{
-    affinity_of_type, is_built, is_same, literal, name, signed_literal, signed_of,
-};
+pub use bind_name::{affinity_of_type, is_built, literal, name, slice_of};
 pub use columns::column_place;
 pub use expressions::{bind, bind_conjuncts};
 pub use laws::sizes_are_linear;

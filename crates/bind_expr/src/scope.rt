@@ -5,11 +5,13 @@ ghost use Rattle.std.specs.Option.{option_copied};
 use sql_meaning::TableEntry;
 use std::marker::Model;
 
-/// The text of a statement, and the table of its FROM, if it has one. Contracts see the definitions' scope.
+/// The text of a statement, the table of its FROM, if it has one, and the name by which that is called there. Contracts see the
+/// definitions' scope.
 #[derive(Drop)]
 pub struct Scope<'a> {
     text: &'a str,
     table: Option<&'a TableEntry>,
+    shown: &'a [u8],
 }
 
 impl<'a> Model for Scope<'a> {
@@ -18,15 +20,16 @@ impl<'a> Model for Scope<'a> {
 
     ghost Value = { meant.Scope };
 
-    ghost view = { λ s. record { text = s.text.now; table = option_copied s.table } };
+    ghost view = { λ s. record { text = s.text.now; table = option_copied s.table; shown = s.shown.now } };
 }
 
 impl<'a> Scope<'a> {
-    pub fn new(text: &'a str, table: Option<&'a TableEntry>) -> Scope<'a>
+    pub fn new(text: &'a str, table: Option<&'a TableEntry>, shown: &'a [u8]) -> Scope<'a>
         ensures text { result.text ≡ text.now }
         ensures table { result.table ≡ option_copied table.entry }
+        ensures shown { result.shown ≡ shown.now }
     {
-        Scope { text, table }
+        Scope { text, table, shown }
     }
 
     pub fn text(&self) -> &'a str
@@ -39,5 +42,12 @@ impl<'a> Scope<'a> {
         ensures { option_copied result ≡ self.now.table }
     {
         self.table
+    }
+
+    /// The name by which the table is called.
+    pub fn shown(&self) -> &'a [u8]
+        ensures { result.now ≡ self.now.shown }
+    {
+        self.shown
     }
 }

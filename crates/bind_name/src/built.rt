@@ -2,12 +2,13 @@
 ghost use Rattle.std.specs.Prelude.{◌≡◌, map, codes};
 ghost use Rattle.std.specs.Option.{option_map};
 ghost use Rattle.sql_meaning.specs.Built.{all_pass, is_aggregate, is_built_arm, is_built_expr, option_passes};
-ghost use Rattle.sql_meaning.specs.Names.{is_named_in, is_same_name};
+ghost use Rattle.eng_entry.specs.Names.{is_same_name};
+ghost use Rattle.sql_meaning.specs.Names.{is_named_in};
 ghost use Rattle.sql_meaning.specs.Spelled.{name_bytes, name_of, undoubled};
 
-use crate::names::is_same;
 use crate::quotes::past_second;
 use crate::slices::{inside, slice_of};
+use eng_entry::is_same_name;
 use sql_tree::{Arguments, Arm, Expr, Token};
 use sqlite_items::Boxed;
 
@@ -102,12 +103,12 @@ fn is_named(bytes: &[u8], name: &[u8]) -> bool
     ensures { result ≡ is_same_name name.now (name_of bytes.now) }
 {
     match bytes {
-        [] => is_same(name, bytes),
-        [first, ..] if *first == b'[' => is_same(name, inside(bytes)),
+        [] => is_same_name(name, bytes),
+        [first, ..] if *first == b'[' => is_same_name(name, inside(bytes)),
         [first, ..] if *first == b'"' || *first == b'`' => {
             is_undoubled(*first, inside(bytes), name)
         }
-        _ => is_same(name, bytes),
+        _ => is_same_name(name, bytes),
     }
 }
 

@@ -13,8 +13,8 @@ mod slices;
 mod types;
 
 pub use built::is_built;
-pub use literals::{literal, signed_literal, signed_of};
-pub use names::{is_same, name};
+pub use literals::literal;
+pub use names::name;
 pub use numerals::is_least_magnitude;
 pub use slices::slice_of;
 pub use types::affinity_of_type;

@@ -1,6 +1,5 @@
-// Names (SQLite Keywords). They do not regard the case of ASCII letters.
+// Names (SQLite Keywords).
 ghost use Rattle.std.specs.Prelude.{◌≡◌, IfOk};
-ghost use Rattle.sql_meaning.specs.Names.{is_same_name};
 ghost use Rattle.sql_meaning.specs.Spelled.{as_text, name_at, name_of};
 
 use crate::quotes::{text_of, undoubled_text};
@@ -8,13 +7,6 @@ use crate::slices::{inside, slice_of};
 use eng_value::Text;
 use sql_tree::Token;
 use std::alloc::{AllocError, Global};
-
-/// Whether two names name one thing.
-pub fn is_same(a: &[u8], b: &[u8]) -> bool
-    ensures { result ≡ is_same_name a.now b.now }
-{
-    a.eq_ignore_ascii_case(b)
-}
 
 /// The name that a token of the text stands for: without its quotes, if any. Only memory can fail.
 pub fn name(alloc: Global, text: &str, token: &Token) -> Result<Text, AllocError>

@@ -1,6 +1,7 @@
 pub mod Results
-pub mod Entries
+pub mod TableNames
 pub mod Listing
+pub mod Queries
 pub mod Putting
 pub mod Sizing
 pub mod Whole

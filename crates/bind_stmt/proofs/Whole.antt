@@ -1,5 +1,5 @@
 -- A statement is bound as what it does is, where all of it is built.
-use Rattle.std.proofs.Common.{◌≡◌, ◌⊎◌, ℕ, true, false, List, Result, Ok, Err, inl, inr, ap, ◌∙◌}
+use Rattle.std.proofs.Common.{◌≡◌, ℕ, true, false, List, Result, Ok, Err, inl, inr, ap, ◌∙◌}
 use Rattle.eng_value.specs.declared.cause.Cause.{Cause}
 use Rattle.eng_value.specs.declared.cause.Cause.TheVariants.{NotYet}
 use Rattle.sql_tree.specs.declared.statement.Statement.{Statement}
@@ -10,14 +10,14 @@ use Rattle.bind_stmt.specs.declared.statement.Bound.{Bound}
 use Rattle.bind_stmt.specs.Binds.{AnswersBy, Binds, IsBound}
 use Rattle.bind_stmt.proofs.Sizing.{command_small}
 
-module _ (catalog : List TableEntry) (text : List ℕ) (tokens : ℕ) (s : Statement) where
-  pub not_built : is_built text s ≡ false → Binds catalog text tokens s (Err NotYet)
+module _ (tables : List TableEntry) (number : ℕ) (text : List ℕ) (s : Statement) where
+  pub not_built : is_built text s ≡ false → Binds tables number text s (Err NotYet)
   unfolding Binds
-  not_built is = inr (ap (λ b. where_built b (command_bound catalog text tokens s.command)) is)
+  not_built is = inr (ap (λ b. where_built b (command_bound tables number text s s.command)) is)
 
-  pub built : (r : Result Bound Cause) → is_built text s ≡ true → AnswersBy (IsBound catalog) (command_bound catalog text tokens s.command) r → Binds catalog text tokens s r
+  pub built : (r : Result Bound Cause) → is_built text s ≡ true → AnswersBy IsBound (command_bound tables number text s s.command) r → Binds tables number text s r
   unfolding Binds
   built (Ok b) is bound =
-      (bound.0, ap (λ t. where_built t (command_bound catalog text tokens s.command)) is ∙ bound.1, bound.2, command_small catalog text tokens s.command bound.0 b bound.1 bound.2)
+      (bound.0, ap (λ t. where_built t (command_bound tables number text s s.command)) is ∙ bound.1, bound.2, command_small tables number text s s.command bound.0 b bound.1 bound.2)
   built (Err why) is (inl mem) = inl mem
-  built (Err why) is (inr refused) = inr (ap (λ t. where_built t (command_bound catalog text tokens s.command)) is ∙ refused)
+  built (Err why) is (inr refused) = inr (ap (λ t. where_built t (command_bound tables number text s s.command)) is ∙ refused)

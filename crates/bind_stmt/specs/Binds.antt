@@ -1,16 +1,18 @@
--- How what was bound, with tables by their places, stands to what the definitions bind.
-use Rattle.std.specs.Prelude.{◌≡◌, ◌⊎◌, ⊤, ℕ, List, [], ◌∷◌, map, position, slice_get, Option, Some, None, Result, Ok, Err}
+-- How what was bound stands to what the definitions bind.
+use Rattle.std.specs.Prelude.{◌≡◌, ◌⊎◌, ⊤, ℕ, List, [], ◌∷◌, Option, Some, None, Result, Ok, Err}
 use Rattle.eng_value.specs.declared.cause.Cause.{Cause}
 use Rattle.eng_value.specs.declared.cause.Cause.TheVariants.{Mem}
 use Rattle.sql_tree.specs.Sizes.{size_of_statement}
 use Rattle.sql_tree.specs.declared.statement.Statement.{Statement}
+use Rattle.sql_meaning.specs.declared.bound.BoundExpr.{BoundExpr}
 use Rattle.sql_meaning.specs.declared.bound.BoundInsert.{BoundInsert}
 use Rattle.sql_meaning.specs.declared.bound.BoundSelect.{BoundSelect}
+use Rattle.sql_meaning.specs.declared.bound.PutColumn.{PutColumn}
 use Rattle.sql_meaning.specs.declared.column.Column.{Column}
 use Rattle.sql_meaning.specs.declared.column.TableEntry.{TableEntry}
-use Rattle.sql_meaning.specs.BoundStatements.{BoundStatement, Creates, FromItem, Put, Puts, Queries, Query}
-use Rattle.sql_meaning.specs.Names.{is_same_name}
-use Rattle.sql_meaning.specs.Statement.{statement_bound}
+use Rattle.sql_meaning.specs.BoundStatements.{BoundStatement, Creates, DoesNothing, Drops, FromItem, Put, Puts, Queries, Query, Shows}
+use Rattle.sql_meaning.specs.Declarations.{columns_created}
+use Rattle.sql_meaning.specs.Statement.{fitting, statement_bound}
 use Rattle.bind_stmt.specs.Small.{IsSmall}
 use Rattle.bind_stmt.specs.declared.statement.Bound.{Bound}
 use Rattle.bind_stmt.specs.declared.statement.Bound.TheVariants as bound
@@ -31,53 +33,52 @@ abbrev pub AnswersBy : {B C : Type 0} → (B → C → Type 0) → Result B Caus
 AnswersBy {B} R meant (Ok c) = (b : B) × (meant ≡ Ok b) × R b c
 AnswersBy R meant (Err why) = IsRefusal meant why
 
--- ---- tables by their places
+-- ---- what stands for what
 
--- the place of the first table of this name
-abbrev pub place_named : List TableEntry → List ℕ → Option ℕ
-place_named catalog name = position (λ (t : TableEntry). is_same_name t.name name) catalog
+-- no item, or one of which nothing is ignored, by the number of its table
+abbrev pub IsFrom : List FromItem → Option ℕ → Type 0
+IsFrom [] None = ⊤
+IsFrom (i ∷ []) (Some number) = (number ≡ i.table.number) × (i.ignored ≡ [])
+IsFrom _ _ = ⊥
 
--- the table stands in this place, and is the first of its name
-pub record IsTableAt (catalog : List TableEntry) (place : ℕ) (t : TableEntry) : Type 0 where
-  pub entry : slice_get catalog place ≡ Some t
-  pub first : place_named catalog t.name ≡ Some place
-
--- a table and a place, or neither
-abbrev pub IsOptionAt : List TableEntry → Option TableEntry → Option ℕ → Type 0
-IsOptionAt catalog None None = ⊤
-IsOptionAt catalog (Some t) (Some place) = IsTableAt catalog place t
-IsOptionAt catalog _ _ = ⊥
-
--- no item, or one of which nothing is ignored
-abbrev pub IsFromAt : List TableEntry → List FromItem → Option ℕ → Type 0
-IsFromAt catalog [] None = ⊤
-IsFromAt catalog (i ∷ []) (Some place) = IsTableAt catalog place i.table × (i.ignored ≡ [])
-IsFromAt catalog _ _ = ⊥
-
-pub record IsQueryAt (catalog : List TableEntry) (q : Query) (b : BoundSelect) : Type 0 where
-  pub from : IsFromAt catalog q.from b.table
+pub record IsQueryAs (q : Query) (b : BoundSelect) : Type 0 where
+  pub from : IsFrom q.from b.table
   pub conjuncts : b.conjuncts ≡ q.conjuncts
   pub results : b.results ≡ q.results
 
-pub record IsPutAt (catalog : List TableEntry) (p : Put) (b : BoundInsert) : Type 0 where
-  pub table : IsTableAt catalog b.table p.table
+-- what each column takes, where its value stands in a row
+abbrev pub put_columns : List Column → List (Option ℕ) → List PutColumn
+put_columns [] places = []
+put_columns (c ∷ columns) [] = []
+put_columns (c ∷ columns) (p ∷ places) = record { affinity = c.affinity; place = p } ∷ put_columns columns places
+
+pub record IsPutAs (p : Put) (b : BoundInsert) : Type 0 where
+  pub table : b.table ≡ p.table.number
   pub name : b.name ≡ p.table.name
-  pub affinities : b.affinities ≡ map (λ (c : Column). c.affinity) p.table.columns
+  pub columns : b.columns ≡ put_columns p.table.columns p.places
   pub rows : b.rows ≡ p.rows
+
+-- the rows have so many values, or they are refused
+abbrev pub FitsOrNot : TableEntry → ℕ → List (List BoundExpr) → Result (Unit {0}) Cause → Type 0
+FitsOrNot t width rows (Ok u) = fitting t width rows ≡ Ok rows
+FitsOrNot t width rows (Err why) = IsRefusal (fitting t width rows) why
 
 -- ---- statements
 
--- what is bound is told so
-abbrev pub IsBound : List TableEntry → BoundStatement → Bound → Type 0
-IsBound catalog (Creates t) (bound.CreateTable e) = e ≡ t
-IsBound catalog (Puts p) (bound.Insert b) = IsPutAt catalog p b
-IsBound catalog (Queries q) (bound.Select b) = IsQueryAt catalog q b
-IsBound catalog _ _ = ⊥
+abbrev pub IsBound : BoundStatement → Bound → Type 0
+IsBound (Creates e) (bound.CreateTable t) = (t.name ≡ e.name) × (columns_created e.text e.def.command ≡ Some t.columns)
+IsBound (Drops t) (bound.DropTable d) = (d.name ≡ t.name) × (d.table ≡ t.number)
+IsBound (Puts p) (bound.Insert b) = IsPutAs p b
+IsBound (Queries q) (bound.Select b) = IsQueryAs q b
+IsBound (Shows rows) (bound.Values b) = b ≡ rows
+IsBound DoesNothing bound.Nothing = ⊤
+IsBound _ _ = ⊥
 
 -- the statement is bound, and what it is bound to is small beside its tree; or it is refused; and memory may be wanting
-abbrev pub BindsTo : List TableEntry → ℕ → Result BoundStatement Cause → Result Bound Cause → Type 0
-BindsTo catalog size meant (Ok b) = (x : BoundStatement) × (meant ≡ Ok x) × IsBound catalog x b × IsSmall catalog size b
-BindsTo catalog size meant (Err why) = IsRefusal meant why
+abbrev pub BindsTo : ℕ → Result BoundStatement Cause → Result Bound Cause → Type 0
+BindsTo size meant (Ok b) = (x : BoundStatement) × (meant ≡ Ok x) × IsBound x b × IsSmall size x b
+BindsTo size meant (Err why) = IsRefusal meant why
 
-unfoldable pub Binds : List TableEntry → List ℕ → ℕ → Statement → Result Bound Cause → Type 0
-Binds catalog text tokens s r = BindsTo catalog (size_of_statement s) (statement_bound catalog text tokens s) r
+-- over these tables, where a new one gets this number
+unfoldable pub Binds : List TableEntry → ℕ → List ℕ → Statement → Result Bound Cause → Type 0
+Binds tables number text s r = BindsTo (size_of_statement s) (statement_bound tables number text s) r

@@ -1,43 +1,47 @@
 -- How large what is bound is.
-use Rattle.std.specs.Prelude.{◌≡◌, ◌≤◌, ℕ, ◌+◌, ◌*◌, List, length, map, Option, Some, None, slice_get}
+use Rattle.std.specs.Prelude.{◌≤◌, ℕ, ◌+◌, ◌*◌, List, [], ◌∷◌, length, map}
 use Rattle.sql_tree.specs.Sizes.{total}
+use Rattle.sql_meaning.specs.declared.bound.BoundExpr.{BoundExpr}
 use Rattle.sql_meaning.specs.declared.bound.BoundSelect.{BoundSelect}
-use Rattle.sql_meaning.specs.declared.bound.Literal.{Literal}
-use Rattle.sql_meaning.specs.declared.column.TableEntry.{TableEntry}
+use Rattle.sql_meaning.specs.BoundStatements.{BoundStatement, FromItem, Queries, Query}
 use Rattle.sql_meaning.specs.Sizes.{all_nodes}
 use Rattle.bind_stmt.specs.declared.statement.Bound.{Bound}
 use Rattle.bind_stmt.specs.declared.statement.Bound.TheVariants as bound
 
--- how many columns the table in this place has
-abbrev pub columns_of : Option TableEntry → ℕ
-columns_of None = 0
-columns_of (Some t) = length t.columns
-
-abbrev pub columns_at : List TableEntry → Option ℕ → ℕ
-columns_at catalog None = 0
-columns_at catalog (Some place) = columns_of (slice_get catalog place)
+-- how many columns the tables of a FROM have
+abbrev pub columns_in : List FromItem → ℕ
+columns_in items = total (map (λ (i : FromItem). length i.table.columns) items)
 
 -- FROM and a name
-abbrev pub from_size : Option ℕ → ℕ
-from_size None = 0
-from_size (Some place) = 2
+abbrev pub from_size : List FromItem → ℕ
+from_size [] = 0
+from_size (i ∷ items) = 2
 
 -- what is shown by `*` adds at most a hundred columns, and none of a table that has none
-pub record IsSmallQuery (catalog : List TableEntry) (size : ℕ) (b : BoundSelect) : Type 0 where
+pub record IsSmallQuery (size : ℕ) (q : Query) (b : BoundSelect) : Type 0 where
   pub filter : ℕ
   pub shown : ℕ
   pub stars : ℕ
-  pub within : 1 + shown + from_size b.table + filter ≤ size
+  pub within : 1 + shown + from_size q.from + filter ≤ size
   pub conjuncts : all_nodes b.conjuncts ≤ 4 * filter
   pub hundred : stars ≤ 100
-  pub of_table : stars ≤ 100 * columns_at catalog b.table
+  pub of_table : stars ≤ 100 * columns_in q.from
   pub results : all_nodes b.results ≤ 2 * shown + stars
 
-abbrev pub row_size : List Literal → ℕ
-row_size row = 1 + length row
+abbrev pub row_size : List BoundExpr → ℕ
+row_size row = 1 + all_nodes row
+
+abbrev pub rows_size : List (List BoundExpr) → ℕ
+rows_size rows = total (map row_size rows)
+
+-- rows that are put: not more of them than the tree is large, and with few nodes
+pub record AreFew (size : ℕ) (rows : List (List BoundExpr)) : Type 0 where
+  pub nodes : 3 + rows_size rows ≤ 2 * size
+  pub count : length rows ≤ size
 
 -- beside a tree of this size
-abbrev pub IsSmall : List TableEntry → ℕ → Bound → Type 0
-IsSmall catalog size (bound.Select b) = IsSmallQuery catalog size b
-IsSmall catalog size (bound.Insert b) = 2 + total (map row_size b.rows) ≤ size
-IsSmall catalog size (bound.CreateTable t) = 2 ≤ size
+abbrev pub IsSmall : ℕ → BoundStatement → Bound → Type 0
+IsSmall size (Queries q) (bound.Select b) = IsSmallQuery size q b
+IsSmall size x (bound.Insert b) = AreFew size b.rows
+IsSmall size x (bound.Values rows) = rows_size rows ≤ 2 * size
+IsSmall size x other = 1 ≤ size

@@ -1,14 +1,14 @@
 // Which statements are built.
 ghost use Rattle.std.specs.Prelude.{◌≡◌};
-ghost use Rattle.std.specs.List.{list_all};
-ghost use Rattle.sql_meaning.specs.Built.{are_built_rows, is_built, is_built_column, is_built_command, is_built_create, is_built_definition, is_built_filter, is_built_from, is_built_insert, is_built_item, is_built_part, is_built_query, is_built_result, is_built_rows, is_built_rows_source, is_built_select, is_built_source, is_built_table, is_built_values, is_plain_select, is_signed, stands_alone};
-ghost use Rattle.sql_tree.specs.Layers.{of_item, of_part, of_query, of_select, of_source};
+ghost use Rattle.std.specs.List.{list_all, list_any};
+ghost use Rattle.sql_meaning.specs.Built.{are_built_rows, is_built, is_built_column, is_built_command, is_built_create, is_built_definition, is_built_filter, is_built_from, is_built_insert, is_built_item, is_built_part, is_built_query, is_built_result, is_built_rows, is_built_rows_source, is_built_select, is_built_source, is_built_table, is_built_values, is_built_row, is_plain_select, is_table, filters_by_names, has_alias, stands_alone};
+ghost use Rattle.sql_tree.specs.Layers.{of_item, of_part, of_query, of_result, of_select, of_source};
 
-use bind_expr::{is_built as is_built_expr, signed_of};
+use bind_expr::is_built as is_built_expr;
 use sql_tree::{
     ColumnDefinition, Command, ConflictChoice, Create, Definition, Expr, FromItem, Insert,
-    InsertSource, Query, QueryPart, ResultColumn, RowCommand, SelectCore, Source, Statement,
-    TableDefinition,
+    InsertSource, ObjectKind, Query, QueryPart, ResultColumn, RowCommand, SelectCore, Source,
+    Statement, TableDefinition,
 };
 use sqlite_items::Items;
 
@@ -25,7 +25,9 @@ fn is_built_command(text: &str, command: &Command) -> bool
     match command {
         Command::Rows(rows) => is_built_rows(text, rows),
         Command::Create(create) => is_built_create(create),
-        Command::Remove(_) | Command::Transaction(_) | Command::Pragma(_) => false,
+        Command::Remove(remove) => is_table(remove.kind),
+        Command::Pragma(_) => true,
+        Command::Transaction(_) => false,
     }
 }
 
@@ -34,7 +36,7 @@ fn is_built_rows(text: &str, command: &RowCommand) -> bool
 {
     match command {
         RowCommand::Query(query) => is_built_query(text, query),
-        RowCommand::Insert(insert) => is_built_insert(insert),
+        RowCommand::Insert(insert) => is_built_insert(text, insert),
         RowCommand::Update(_) | RowCommand::Delete(_) => false,
     }
 }
@@ -44,7 +46,7 @@ fn is_built_rows(text: &str, command: &RowCommand) -> bool
 fn is_built_create(create: &Create) -> bool
     ensures { result ≡ is_built_create create.now }
 {
-    !create.if_not_exists && is_built_definition(&create.definition)
+    is_built_definition(&create.definition)
 }
 
 fn is_built_definition(definition: &Definition) -> bool
@@ -74,6 +76,16 @@ fn is_built_column(column: &ColumnDefinition) -> bool
     column.constraints.is_empty()
 }
 
+/// Whether it is a table.
+pub(crate) fn is_table(kind: ObjectKind) -> bool
+    ensures { result ≡ is_table kind }
+{
+    match kind {
+        ObjectKind::Table => true,
+        ObjectKind::Index | ObjectKind::View | ObjectKind::Trigger => false,
+    }
+}
+
 // ---- queries
 
 /// Whether a query has no WITH, one part, no ORDER BY and no LIMIT.
@@ -97,7 +109,7 @@ fn is_built_part(text: &str, part: &QueryPart) -> bool
 {
     match part {
         QueryPart::Select(core) => is_built_select(text, core),
-        QueryPart::Values(_) => false,
+        QueryPart::Values(rows) => are_built_rows(text, rows.as_slice()),
     }
 }
 
@@ -105,6 +117,7 @@ fn is_built_select(text: &str, core: &SelectCore) -> bool
     ensures { result ≡ is_built_select text.now (of_select core.now) }
 {
     is_plain_select(core)
+        && !filters_by_names(core)
         && is_built_from(core.from.as_slice())
         && are_built_results(text, core.results.as_slice())
         && is_built_filter(text, &core.filter)
@@ -115,6 +128,28 @@ fn is_plain_select(core: &SelectCore) -> bool
     ensures { result ≡ is_plain_select (of_select core.now) }
 {
     !core.distinct && core.group_by.is_empty() && core.having.is_none()
+}
+
+/// Whether there is a WHERE in which the name of a result counts.
+fn filters_by_names(core: &SelectCore) -> bool
+    ensures { result ≡ filters_by_names (of_select core.now) }
+{
+    core.filter.is_some() && has_some_alias(core.results.as_slice())
+}
+
+fn has_some_alias(columns: &[ResultColumn]) -> bool
+    ensures { result ≡ list_any (λ r. has_alias (of_result r)) columns.now }
+{
+    columns.iter().any(|column| has_alias(column))
+}
+
+fn has_alias(column: &ResultColumn) -> bool
+    ensures { result ≡ has_alias (of_result column.now) }
+{
+    match column {
+        ResultColumn::Expression(_, name) => name.is_some(),
+        ResultColumn::All | ResultColumn::AllOf(_) => false,
+    }
 }
 
 fn is_built_from(items: &[FromItem]) -> bool
@@ -130,7 +165,7 @@ fn is_built_from(items: &[FromItem]) -> bool
 fn is_built_item(item: &FromItem) -> bool
     ensures { result ≡ is_built_item (of_item item.now) }
 {
-    item.alias.is_none() && is_built_source(&item.source)
+    is_built_source(&item.source)
 }
 
 fn is_built_source(source: &Source) -> bool
@@ -153,10 +188,8 @@ fn is_built_result(text: &str, column: &ResultColumn) -> bool
     ensures { result ≡ is_built_result text.now column.now }
 {
     match column {
-        ResultColumn::All => true,
-        ResultColumn::AllOf(_) => false,
-        ResultColumn::Expression(spanned, None) => is_built_expr(text, &spanned.expr),
-        ResultColumn::Expression(_, Some(_)) => false,
+        ResultColumn::All | ResultColumn::AllOf(_) => true,
+        ResultColumn::Expression(spanned, _) => is_built_expr(text, &spanned.expr),
     }
 }
 
@@ -169,49 +202,48 @@ fn is_built_filter(text: &str, filter: &Option<Expr>) -> bool
     }
 }
 
-// ---- INSERT
+// ---- rows of values
 
-fn is_built_insert(insert: &Insert) -> bool
-    ensures { result ≡ is_built_insert insert.now }
+fn are_built_rows(text: &str, rows: &[Items<Expr>]) -> bool
+    ensures { result ≡ list_all (is_built_row text.now) rows.now }
 {
-    insert.columns.is_empty()
-        && insert.choice == ConflictChoice::Abort
-        && is_built_rows_source(&insert.source)
+    rows.iter().all(|row| is_built_row(text, row.as_slice()))
 }
 
-fn is_built_rows_source(source: &InsertSource) -> bool
-    ensures { result ≡ is_built_rows_source source.now }
+fn is_built_row(text: &str, row: &[Expr]) -> bool
+    ensures { result ≡ is_built_row text.now row.now }
+{
+    row.iter().all(|value| is_built_expr(text, value))
+}
+
+// ---- INSERT
+
+fn is_built_insert(text: &str, insert: &Insert) -> bool
+    ensures { result ≡ is_built_insert text.now insert.now }
+{
+    insert.choice == ConflictChoice::Abort && is_built_rows_source(text, &insert.source)
+}
+
+fn is_built_rows_source(text: &str, source: &InsertSource) -> bool
+    ensures { result ≡ is_built_rows_source text.now source.now }
 {
     match source {
-        InsertSource::Query(query) => is_built_values(query),
-        InsertSource::Defaults => false,
+        InsertSource::Query(query) => is_built_values(text, query),
+        InsertSource::Defaults => true,
     }
 }
 
-fn is_built_values(query: &Query) -> bool
-    ensures { result ≡ is_built_values (of_query query.now) }
+fn is_built_values(text: &str, query: &Query) -> bool
+    ensures { result ≡ is_built_values text.now (of_query query.now) }
 {
-    stands_alone(query) && are_built_rows(&query.first)
+    stands_alone(query) && is_built_values_part(text, &query.first)
 }
 
-fn are_built_rows(part: &QueryPart) -> bool
-    ensures { result ≡ are_built_rows (of_part part.now) }
+fn is_built_values_part(text: &str, part: &QueryPart) -> bool
+    ensures { result ≡ are_built_rows text.now (of_part part.now) }
 {
     match part {
         QueryPart::Select(_) => false,
-        QueryPart::Values(rows) => are_signed(rows.as_slice()),
+        QueryPart::Values(rows) => are_built_rows(text, rows.as_slice()),
     }
-}
-
-/// Whether all values of all rows are literals, with a sign or without.
-fn are_signed(rows: &[Items<Expr>]) -> bool
-    ensures { result ≡ list_all (list_all is_signed) rows.now }
-{
-    rows.iter().all(|row| is_signed_row(row.as_slice()))
-}
-
-fn is_signed_row(row: &[Expr]) -> bool
-    ensures { result ≡ list_all is_signed row.now }
-{
-    row.iter().all(|value| signed_of(value).is_some())
 }

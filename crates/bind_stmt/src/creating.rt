@@ -1,71 +1,72 @@
 // CREATE TABLE.
-ghost use Rattle.std.specs.Prelude.{◌≡◌, [], IfOk};
-ghost use Rattle.bind_stmt.specs.Binds.{Answers};
+ghost use Rattle.std.specs.Prelude.{◌≡◌, ℕ, [], IfOk};
+ghost use Rattle.bind_stmt.specs.Binds.{Answers, AnswersBy, IsBound};
 ghost use Rattle.bind_stmt.specs.Steps.{Becomes};
 ghost use Rattle.sql_meaning.specs.Names.{is_reserved_name};
-ghost use Rattle.sql_meaning.specs.Statement.{column_named, columns_behind, created_entry, declared_affinity, entry_with, is_free_name, is_new_column, type_affinity, with_column};
+ghost use Rattle.sql_meaning.specs.Declarations.{column_named, columns_behind, columns_of_definition, declared_affinity, is_new_column, type_affinity, with_column};
+ghost use Rattle.sql_meaning.specs.Statement.{create_bound, is_free_name};
+ghost use Rattle.sql_tree.specs.declared.statement.Statement.{Statement};
+ghost use Rattle.sql_tree.specs.declared.statement.Command.TheVariants as Command;
 
-use crate::tables::place_of;
-use bind_expr::{affinity_of_type, is_same, name};
+use crate::statement::Bound;
+use crate::tables::{has_table, table_called};
+use bind_expr::{affinity_of_type, name};
+use eng_entry::is_same_name;
 use eng_value::{Affinity, Cause, LimitKind, MAX_COLUMNS, NameKind, Text};
 use sql_meaning::{Column, TableEntry};
-use sql_tree::{ColumnDefinition, Create, Definition, Token, TypeName};
+use sql_tree::{ColumnDefinition, Create, Definition, TypeName};
 use sqlite_items::Items;
 use std::alloc::{AllocError, Global};
 
-/// The entry of the table that is created; what else CREATE makes is not built.
-pub(crate) fn bind_created(
+/// A table that is created: its name, and its columns.
+#[derive(Drop)]
+pub struct NewTable {
+    pub name: Text,
+    pub columns: Items<Column>,
+}
+
+/// CREATE TABLE. Where IF NOT EXISTS finds the name it does nothing; else the name comes first, and then each column in turn.
+pub(crate) fn bind_create(
     alloc: Global,
-    catalog: &[TableEntry],
+    tables: &[TableEntry],
     text: &str,
-    tokens: usize,
     create: &Create,
-) -> Result<TableEntry, Cause>
-    ensures { Answers (created_entry catalog.now text.now tokens create.now.name create.now.definition) result }
+) -> Result<Bound, Cause>
+    ensures { (number : ℕ) (s : Statement) → s.command ≡ Command.Create create.now
+        → AnswersBy IsBound (create_bound tables.now number text.now s create.now) result }
 {
-    match &create.definition {
-        Definition::Table(table) => bind_table(
-            alloc,
-            catalog,
-            text,
-            tokens,
-            &create.name,
-            table.columns.as_slice(),
-        ),
+    let name = name(alloc, text, &create.name)?;
+    if create.if_not_exists && has_table(tables, &name) {
+        return Ok(Bound::Nothing);
+    }
+    check_free(tables, &name)?;
+    let columns = bind_definition(alloc, text, &create.definition)?;
+    Ok(Bound::CreateTable(NewTable { name, columns }))
+}
+
+/// The columns of a table; what else CREATE makes is not built.
+fn bind_definition(
+    alloc: Global,
+    text: &str,
+    definition: &Definition,
+) -> Result<Items<Column>, Cause>
+    ensures { Answers (columns_of_definition text.now definition.now) result }
+{
+    match definition {
+        Definition::Table(table) => bind_columns(alloc, text, table.columns.as_slice()),
         _ => Err(Cause::NotYet),
     }
 }
 
-/// The name comes first, and then each column in turn.
-fn bind_table(
-    alloc: Global,
-    catalog: &[TableEntry],
-    text: &str,
-    tokens: usize,
-    token: &Token,
-    columns: &[ColumnDefinition],
-) -> Result<TableEntry, Cause>
-    ensures { Answers (entry_with catalog.now text.now tokens token.now columns.now) result }
-{
-    let name = name(alloc, text, token)?;
-    check_free(catalog, &name)?;
-    let columns = bind_columns(alloc, text, columns)?;
-    Ok(TableEntry {
-        name,
-        columns,
-        tokens,
-    })
-}
-
 /// A table may have the name: it is not reserved, and no table has it.
-fn check_free(catalog: &[TableEntry], name: &Text) -> Result<(), Cause>
-    ensures { Answers (is_free_name catalog.now name.now) result }
+fn check_free(tables: &[TableEntry], name: &Text) -> Result<(), Cause>
+    ensures { Answers (is_free_name tables.now name.now) result }
 {
     if is_reserved(name.as_bytes()) {
         return Err(Cause::Reserved(name.clone()?));
     }
-    match place_of(catalog, name) {
-        Some(place) => Err(Cause::Exists(NameKind::Table, catalog[place].name.clone()?)),
+    match table_called(tables, name) {
+        Some(table) => Err(Cause::Exists(NameKind::Table, table.name.clone()?)),
         None => Ok(()),
     }
 }
@@ -78,7 +79,7 @@ fn is_reserved(name: &[u8]) -> bool
     ensures { result ≡ is_reserved_name name.now }
 {
     let end = RESERVED_PREFIX.len().min(name.len());
-    is_same(&name[..end], RESERVED_PREFIX)
+    is_same_name(&name[..end], RESERVED_PREFIX)
 }
 
 /// The columns of a table.
@@ -120,7 +121,7 @@ fn check_new(columns: &[Column], name: &Text) -> Result<(), Cause>
     ensures { Answers (is_new_column (column_named columns.now name.now)) result }
 {
     for column in columns {
-        if is_same(column.name.as_bytes(), name.as_bytes()) {
+        if is_same_name(column.name.as_bytes(), name.as_bytes()) {
             return Err(Cause::Exists(NameKind::Column, column.name.clone()?));
         }
     }

@@ -1,15 +1,20 @@
 //! Statements whose names are bound.
 //!
-//! `bind` gives what the definitions of the library sql_meaning bind (specs/Statement.antt there), with tables by their places in
-//! the catalog, or the first refusal in the order of work: the target or the FROM first, then WHERE, then what is shown; in a CREATE
-//! the name first, and then each column in turn. Begin with `bind`.
+//! `bind` gives what the definitions of the library sql_meaning bind (specs/Statement.antt there), with tables by their numbers, or
+//! the first refusal in the order of work: the target or the FROM first, then WHERE, then what is shown; in a CREATE the name first,
+//! and then each column in turn. Begin with `bind`.
 #![tactic(auto)]
 
 mod built;
 mod creating;
+mod dropping;
 mod inserting;
+mod pragmas;
 mod selecting;
 mod statement;
 mod tables;
+mod values;
 
+pub use creating::NewTable;
+pub use dropping::DroppedTable;
 pub use statement::{Bound, bind};

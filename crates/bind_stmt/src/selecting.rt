@@ -1,118 +1,165 @@
-// SELECT.
-ghost use Rattle.std.specs.Prelude.{◌≡◌, ◌++◌, [], OnOk};
+// SELECT, and queries.
+ghost use Rattle.std.specs.Prelude.{◌≡◌, ◌++◌, [], IfOk, OnOk, option_map};
 ghost use Rattle.std.specs.Option.{option_copied};
-ghost use Rattle.bind_stmt.specs.Binds.{Answers, AnswersBy, IsOptionAt, IsQueryAt, IsTableAt};
-ghost use Rattle.sql_tree.specs.Layers.{of_part, of_query, of_select, of_source};
-ghost use Rattle.bind_stmt.specs.Steps.{Becomes, behind, entry_at, expression_shown, shown_behind};
-ghost use Rattle.sql_meaning.specs.Statement.{all_columns, columns_from, conjuncts_of, from_table, part_bound, query_bound, result_of, results_behind, select_bound, source_table};
+ghost use Rattle.bind_stmt.specs.Binds.{Answers, AnswersBy, IsBound, IsQueryAs};
+ghost use Rattle.bind_stmt.specs.Steps.{Becomes, behind, expression_shown, listed, select_over, selected, shown_behind};
+ghost use Rattle.sql_meaning.specs.Spelled.{name_at};
+ghost use Rattle.sql_meaning.specs.Statement.{all_columns, all_columns_of, columns_from, conjuncts_of, part_bound, query_bound, query_in, result_of, results_behind, select_bound, shown_name, source_table};
+ghost use Rattle.sql_meaning.specs.declared.column.TableEntry.{TableEntry as Declared};
+ghost use Rattle.sql_tree.specs.Layers.{of_item, of_part, of_query, of_select, of_source};
 
+use crate::statement::Bound;
 use crate::tables::{place_number, table_named};
-use bind_expr::{Scope, bind, bind_conjuncts};
-use eng_value::{Cause, LimitKind, MAX_COLUMNS, Text};
+use crate::values::bind_rows;
+use bind_expr::{Scope, bind, bind_conjuncts, name};
+use eng_entry::is_same_name;
+use eng_value::{Cause, LimitKind, MAX_COLUMNS, NameKind, Text};
 use sql_meaning::{BoundExpr, BoundSelect, Column, TableEntry};
 use sql_tree::{Expr, FromItem, Query, QueryPart, ResultColumn, SelectCore, Source, Token};
 use sqlite_items::Items;
 use std::alloc::{AllocError, Global};
 
-/// A SELECT; any other query is not built.
+/// A SELECT or VALUES; what else a query may hold is not built.
 pub(crate) fn bind_query(
     alloc: Global,
-    catalog: &[TableEntry],
+    tables: &[TableEntry],
     text: &str,
     query: &Query,
-) -> Result<BoundSelect, Cause>
-    ensures { AnswersBy (IsQueryAt catalog.now) (query_bound catalog.now text.now (of_query query.now)) result }
+) -> Result<Bound, Cause>
+    ensures { AnswersBy IsBound (query_bound tables.now text.now (of_query query.now)) result }
 {
-    bind_part(alloc, catalog, text, &query.first)
+    bind_part(alloc, tables, text, &query.first)
 }
 
 fn bind_part(
     alloc: Global,
-    catalog: &[TableEntry],
+    tables: &[TableEntry],
     text: &str,
     part: &QueryPart,
-) -> Result<BoundSelect, Cause>
-    ensures { AnswersBy (IsQueryAt catalog.now) (part_bound catalog.now text.now (of_part part.now)) result }
+) -> Result<Bound, Cause>
+    ensures { AnswersBy IsBound (part_bound tables.now text.now (of_part part.now)) result }
 {
     match part {
-        QueryPart::Select(core) => bind_select(alloc, catalog, text, core),
-        QueryPart::Values(_) => Err(Cause::NotYet),
+        QueryPart::Select(core) => select_part(alloc, tables, text, core),
+        QueryPart::Values(rows) => values_part(alloc, text, rows.as_slice()),
     }
+}
+
+fn select_part(
+    alloc: Global,
+    tables: &[TableEntry],
+    text: &str,
+    core: &SelectCore,
+) -> Result<Bound, Cause>
+    ensures { AnswersBy IsBound (selected tables.now text.now (of_select core.now)) result }
+{
+    Ok(Bound::Select(bind_select(alloc, tables, text, core)?))
+}
+
+/// The rows of VALUES, which see no table.
+fn values_part(alloc: Global, text: &str, rows: &[Items<Expr>]) -> Result<Bound, Cause>
+    ensures { AnswersBy IsBound (listed text.now rows.now) result }
+{
+    Ok(Bound::Values(bind_rows(alloc, text, rows)?))
 }
 
 /// FROM comes first, then WHERE, then the result columns in turn.
 fn bind_select(
     alloc: Global,
-    catalog: &[TableEntry],
+    tables: &[TableEntry],
     text: &str,
     core: &SelectCore,
 ) -> Result<BoundSelect, Cause>
-    ensures { AnswersBy (IsQueryAt catalog.now) (select_bound catalog.now text.now (of_select core.now)) result }
+    ensures { AnswersBy IsQueryAs (select_bound tables.now text.now (of_select core.now)) result }
 {
-    let table = bind_from(alloc, catalog, text, core.from.as_slice())?;
-    let scope = Scope::new(text, entry_at(catalog, table));
-    let conjuncts = bind_filter(alloc, &scope, &core.filter)?;
-    let results = bind_results(alloc, &scope, core.results.as_slice())?;
-    Ok(BoundSelect {
-        table,
-        conjuncts,
-        results,
-    })
-}
-
-/// The table of a FROM, by its place.
-fn bind_from(
-    alloc: Global,
-    catalog: &[TableEntry],
-    text: &str,
-    items: &[FromItem],
-) -> Result<Option<u32>, Cause>
-    ensures { AnswersBy (IsOptionAt catalog.now) (from_table catalog.now text.now items.now) result }
-{
-    match items {
-        [] => Ok(None),
-        [item] => Ok(Some(bind_source(alloc, catalog, text, &item.source)?)),
+    match core.from.as_slice() {
+        [] => bind_core(alloc, &Scope::new(text, None, b""), core),
+        [item] => bind_from(alloc, tables, text, item, core),
         _ => Err(Cause::NotYet),
     }
 }
 
-/// A table by its name alone, by its place.
-fn bind_source(
+/// A SELECT over the table of an item.
+fn bind_from(
     alloc: Global,
-    catalog: &[TableEntry],
+    tables: &[TableEntry],
+    text: &str,
+    item: &FromItem,
+    core: &SelectCore,
+) -> Result<BoundSelect, Cause>
+    ensures { AnswersBy IsQueryAs (select_over tables.now text.now (of_item item.now) (of_select core.now)) result }
+{
+    let table = bind_source(alloc, tables, text, &item.source)?;
+    let shown = shown_name(alloc, text, &item.alias, table)?;
+    let scope = Scope::new(text, Some(table), shown.as_bytes());
+    bind_core(alloc, &scope, core)
+}
+
+/// What an item is called: by the name that it gets, else by its own.
+fn shown_name(
+    alloc: Global,
+    text: &str,
+    alias: &Option<Token>,
+    table: &TableEntry,
+) -> Result<Text, AllocError>
+    ensures { IfOk result (λ shown. shown ≡ shown_name text.now alias.now table.now) }
+{
+    match alias {
+        Some(token) => name(alloc, text, token),
+        None => table.name.clone(),
+    }
+}
+
+/// A table without arguments; anything else is not built.
+fn bind_source<'a>(
+    alloc: Global,
+    tables: &'a [TableEntry],
     text: &str,
     source: &Source,
-) -> Result<u32, Cause>
-    ensures { AnswersBy (λ t place. IsTableAt catalog.now place t) (source_table catalog.now text.now (of_source source.now)) result }
+) -> Result<&'a TableEntry, Cause>
+    ensures { AnswersBy (λ t found. found.now ≡ t) (source_table tables.now text.now (of_source source.now)) result }
 {
     match source {
-        Source::Table(token, arguments) => bind_table(alloc, catalog, text, token, arguments),
+        Source::Table(token, arguments) => bind_table(alloc, tables, text, token, arguments),
         Source::Derived(_) => Err(Cause::NotYet),
     }
 }
 
 /// A table without arguments; one with them is not built.
-fn bind_table(
+fn bind_table<'a>(
     alloc: Global,
-    catalog: &[TableEntry],
+    tables: &'a [TableEntry],
     text: &str,
     token: &Token,
     arguments: &Option<Items<Expr>>,
-) -> Result<u32, Cause>
-    ensures { AnswersBy (λ t place. IsTableAt catalog.now place t) (source_table catalog.now text.now (of_source (Source.Table token.now arguments.now))) result }
+) -> Result<&'a TableEntry, Cause>
+    ensures { AnswersBy (λ t found. found.now ≡ t) (source_table tables.now text.now (of_source (Source.Table token.now arguments.now))) result }
 {
     match arguments {
-        None => table_named(alloc, catalog, text, token),
+        None => table_named(alloc, tables, text, token),
         Some(_) => Err(Cause::NotYet),
     }
 }
 
-/// The entry in a place, if there is one.
-fn entry_at(catalog: &[TableEntry], place: Option<u32>) -> Option<&TableEntry>
-    ensures { option_copied result ≡ entry_at catalog.now place }
+/// WHERE and the result columns.
+fn bind_core(alloc: Global, scope: &Scope<'_>, core: &SelectCore) -> Result<BoundSelect, Cause>
+    ensures { AnswersBy IsQueryAs (query_in scope.now (of_select core.now)) result }
 {
-    match place {
-        Some(place) => catalog.get(place as usize),
+    let conjuncts = bind_filter(alloc, scope, &core.filter)?;
+    let results = bind_results(alloc, scope, core.results.as_slice())?;
+    Ok(BoundSelect {
+        table: number_of(scope.table()),
+        conjuncts,
+        results,
+    })
+}
+
+/// The number of a table, where there is one.
+fn number_of(table: Option<&TableEntry>) -> Option<u32>
+    ensures { result ≡ option_map (λ (t : Declared). t.number) (option_copied table.entry) }
+{
+    match table {
+        Some(table) => Some(table.number),
         None => None,
     }
 }
@@ -177,7 +224,7 @@ fn add_shown(
 {
     match column {
         ResultColumn::All => add_all(alloc, scope.table(), found),
-        ResultColumn::AllOf(_) => Err(Cause::NotYet),
+        ResultColumn::AllOf(token) => add_all_of(alloc, scope, token, found),
         ResultColumn::Expression(spanned, _) => add_expression(alloc, scope, found, &spanned.expr),
     }
 }
@@ -210,6 +257,25 @@ fn add_all(
             Ok(())
         }
         None => Err(Cause::Misuse(Text::from_str(alloc, "*")?)),
+    }
+}
+
+/// All columns of the table that is called so.
+fn add_all_of(
+    alloc: Global,
+    scope: &Scope<'_>,
+    token: &Token,
+    found: &mut Items<BoundExpr>,
+) -> Result<(), Cause>
+    ensures { Becomes (behind found.old (all_columns_of (name_at scope.now.text token.now) scope.now.shown scope.now.table)) result found.new }
+{
+    let name = name(alloc, scope.text(), token)?;
+    match scope.table() {
+        Some(table) if is_same_name(scope.shown(), name.as_bytes()) => {
+            add_columns(table.columns.as_slice(), found)?;
+            Ok(())
+        }
+        _ => Err(Cause::Unknown(NameKind::Table, name)),
     }
 }
 

@@ -55,7 +55,7 @@ union-assoc s t u = same_causes _ _ (λ q. simp (set.contains-union nat_list_cmp
 
 -- the cause of a number, a detail and a name
 abbrev kind_of : ℕ → NameKind
-kind_of n = if nat_eq n 0 then kind.Table else if nat_eq n 1 then kind.Column else if nat_eq n 2 then kind.Function else kind.Collation
+kind_of n = if nat_eq n 0 then kind.Table else if nat_eq n 1 then kind.Column else if nat_eq n 2 then kind.Function else if nat_eq n 3 then kind.Collation else kind.Pragma
 
 abbrev limit_of : ℕ → LimitKind
 limit_of n = if nat_eq n 0 then limit.Columns else if nat_eq n 1 then limit.Nestings else if nat_eq n 2 then limit.Operators else limit.Parts
@@ -90,6 +90,7 @@ kind_of-kind_key kind.Table = refl
 kind_of-kind_key kind.Column = refl
 kind_of-kind_key kind.Function = refl
 kind_of-kind_key kind.Collation = refl
+kind_of-kind_key kind.Pragma = refl
 
 limit_of-limit_key : (k : LimitKind) → limit_of (limit_key k) ≡ k
 limit_of-limit_key limit.Columns = refl

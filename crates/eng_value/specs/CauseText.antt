@@ -33,6 +33,7 @@ kind_word kind.Table = codes "table"
 kind_word kind.Column = codes "column"
 kind_word kind.Function = codes "function"
 kind_word kind.Collation = codes "collation"
+kind_word kind.Pragma = codes "pragma"
 
 abbrev pub limit_words : LimitKind → List ℕ
 limit_words limit.Columns = codes "100 columns"

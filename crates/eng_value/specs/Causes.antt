@@ -15,6 +15,7 @@ kind_key kind.Table = 0
 kind_key kind.Column = 1
 kind_key kind.Function = 2
 kind_key kind.Collation = 3
+kind_key kind.Pragma = 4
 
 abbrev pub limit_key : LimitKind → ℕ
 limit_key limit.Columns = 0

@@ -15,6 +15,7 @@ pub enum NameKind {
     Column,
     Function,
     Collation,
+    Pragma,
 }
 
 impl NameKind {
@@ -27,6 +28,7 @@ impl NameKind {
             NameKind::Column => "column",
             NameKind::Function => "function",
             NameKind::Collation => "collation",
+            NameKind::Pragma => "pragma",
         }
     }
 }

@@ -78,6 +78,7 @@ fn kind_key(kind: NameKind) -> u64
         NameKind::Column => 1,
         NameKind::Function => 2,
         NameKind::Collation => 3,
+        NameKind::Pragma => 4,
     }
 }
 

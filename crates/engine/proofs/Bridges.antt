@@ -1,12 +1,10 @@
--- What statements come to whose tables go by their places is what the definitions say of tables by names.
-use Rattle.std.proofs.Common.{◌≡◌, ◌⊎◌, inl, inr, ◌||◌, ℕ, ◌<◌, true, List, [], ◌∷◌, ◌++◌, ℤ, length, map, option_map, zip, Option, Some, None, Result, Ok, Err, refl, sym, ap, ◌∙◌, arith}
+-- What statements that are ready to run come to is what the definitions say of what was bound.
+use Rattle.std.proofs.Common.{◌≡◌, ◌⊎◌, inl, inr, ◌||◌, ℕ, ◌<◌, true, List, [], ◌∷◌, ◌++◌, ℤ, length, map, option_map, Option, Some, None, Result, Ok, Err, refl, ap, ◌∙◌}
 use Rattle.std.specs.List.{flat_map}
-use Rattle.std.proofs.lemmas.List.{length-map}
-use Rattle.std.proofs.lemmas.Slice.Zip.{firsts-zip}
 use Rattle.std.specs.FinSet as set
 use Rattle.std.specs.Cmp.Lexicographic.{nat_list_cmp_total}
 use Rattle.eng_value.specs.Causes.{CauseSet, cause_key, has_cause, named}
-use Rattle.eng_value.specs.Environments.{ItemRow, environment, ignoring, no_causes, table_row}
+use Rattle.eng_value.specs.Environments.{ItemRow, Surroundings, environment, ignoring, no_causes, table_row}
 use Rattle.eng_value.specs.HostMeanings.{HostMeanings}
 use Rattle.eng_value.specs.StoredRows.{StoredRow}
 use Rattle.eng_value.specs.Written.{Written, unwritten}
@@ -17,18 +15,17 @@ use Rattle.gen_write.specs.Writes.{Course, rows_run, run_by, source_run, source_
 use Rattle.sql_meaning.specs.declared.bound.BoundExpr.{BoundExpr}
 use Rattle.sql_meaning.specs.declared.bound.BoundInsert.{BoundInsert}
 use Rattle.sql_meaning.specs.declared.bound.BoundSelect.{BoundSelect}
-use Rattle.sql_meaning.specs.declared.bound.Literal.{Literal}
 use Rattle.sql_meaning.specs.declared.column.TableEntry.{TableEntry}
 use Rattle.sql_meaning.specs.BoundStatements.{FromItem, Put, Query}
-use Rattle.sql_meaning.specs.Expression.{literal_out}
-use Rattle.sql_meaning.specs.Statement.{Item, Row, Failed as Bad, IsNamed, causes_of, with_others, begun, done, Outcome, query_outcome, items_of, items_at, product, put_outcome, put_source, all_put, source_of as source_meant, item_of, refusal_of, given_of, create_outcome, rows_put}
-use Rattle.sql_meaning.specs.World.{Context, State, context, entry_named, environment_at, new_state, surroundings_of, table_at, with_lists}
-use Rattle.vm_code.specs.Machine.{ending_by, World as Lists, IsSound, Shared, rows_of}
-use Rattle.bind_stmt.specs.Binds.{IsFromAt, IsQueryAt, IsPutAt}
-use Rattle.engine.specs.Held.{named_rows, state_of}
-use Rattle.engine.specs.Outcomes.{create_outcome_in, query_outcome_in, put_outcome_in, left_by, surroundings_in}
+use Rattle.sql_meaning.specs.Statement.{Item, Row, Failed as Bad, IsNamed, causes_of, with_others, drop_outcome, Outcome, query_outcome, items_of, items_at, product, put_outcome, put_source, all_put, source_of as source_meant, shown, refusal_of, given_of, rows_put}
+use Rattle.sql_meaning.specs.World.{Context, State, context, environment_at, rows_at}
+use Rattle.vm_code.specs.Machine.{ending_by, World as Lists, IsSound, Shared}
+use Rattle.bind_stmt.specs.Binds.{IsFrom, IsQueryAs, IsPutAs}
+use Rattle.bind_stmt.specs.declared.dropping.DroppedTable.{DroppedTable}
+use Rattle.eng_entry.specs.Entries.{Entries}
+use Rattle.engine.specs.Held.{state_of}
+use Rattle.engine.specs.Outcomes.{drop_outcome_in, query_outcome_in, put_outcome_in, left_by, surroundings_in}
 use Rattle.engine.proofs.CarryingOut.{StandsFor, ended_by, stands_same}
-use Rattle.engine.proofs.Places.{number-place, place_named-rows, place_named-within, with_rows-free}
 use Rattle.engine.proofs.Puts.{Puts, puts_rows}
 
 -- ---- bad items
@@ -56,49 +53,38 @@ one_item : (f : List ItemRow → List Item) (rows : List StoredRow) → flat_map
 one_item f [] = refl
 one_item f (r ∷ rows) = ap (λ items. f (table_row r ∷ []) ++ items) (one_item f rows)
 
--- the lists of a catalog's tables are those under their names
-lists_named : (catalog : List TableEntry) (lists : Lists) → length lists ≡ length catalog → map (λ (t : List ℕ × List StoredRow). t.1) (named_rows catalog lists) ≡ lists
-lists_named [] [] long = refl
-lists_named [] (l ∷ ls) long = absurd (omega arith)
-lists_named (e ∷ es) [] long = absurd (omega arith)
-lists_named (e ∷ es) (l ∷ ls) long = ap (λ rest. l ∷ rest) (lists_named es ls (omega arith))
+-- the run of a query ends as the query is refused
+pub query_ended : (state : State) (items : List Item) → ending_by (refusal_of items) ≡ ended_by (query_outcome state items).refusal
+query_ended state items = by (refusal_of items)
+  where
+    by : (refusal : Option CauseSet) → ending_by refusal ≡ ended_by (option_map named refusal)
+    by None = refl
+    by (Some causes) = refl
 
-module _ (hosts : HostMeanings) (catalog : List TableEntry) (lists : Lists) (changes : ℕ) (last : ℤ) (long : length lists ≡ length catalog) where
+module _ (hosts : HostMeanings) (entries : Entries) (lists : Lists) (changes : ℕ) (last : ℤ) (params : List Value) where
   abbrev state : State
-  state = state_of catalog lists changes last
+  state = state_of entries lists changes last
+
+  abbrev ctx : Context
+  ctx = context hosts state params
+
+  abbrev around : Surroundings
+  around = surroundings_in hosts params lists
 
   -- ---- SELECT
 
-  module _ (params : List Value) where
-    abbrev ctx : Context
-    ctx = context hosts state params
+  -- the items of a FROM are those of the rows of its table
+  from_same : (conjuncts results : List BoundExpr) (from : List FromItem) (number : Option ℕ) → IsFrom from number
+      → flat_map (λ rows. items_at conjuncts results (environment_at ctx rows)) (product ctx from []) ≡ flat_map (λ rows. items_at conjuncts results (environment around [] [] rows)) (rows_in number lists)
+  from_same conjuncts results [] None at = refl
+  from_same conjuncts results (i ∷ []) (Some number) at = rw (at.1, at.0) (one_item (λ rows. items_at conjuncts results (environment_at ctx rows)) (rows_at lists i.table.number))
+  from_same conjuncts results [] (Some number) at = absurd at
+  from_same conjuncts results (i ∷ []) None at = absurd at
+  from_same conjuncts results (i ∷ j ∷ from) None at = absurd at
+  from_same conjuncts results (i ∷ j ∷ from) (Some number) at = absurd at
 
-    around : surroundings_of ctx ≡ surroundings_in hosts params lists
-    around = ap (surroundings_in hosts params) (lists_named catalog lists long)
-
-    -- the items of a FROM are those of the rows of its table
-    from_same : (conjuncts results : List BoundExpr) (from : List FromItem) (place : Option ℕ) → IsFromAt catalog from place
-        → flat_map (λ rows. items_at conjuncts results (environment_at ctx rows)) (product ctx from []) ≡ flat_map (λ rows. items_at conjuncts results (environment (surroundings_in hosts params lists) [] [] rows)) (rows_in place lists)
-    from_same conjuncts results [] None at = ap (λ s. items_at conjuncts results (environment s [] [] []) ++ []) around
-    from_same conjuncts results (i ∷ []) (Some place) at =
-        rw (at.1, place_named-rows catalog i.table.name place i.table at.0.first at.0.entry lists long)
-        (one_item (λ rows. items_at conjuncts results (environment_at ctx rows)) (rows_of lists place)
-        ∙ ap (λ s. flat_map (λ rows. items_at conjuncts results (environment s [] [] rows)) (rows_in (Some place) lists)) around)
-    from_same conjuncts results [] (Some place) at = absurd at
-    from_same conjuncts results (i ∷ []) None at = absurd at
-    from_same conjuncts results (i ∷ j ∷ from) None at = absurd at
-    from_same conjuncts results (i ∷ j ∷ from) (Some place) at = absurd at
-
-    -- the run of a query ends as the query is refused
-    pub query_ended : (items : List Item) → ending_by (refusal_of items) ≡ ended_by (query_outcome state items).refusal
-    query_ended items = by (refusal_of items)
-      where
-        by : (refusal : Option CauseSet) → ending_by refusal ≡ ended_by (option_map named refusal)
-        by None = refl
-        by (Some causes) = refl
-
-    pub query_same : (q : Query) (b : BoundSelect) → IsQueryAt catalog q b → query_outcome state (items_of ctx q) ≡ query_outcome_in hosts catalog lists changes last params b
-    query_same q b at = rw (at.conjuncts, at.results) (ap (query_outcome state) (from_same q.conjuncts q.results q.from b.table at.from))
+  pub query_same : (q : Query) (b : BoundSelect) → IsQueryAs q b → query_outcome state (items_of ctx q) ≡ query_outcome_in hosts entries lists changes last params b
+  query_same q b at = rw (at.conjuncts, at.results) (ap (query_outcome state) (from_same q.conjuncts q.results q.from b.table at.from))
 
   -- ---- INSERT
 
@@ -106,25 +92,15 @@ module _ (hosts : HostMeanings) (catalog : List TableEntry) (lists : Lists) (cha
   start = untouched lists last
 
   abbrev left : Course → Outcome
-  left course = left_by catalog lists changes last (run_by course).ending course.shared
-
-  -- the tables have other rows
-  with_lists-named : (others : Lists) → with_lists state.world others ≡ record { catalog = catalog; tables = named_rows catalog others }
-  with_lists-named others =
-      ap (λ names. record { catalog = catalog; tables = zip names others }) (firsts-zip (map (λ (e : TableEntry). e.name) catalog) lists (long ∙ sym (length-map catalog (λ (e : TableEntry). e.name))))
+  left course = left_by entries lists changes last (run_by course).ending course.shared
 
   by_result : (result : Result Written CauseSet) (course : Course) → Puts start result course → all_put state result ≡ left course
   by_result (Err causes) course (fails, given) = rw (fails, given) refl
-  by_result (Ok y) course (goes, shared, returned) = rw (goes, shared, returned, with_lists-named y.world) refl
+  by_result (Ok y) course (goes, shared, returned) = rw (goes, shared, returned) refl
 
   -- a source without a bad row
-  put_good : (b : BoundInsert) (p : Put) → IsPutAt catalog p b → IsSound lists → (source : List (List Value)) → put_source state p None source ≡ left (source_run b start None source)
-  put_good b p at sound source =
-      let within = place_named-within catalog p.table.name b.table at.table.first in
-      let lt : b.table < length lists = omega (arith, within, long) in
-      let number : table_at state.world p.table.name ≡ b.table = number-place catalog lists p.table.name b.table long at.table.first in
-      let begins : begun state ≡ unwritten lists last = ap (λ l. unwritten l last) (lists_named catalog lists long) in
-      rw (number, begins) (by_result (rows_put p.table b.table (unwritten lists last) source) (rows_run b source start) (puts_rows b p.table at.name at.affinities source start sound lt))
+  put_good : (b : BoundInsert) (p : Put) → IsPutAs p b → length p.places ≡ length p.table.columns → p.table.number < length lists → IsSound lists → (source : List (List Value)) → put_source state p None source ≡ left (source_run b start None source)
+  put_good b p at wide lt sound source = by_result (rows_put p (unwritten lists last) source) (rows_run b source start) (puts_rows b p at wide source start sound lt)
 
   -- where there is one, the causes of the first are among those of all
   put_bad : (b : BoundInsert) (p : Put) (first all : CauseSet) (source : List (List Value)) → ((k : Cause) → has_cause (named first) k ≡ true → has_cause all k ≡ true)
@@ -135,19 +111,17 @@ module _ (hosts : HostMeanings) (catalog : List TableEntry) (lists : Lists) (cha
       by_first None n = absurd n
       by_first (Some k) n = among k n
 
-  put_by : (b : BoundInsert) (p : Put) → IsPutAt catalog p b → IsSound lists → (items : List Item) (source : List (List Value)) → BadSides items
+  put_by : (b : BoundInsert) (p : Put) → IsPutAs p b → length p.places ≡ length p.table.columns → p.table.number < length lists → IsSound lists → (items : List Item) (source : List (List Value)) → BadSides items
       → StandsFor (put_source state p (causes_of items) source) (left (source_run b start (refusal_of items) source))
-  put_by b p at up items source (inl none) = rw (none.0, none.1) (stands_same _ _ (put_good b p at up source))
-  put_by b p at up items source (inr bad) = rw (bad.2, bad.3) (put_bad b p bad.0 bad.1 source bad.4)
+  put_by b p at wide lt sound items source (inl none) = rw (none.0, none.1) (stands_same _ _ (put_good b p at wide lt sound source))
+  put_by b p at wide lt sound items source (inr bad) = rw (bad.2, bad.3) (put_bad b p bad.0 bad.1 source bad.4)
 
-  pub put_same : (p : Put) (b : BoundInsert) → IsPutAt catalog p b → IsSound lists → StandsFor (put_outcome state p) (put_outcome_in hosts catalog lists changes last b)
-  put_same p b at up =
-      let source : source_of b ≡ source_meant p = ap (map (λ (row : List Literal). item_of no_causes (map literal_out row))) at.rows in
-      rw source (put_by b p at up (source_meant p) (given_of (source_meant p)) (bad_sides (source_meant p)))
+  pub put_same : (p : Put) (b : BoundInsert) → IsPutAs p b → length p.places ≡ length p.table.columns → p.table.number < length lists → IsSound lists → StandsFor (put_outcome ctx p) (put_outcome_in hosts entries lists changes last params b)
+  put_same p b at wide lt sound =
+      let source : source_of b around ≡ source_meant ctx p = ap (map (λ (row : List BoundExpr). shown row (environment around [] [] []) no_causes)) at.rows in
+      rw source (put_by b p at wide lt sound (source_meant ctx p) (given_of (source_meant ctx p)) (bad_sides (source_meant ctx p)))
 
-  -- ---- CREATE TABLE
+  -- ---- DROP TABLE
 
-  pub create_same : (t : TableEntry) → entry_named catalog t.name ≡ None → create_outcome state t ≡ create_outcome_in catalog lists changes last t
-  create_same t free =
-      ap (λ ts. done [] (record new_state { world = record { catalog = catalog ++ t ∷ []; tables = ts }; changes = changes; last_rowid = last }))
-      (with_rows-free catalog lists t [] long free)
+  pub drop_same : (t : TableEntry) (d : DroppedTable) → d.name ≡ t.name → d.table ≡ t.number → drop_outcome state t ≡ drop_outcome_in entries lists changes last d
+  drop_same t d named number = rw (named, number) refl

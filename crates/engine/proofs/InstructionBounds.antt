@@ -1,33 +1,41 @@
 -- The programs of statements run within the bound that size and work give.
-use Rattle.std.proofs.Common.{◌≡◌, ℕ, ◌+◌, ◌*◌, ◌≤◌, List, [], ◌∷◌, ℤ, length, map, sum_by, Option, Some, None, Ok, refl, ap, subst, arith}
+use Rattle.std.proofs.Common.{◌≡◌, ℕ, ◌+◌, ◌*◌, ◌≤◌, List, [], ◌∷◌, ℤ, length, sum_by, Option, Some, None, Ok, refl, ap, subst, arith}
 use Rattle.std.proofs.Math.Nat.{mul-le-mul_left}
 use Rattle.std.proofs.lemmas.List.{length-map}
 use Rattle.std.proofs.lemmas.List.Sums.{sum_by-cons}
-use Rattle.bind_stmt.specs.declared.statement.Bound.{Bound}
-use Rattle.bind_stmt.specs.declared.statement.Bound.TheVariants as bound
-use Rattle.bind_stmt.specs.Binds.{IsBound, IsFromAt}
-use Rattle.bind_stmt.specs.Small.{IsSmall, IsSmallQuery, columns_at, from_size as table_size, row_size}
+use Rattle.bind_stmt.specs.Binds.{IsBound, IsFrom, IsPutAs, put_columns}
+use Rattle.bind_stmt.specs.Small.{AreFew, IsSmall, IsSmallQuery, columns_in, from_size as table_tokens, rows_size}
+use Rattle.eng_entry.specs.Entries.{Entries}
 use Rattle.eng_value.specs.Environments.{Surroundings, ignoring, table_row}
 use Rattle.eng_value.specs.HostMeanings.{HostMeanings}
 use Rattle.eng_value.specs.StoredRows.{StoredRow}
 use Rattle.eng_value.specs.declared.value.Value.{Value}
-use Rattle.gen_query.proofs.Sizing.{steps-few}
-use Rattle.gen_query.specs.Queries.{query_steps, rows_seen}
-use Rattle.gen_write.specs.Writes.{put_steps, row_steps}
+use Rattle.gen_query.proofs.Sizing.{steps-few, values-few}
+use Rattle.gen_query.specs.Queries.{query_steps, rows_seen, values_steps}
+use Rattle.gen_write.proofs.Sizing.{steps-few as puts_few}
+use Rattle.gen_write.specs.Writes.{put_steps}
 use Rattle.sql_lex.specs.Tokens.{tokens_of}
+use Rattle.sql_meaning.specs.declared.bound.BoundExpr.{BoundExpr}
+use Rattle.sql_meaning.specs.declared.bound.BoundInsert.{BoundInsert}
 use Rattle.sql_meaning.specs.declared.bound.BoundSelect.{BoundSelect}
-use Rattle.sql_meaning.specs.declared.bound.Literal.{Literal}
-use Rattle.sql_meaning.specs.declared.column.TableEntry.{TableEntry}
-use Rattle.sql_meaning.specs.BoundStatements.{BoundStatement, Creates, FromItem, Puts, Queries}
+use Rattle.sql_meaning.specs.declared.column.Column.{Column}
+use Rattle.sql_meaning.proofs.TableLaws.{found-all}
+use Rattle.sql_meaning.proofs.ValidLaws.{FitsIn, text-fits}
+use Rattle.sql_meaning.specs.Declarations.{tables_of}
+use Rattle.sql_meaning.specs.Valid.{IsWorld}
+use Rattle.sql_meaning.specs.BoundStatements.{BoundStatement, Creates, DoesNothing, Drops, FromItem, Put, Puts, Queries, Query, Shows}
 use Rattle.sql_meaning.specs.Sizes.{all_nodes}
-use Rattle.sql_meaning.specs.Statement.{text_bound}
-use Rattle.sql_meaning.specs.Work.{bound_within, from_size, from_work, instruction_bound, opened_size, work_of}
-use Rattle.sql_meaning.specs.World.{Context, context, rows_of as rows_under}
-use Rattle.sql_tree.specs.Sizes.{total}
+use Rattle.sql_meaning.specs.Statement.{causes_of, given_of, source_of, text_bound}
+use Rattle.sql_meaning.specs.Work.{bound_within, from_size, from_work, instruction_bound, opened_size, source_work, work_of}
+use Rattle.sql_meaning.specs.World.{Context, context, rows_at}
 use Rattle.vm_code.specs.Machine.{World as Lists}
-use Rattle.engine.specs.Held.{state_of}
+use Rattle.engine.specs.Held.{state_of, world_in}
 use Rattle.engine.specs.Outcomes.{steps_in, surroundings_in}
-use Rattle.engine.proofs.Places.{place_named-rows}
+use Rattle.engine.specs.Prepared.{bound_in}
+use Rattle.engine.specs.declared.preparing.Ready.{Ready}
+use Rattle.engine.specs.declared.preparing.Ready.TheVariants as ready
+use Rattle.engine.proofs.NoTokens.{has_tokens}
+use Rattle.engine.proofs.Widths.{IsNarrow, tables-few}
 
 -- ---- numbers
 
@@ -47,13 +55,25 @@ within_rows each n opens rows work is le =
     let all : m * (1 + rows + 1) ≡ (1 + rows) * m + m = omega arith in
     rw is (omega (arith, le, times, all))
 
-rows_few : (rows : List (List Literal)) → sum_by row_steps rows ≤ 6 * total (map row_size rows)
-rows_few [] = omega arith
-rows_few (row ∷ rows) = omega (arith, rows_few rows, sum_by-cons row_steps row rows)
+-- so much for each row that is put, which comes twice, since a write has work
+within_put : (a n opens work : ℕ) → a ≤ 512 * n → a ≤ 256 * (n + opens) * (1 + work + 1)
+within_put a n opens work le =
+    let m = 256 * (n + opens) in
+    let all : m * (1 + work + 1) ≡ m * work + 2 * m = omega arith in
+    omega (arith, le, all)
 
-module _ (hosts : HostMeanings) (catalog : List TableEntry) (lists : Lists) (changes : ℕ) (last : ℤ) (params : List Value) (text : List ℕ) (long : length lists ≡ length catalog) where
+rows_nodes : (rows : List (List BoundExpr)) → rows_size rows ≡ length rows + sum_by all_nodes rows
+rows_nodes [] = omega arith
+rows_nodes (row ∷ rows) = omega (arith, rows_nodes rows, sum_by-cons all_nodes row rows)
+
+placed_few : (columns : List Column) (places : List (Option ℕ)) → length (put_columns columns places) ≤ length columns
+placed_few [] places = omega arith
+placed_few (c ∷ columns) [] = omega arith
+placed_few (c ∷ columns) (p ∷ places) = omega (arith, placed_few columns places)
+
+module _ (hosts : HostMeanings) (entries : Entries) (lists : Lists) (changes : ℕ) (last : ℤ) (params : List Value) (text : List ℕ) (valid : IsWorld (world_in entries lists)) where
   abbrev ctx : Context
-  ctx = context hosts (state_of catalog lists changes last) params
+  ctx = context hosts (state_of entries lists changes last) params
 
   abbrev around : Surroundings
   around = surroundings_in hosts params lists
@@ -64,44 +84,80 @@ module _ (hosts : HostMeanings) (catalog : List TableEntry) (lists : Lists) (cha
   -- ---- a query
 
   -- so many rows are read as the item has
-  rows_same : (i : FromItem) (place : ℕ) → IsFromAt catalog (i ∷ []) (Some place) → from_work ctx (i ∷ []) ≡ 1 + rows_seen (Some place) lists
-  rows_same i place at =
-      let many = length-map (rows_under ctx.state.world.tables i.table.name) (λ (r : StoredRow). ignoring i.ignored (table_row r)) in
-      let rows = ap length (place_named-rows catalog i.table.name place i.table at.0.first at.0.entry lists long) in
+  rows_same : (i : FromItem) (number : ℕ) → IsFrom (i ∷ []) (Some number) → from_work ctx (i ∷ []) ≡ 1 + rows_seen (Some number) lists
+  rows_same i number at =
+      let many = length-map (rows_at lists i.table.number) (λ (r : StoredRow). ignoring i.ignored (table_row r)) in
+      let rows = ap (λ k. length (rows_at lists k)) at.0 in
       omega (arith, many, rows)
 
-  query_few : (from : List FromItem) (b : BoundSelect) (place : Option ℕ) → b.table ≡ place → IsFromAt catalog from place → IsSmallQuery catalog tokens b → query_steps b around ≤ 256 * (tokens + from_size from) * (from_work ctx from + 1)
-  query_few [] b None none at small =
-      let stars : small.stars ≤ 0 = subst (λ t. small.stars ≤ 100 * columns_at catalog t) none small.of_table in
-      let within : 1 + small.shown + 0 + small.filter ≤ tokens = subst (λ t. 1 + small.shown + table_size t + small.filter ≤ tokens) none small.within in
-      let rows : rows_seen b.table lists ≡ 0 = ap (λ t. rows_seen t lists) none in
+  query_few : (q : Query) (b : BoundSelect) (from : List FromItem) (number : Option ℕ) → q.from ≡ from → b.table ≡ number → IsFrom from number → IsSmallQuery tokens q b → query_steps b around ≤ 256 * (tokens + from_size from) * (from_work ctx from + 1)
+  query_few q b [] None none bare at small =
+      let stars : small.stars ≤ 0 = subst (λ items. small.stars ≤ 100 * columns_in items) none small.of_table in
+      let within : 1 + small.shown + 0 + small.filter ≤ tokens = subst (λ items. 1 + small.shown + table_tokens items + small.filter ≤ tokens) none small.within in
+      let rows : rows_seen b.table lists ≡ 0 = ap (λ t. rows_seen t lists) bare in
       let few : query_steps b around ≤ 16 + (1 + 0) * (4 * (all_nodes b.conjuncts + all_nodes b.results) + 6) = subst (λ r. query_steps b around ≤ 16 + (1 + r) * (4 * (all_nodes b.conjuncts + all_nodes b.results) + 6)) rows (steps-few b around) in
       within_size (query_steps b around) tokens (from_size []) (from_work ctx []) (omega (arith, few, stars, within, small.conjuncts, small.results))
-  query_few (i ∷ []) b (Some place) some at small =
+  query_few q b (i ∷ []) (Some number) one some at small =
       let each = 4 * (all_nodes b.conjuncts + all_nodes b.results) + 6 in
-      let within : 1 + small.shown + 2 + small.filter ≤ tokens = subst (λ t. 1 + small.shown + table_size t + small.filter ≤ tokens) some small.within in
-      let few : query_steps b around ≤ 16 + (1 + rows_seen (Some place) lists) * each = subst (λ t. query_steps b around ≤ 16 + (1 + rows_seen t lists) * each) some (steps-few b around) in
-      let enough = within_rows each tokens (from_size (i ∷ [])) (rows_seen (Some place) lists) (from_work ctx (i ∷ [])) (rows_same i place at) (omega (arith, within, small.hundred, small.conjuncts, small.results)) in
+      let within : 1 + small.shown + 2 + small.filter ≤ tokens = subst (λ items. 1 + small.shown + table_tokens items + small.filter ≤ tokens) one small.within in
+      let few : query_steps b around ≤ 16 + (1 + rows_seen (Some number) lists) * each = subst (λ t. query_steps b around ≤ 16 + (1 + rows_seen t lists) * each) some (steps-few b around) in
+      let enough = within_rows each tokens (from_size (i ∷ [])) (rows_seen (Some number) lists) (from_work ctx (i ∷ [])) (rows_same i number at) (omega (arith, within, small.hundred, small.conjuncts, small.results)) in
       omega (arith, few, enough)
-  query_few [] b (Some place) some at small = absurd at
-  query_few (i ∷ []) b None none at small = absurd at
-  query_few (i ∷ j ∷ from) b None none at small = absurd at
-  query_few (i ∷ j ∷ from) b (Some place) some at small = absurd at
+  query_few q b [] (Some number) none some at small = absurd at
+  query_few q b (i ∷ []) None one none at small = absurd at
+  query_few q b (i ∷ j ∷ from) None many none at small = absurd at
+  query_few q b (i ∷ j ∷ from) (Some number) many some at small = absurd at
+
+  -- ---- an INSERT
+
+  put_few : (p : Put) (b : BoundInsert) → IsPutAs p b → IsNarrow p.table → AreFew tokens b.rows → put_steps b around ≤ 512 * tokens
+  put_few p b at narrow small =
+      let wide : length b.columns ≤ 100 = omega (arith, ap (λ columns. length columns) at.columns, placed_few p.table.columns p.places, narrow) in
+      let each : length b.rows * (3 * length b.columns + 8) ≤ length b.rows * 308 = mul-le-mul_left (length b.rows) (omega (arith, wide)) in
+      omega (arith, puts_few b around, each, rows_nodes b.rows, small.nodes, small.count)
 
   -- ---- any statement
 
-  few_for : (x : BoundStatement) (b : Bound) → IsBound catalog x b → IsSmall catalog tokens b → steps_in around b ≤ 256 * (tokens + opened_size x) * (work_of ctx x + 1)
-  few_for (Creates t) (bound.CreateTable e) at small = within_size 2 tokens 0 0 (omega (arith, small))
-  few_for (Puts p) (bound.Insert b) at small =
-      within_size (put_steps b around) tokens (opened_size (Puts p)) (work_of ctx (Puts p)) (omega (arith, small, rows_few b.rows))
-  few_for (Queries q) (bound.Select b) at small = query_few q.from b b.table refl at.from small
-  few_for (Creates t) (bound.Insert b) at small = absurd at
-  few_for (Creates t) (bound.Select b) at small = absurd at
-  few_for (Puts p) (bound.CreateTable e) at small = absurd at
-  few_for (Puts p) (bound.Select b) at small = absurd at
-  few_for (Queries q) (bound.CreateTable e) at small = absurd at
-  few_for (Queries q) (bound.Insert b) at small = absurd at
+  few_for : (x : BoundStatement) (r : Ready) → 1 ≤ tokens → FitsIn (tables_of entries) (length lists) x → IsBound x (bound_in r) → IsSmall tokens x (bound_in r) → steps_in around r ≤ 256 * (tokens + opened_size x) * (work_of ctx x + 1)
+  few_for (Creates e) (ready.Create n) some fits at small = within_size 2 tokens 0 0 (omega (arith, small))
+  few_for (Creates e) (ready.Drop d) some fits at small = absurd at
+  few_for (Creates e) (ready.Insert b) some fits at small = absurd at
+  few_for (Creates e) (ready.Select b) some fits at small = absurd at
+  few_for (Creates e) (ready.Values b) some fits at small = absurd at
+  few_for (Creates e) ready.Nothing some fits at small = absurd at
+  few_for (Drops t) (ready.Create n) some fits at small = absurd at
+  few_for (Drops t) (ready.Drop d) some fits at small = within_size 2 tokens 0 0 (omega (arith, small))
+  few_for (Drops t) (ready.Insert b) some fits at small = absurd at
+  few_for (Drops t) (ready.Select b) some fits at small = absurd at
+  few_for (Drops t) (ready.Values b) some fits at small = absurd at
+  few_for (Drops t) ready.Nothing some fits at small = absurd at
+  few_for (Puts p) (ready.Create n) some fits at small = absurd at
+  few_for (Puts p) (ready.Drop d) some fits at small = absurd at
+  few_for (Puts p) (ready.Insert b) some fits at small =
+      within_put (put_steps b around) tokens (opened_size (Puts p)) (source_work ctx.state p (causes_of (source_of ctx p)) (given_of (source_of ctx p)))
+      (put_few p b at (found-all IsNarrow (tables_of entries) p.table.name p.table (tables-few entries.names) fits.found) small)
+  few_for (Puts p) (ready.Select b) some fits at small = absurd at
+  few_for (Puts p) (ready.Values b) some fits at small = absurd at
+  few_for (Puts p) ready.Nothing some fits at small = absurd at
+  few_for (Queries q) (ready.Create n) some fits at small = absurd at
+  few_for (Queries q) (ready.Drop d) some fits at small = absurd at
+  few_for (Queries q) (ready.Insert b) some fits at small = absurd at
+  few_for (Queries q) (ready.Select b) some fits at small = query_few q b q.from b.table refl refl at.from small
+  few_for (Queries q) (ready.Values b) some fits at small = absurd at
+  few_for (Queries q) ready.Nothing some fits at small = absurd at
+  few_for (Shows rows) (ready.Create n) some fits at small = absurd at
+  few_for (Shows rows) (ready.Drop d) some fits at small = absurd at
+  few_for (Shows rows) (ready.Insert b) some fits at small = absurd at
+  few_for (Shows rows) (ready.Select b) some fits at small = absurd at
+  few_for (Shows rows) (ready.Values b) some fits at small = within_size (values_steps b around) tokens 0 1 (omega (arith, values-few b around, rows_nodes b, small, some))
+  few_for (Shows rows) ready.Nothing some fits at small = absurd at
+  few_for DoesNothing (ready.Create n) some fits at small = absurd at
+  few_for DoesNothing (ready.Drop d) some fits at small = absurd at
+  few_for DoesNothing (ready.Insert b) some fits at small = absurd at
+  few_for DoesNothing (ready.Select b) some fits at small = absurd at
+  few_for DoesNothing (ready.Values b) some fits at small = absurd at
+  few_for DoesNothing ready.Nothing some fits at small = within_size 1 tokens 0 0 (omega (arith, small))
 
-  -- a bound statement runs within what its text may run
-  pub runs_within : (x : BoundStatement) (b : Bound) → text_bound catalog text ≡ Ok x → IsBound catalog x b → IsSmall catalog tokens b → steps_in around b ≤ instruction_bound ctx text
-  runs_within x b is at small = rw (ap (bound_within ctx tokens) is) (few_for x b at small)
+  -- what is ready runs within what its text may run
+  pub runs_within : (x : BoundStatement) (r : Ready) → text_bound (world_in entries lists) text ≡ Ok x → IsBound x (bound_in r) → IsSmall tokens x (bound_in r) → steps_in around r ≤ instruction_bound ctx text
+  runs_within x r is at small = rw (ap (bound_within ctx tokens) is) (few_for x r (has_tokens (world_in entries lists) text x is) (text-fits (world_in entries lists) text x is) at small)

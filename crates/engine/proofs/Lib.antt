@@ -3,11 +3,16 @@ pub mod Telling
 pub mod Starting
 pub mod Stretches
 pub mod Answering
-pub mod Places
 pub mod CarryingOut
 pub mod Writing
 pub mod Puts
 pub mod Bridges
 pub mod Texts
+pub mod Schemas
+pub mod Bodies
+pub mod NewEntries
 pub mod Prepared
+pub mod Widths
+pub mod NoTokens
+pub mod Places
 pub mod InstructionBounds

@@ -1,9 +1,10 @@
 -- A text is prepared as the definitions say: what its tokens' answer tells, and how its statement was bound.
-use Rattle.std.proofs.Common.{◌≡◌, ◌≤◌, inl, inr, ℕ, arith, List, length, Result, Ok, Err, refl, sym, ap, ◌∙◌}
+use Rattle.std.proofs.Common.{◌≡◌, ◌≤◌, inl, inr, ℕ, ◌+◌, arith, List, length, drop, Result, Ok, Err, refl, sym, ap, ◌∙◌, subst}
 use Rattle.bind_stmt.specs.declared.statement.Bound.{Bound}
 use Rattle.bind_stmt.specs.declared.statement.Bound.TheVariants as bound
 use Rattle.bind_stmt.specs.Binds.{Binds, BindsTo, IsRefusal}
 use Rattle.bind_stmt.specs.Small.{IsSmall}
+use Rattle.eng_entry.specs.Entries.{Entries}
 use Rattle.eng_value.specs.declared.cause.Cause.{Cause}
 use Rattle.eng_value.specs.declared.cause.Cause.TheVariants as cause
 use Rattle.parse_cursor.specs.declared.texts.Failure.{Failure}
@@ -13,17 +14,45 @@ use Rattle.sql_grammar.proofs.StatementLaws.{an_answer, read_as_answered}
 use Rattle.sql_grammar.proofs.SizeLaws.{statement_within}
 use Rattle.sql_grammar.specs.Answers.{Answer, Tree, Syntax, TooMuch}
 use Rattle.sql_grammar.specs.StatementTexts.{AnswersAs}
+use Rattle.sql_lex.specs.Cutting.{start_of}
 use Rattle.sql_lex.specs.Tokens.{tokens_of}
-use Rattle.sql_meaning.specs.BoundStatements.{BoundStatement}
-use Rattle.sql_meaning.specs.Statement.{answer_bound, answer_of, count_of, limit_kind, text_bound}
+use Rattle.sql_meaning.specs.BoundStatements.{BoundStatement, Creates, DoesNothing, Drops, Puts, Queries, Shows as ShowsRows}
+use Rattle.sql_meaning.specs.Declarations.{tables_of}
+use Rattle.sql_meaning.specs.Statement.{answer_bound, answer_of, body_of, limit_kind, statement_bound, text_bound, text_bound_from}
+use Rattle.sql_meaning.specs.World.{World}
 use Rattle.sql_meaning.specs.declared.column.TableEntry.{TableEntry}
 use Rattle.sql_tree.specs.declared.statement.Statement.{Statement}
 use Rattle.sql_tree.specs.Sizes.{size_of_statement}
-use Rattle.engine.specs.Prepared.{cause_of}
+use Rattle.vm_code.specs.Machine.{World as Lists}
+use Rattle.engine.specs.declared.preparing.Ready.{Ready}
+use Rattle.engine.specs.Held.{world_in}
+use Rattle.engine.specs.Prepared.{Readies, bound_in, cause_of}
+use Rattle.engine.proofs.Bodies.{tokens_kept}
 
 -- what is small beside a tree is small beside one that is no smaller
-small_more : (catalog : List TableEntry) (size more : ℕ) (b : Bound) → size ≤ more → IsSmall catalog size b → IsSmall catalog more b
-small_more catalog size more (bound.Select q) le small = record {
+small_more : (size more : ℕ) (x : BoundStatement) (b : Bound) → size ≤ more → IsSmall size x b → IsSmall more x b
+small_more size more (Creates e) (bound.CreateTable t) le small = omega (arith, small)
+small_more size more (Creates e) (bound.DropTable d) le small = omega (arith, small)
+small_more size more (Creates e) (bound.Insert b) le small = record { nodes = omega (arith, small.nodes); count = omega (arith, small.count) }
+small_more size more (Creates e) (bound.Select q') le small = omega (arith, small)
+small_more size more (Creates e) (bound.Values vs) le small = omega (arith, small)
+small_more size more (Creates e) bound.Nothing le small = omega (arith, small)
+small_more size more (Drops t) (bound.CreateTable n) le small = omega (arith, small)
+small_more size more (Drops t) (bound.DropTable d) le small = omega (arith, small)
+small_more size more (Drops t) (bound.Insert b) le small = record { nodes = omega (arith, small.nodes); count = omega (arith, small.count) }
+small_more size more (Drops t) (bound.Select q') le small = omega (arith, small)
+small_more size more (Drops t) (bound.Values vs) le small = omega (arith, small)
+small_more size more (Drops t) bound.Nothing le small = omega (arith, small)
+small_more size more (Puts p) (bound.CreateTable t) le small = omega (arith, small)
+small_more size more (Puts p) (bound.DropTable d) le small = omega (arith, small)
+small_more size more (Puts p) (bound.Insert b) le small = record { nodes = omega (arith, small.nodes); count = omega (arith, small.count) }
+small_more size more (Puts p) (bound.Select q') le small = omega (arith, small)
+small_more size more (Puts p) (bound.Values vs) le small = omega (arith, small)
+small_more size more (Puts p) bound.Nothing le small = omega (arith, small)
+small_more size more (Queries q) (bound.CreateTable t) le small = omega (arith, small)
+small_more size more (Queries q) (bound.DropTable d) le small = omega (arith, small)
+small_more size more (Queries q) (bound.Insert b) le small = record { nodes = omega (arith, small.nodes); count = omega (arith, small.count) }
+small_more size more (Queries q) (bound.Select q') le small = record {
   filter = small.filter;
   shown = small.shown;
   stars = small.stars;
@@ -33,10 +62,47 @@ small_more catalog size more (bound.Select q) le small = record {
   of_table = small.of_table;
   results = small.results;
 }
-small_more catalog size more (bound.Insert b) le small = omega (arith, small)
-small_more catalog size more (bound.CreateTable t) le small = omega (arith, small)
+small_more size more (Queries q) (bound.Values vs) le small = omega (arith, small)
+small_more size more (Queries q) bound.Nothing le small = omega (arith, small)
+small_more size more (ShowsRows rows) (bound.CreateTable t) le small = omega (arith, small)
+small_more size more (ShowsRows rows) (bound.DropTable d) le small = omega (arith, small)
+small_more size more (ShowsRows rows) (bound.Insert b) le small = record { nodes = omega (arith, small.nodes); count = omega (arith, small.count) }
+small_more size more (ShowsRows rows) (bound.Select q') le small = omega (arith, small)
+small_more size more (ShowsRows rows) (bound.Values vs) le small = omega (arith, small)
+small_more size more (ShowsRows rows) bound.Nothing le small = omega (arith, small)
+small_more size more DoesNothing (bound.CreateTable t) le small = omega (arith, small)
+small_more size more DoesNothing (bound.DropTable d) le small = omega (arith, small)
+small_more size more DoesNothing (bound.Insert b) le small = record { nodes = omega (arith, small.nodes); count = omega (arith, small.count) }
+small_more size more DoesNothing (bound.Select q') le small = omega (arith, small)
+small_more size more DoesNothing (bound.Values vs) le small = omega (arith, small)
+small_more size more DoesNothing bound.Nothing le small = omega (arith, small)
 
-module _ (catalog : List TableEntry) (text : List ℕ) where
+pub readies_more : (size more : ℕ) (meant : Result BoundStatement Cause) (r : Result Ready Cause) → size ≤ more → Readies size meant r → Readies more meant r
+readies_more size more meant (Ok r) le p = (p.0, p.1, p.2, small_more size more p.0 (bound_in r) le p.3, p.4)
+readies_more size more meant (Err why) le p = p
+
+-- ---- how a statement was bound
+
+pub bound_to : (tables : List TableEntry) (number : ℕ) (text : List ℕ) (s : Statement) (b : Bound) → Binds tables number text s (Ok b) → BindsTo (size_of_statement s) (statement_bound tables number text s) (Ok b)
+unfolding Binds
+bound_to tables number text s b binds = binds
+
+pub refused_to : (tables : List TableEntry) (number : ℕ) (text : List ℕ) (s : Statement) (why : Cause) → Binds tables number text s (Err why) → IsRefusal (statement_bound tables number text s) why
+unfolding Binds
+refused_to tables number text s why binds = binds
+
+-- ---- texts
+
+-- a text whose first token stands there
+pub from_first : (w : World) (text : List ℕ) (first many : ℕ) (r : Result Ready Cause) → first ≡ start_of (tokens_of text) 0 → many ≡ length (tokens_of (drop first text)) → Readies many (text_bound_from w first text) r → Readies (length (tokens_of text)) (text_bound w text) r
+from_first w text first many r at is p =
+    let kept : length (tokens_of (drop first text)) ≤ length (tokens_of text) = subst (λ k. length (tokens_of (drop k text)) ≤ length (tokens_of text)) (sym at) (tokens_kept text) in
+    readies_more many (length (tokens_of text)) (text_bound w text) r (omega (arith, is, kept)) (subst (λ k. Readies many (text_bound_from w k text) r) at p)
+
+module _ (entries : Entries) (lists : Lists) (before : ℕ) (text : List ℕ) where
+  abbrev Bounds : Answer Statement → Result BoundStatement Cause
+  Bounds = answer_bound (world_in entries lists) before text
+
   -- the tree of a text, which is no larger than it
   abbrev pub IsTreeOf : Statement → Type 0
   IsTreeOf s = (answer_of text ≡ Tree s) × (size_of_statement s ≤ length (tokens_of text))
@@ -51,27 +117,30 @@ module _ (catalog : List TableEntry) (text : List ℕ) where
   found s shows = let a = an_answer (tokens_of text) in found_in a.0 a.1 s (shows a.0 a.1)
 
   -- where the grammar answers so, the text is bound so
-  answered : (x : Answer Statement) (r : Result BoundStatement Cause) → AnswersAs (tokens_of text) x → answer_bound catalog text x ≡ r → text_bound catalog text ≡ r
-  answered x r answers is = ap (answer_bound catalog text) (read_as_answered (tokens_of text) x answers) ∙ is
+  answered : (x : Answer Statement) (r : Result BoundStatement Cause) → AnswersAs (tokens_of text) x → Bounds x ≡ r → Bounds (answer_of text) ≡ r
+  answered x r answers is = ap Bounds (read_as_answered (tokens_of text) x answers) ∙ is
 
-  failed_in : (x : Answer Statement) → AnswersAs (tokens_of text) x → (f : Failure) → Shows (length text) x (Err f) → IsRefusal (text_bound catalog text) (cause_of f)
+  failed_in : (x : Answer Statement) → AnswersAs (tokens_of text) x → (f : Failure) → Shows (length text) x (Err f) → IsRefusal (Bounds (answer_of text)) (cause_of before f)
   failed_in x answers failure.Memory is = inl refl
   failed_in (Tree tree) answers (failure.Syntax at) is = absurd is
   failed_in (Tree tree) answers (failure.TooMuch limit at) is = absurd is
-  failed_in (Syntax rest) answers (failure.Syntax at) is = inr (answered (Syntax rest) (Err (cause.Syntax at)) answers (ap (λ n. Err (cause.Syntax n)) (sym is)))
+  failed_in (Syntax rest) answers (failure.Syntax at) is = inr (answered (Syntax rest) (Err (cause.Syntax (before + at))) answers (ap (λ n. Err (cause.Syntax (before + n))) (sym is)))
   failed_in (Syntax rest) answers (failure.TooMuch limit at) is = absurd is
   failed_in (TooMuch l rest) answers (failure.Syntax at) is = absurd is
   failed_in (TooMuch l rest) answers (failure.TooMuch limit at) is =
       inr (answered (TooMuch l rest) (Err (cause.Limit (limit_kind limit))) answers (ap (λ k. Err (cause.Limit (limit_kind k))) (sym is.0)))
 
   -- a text that was not parsed has no statement
-  pub failed : (f : Failure) (why : Cause) → why ≡ cause_of f → ((x : Answer Statement) → AnswersAs (tokens_of text) x → Shows (length text) x (Err f)) → IsRefusal (text_bound catalog text) why
+  pub failed : (f : Failure) (why : Cause) → why ≡ cause_of before f → ((x : Answer Statement) → AnswersAs (tokens_of text) x → Shows (length text) x (Err f)) → IsRefusal (Bounds (answer_of text)) why
   failed f why is shows = let a = an_answer (tokens_of text) in rw is (failed_in a.0 a.1 f (shows a.0 a.1))
 
-  -- a statement that was bound or refused
-  pub prepared : (s : Statement) (r : Result Bound Cause) → IsTreeOf s → Binds catalog text (count_of (tokens_of text)) s r → BindsTo catalog (length (tokens_of text)) (text_bound catalog text) r
-  unfolding Binds
-  prepared s (Ok b) is binds =
-      (binds.0, ap (answer_bound catalog text) is.0 ∙ binds.1, binds.2, small_more catalog (size_of_statement s) (length (tokens_of text)) b is.1 binds.3)
-  prepared s (Err why) is (inl memory) = inl memory
-  prepared s (Err why) is (inr refused) = inr (ap (answer_bound catalog text) is.0 ∙ refused)
+  -- a statement that is refused
+  pub prepared_refusal : (s : Statement) (why : Cause) → IsTreeOf s → IsRefusal (statement_bound (tables_of entries) (length lists) (body_of text) s) why → IsRefusal (Bounds (answer_of text)) why
+  prepared_refusal s why is (inl memory) = inl memory
+  prepared_refusal s why is (inr refused) = inr (ap Bounds is.0 ∙ refused)
+
+  -- a statement that is ready or was refused
+  pub prepared : (s : Statement) (r : Result Ready Cause) → IsTreeOf s → Readies (size_of_statement s) (statement_bound (tables_of entries) (length lists) (body_of text) s) r → Readies (length (tokens_of text)) (Bounds (answer_of text)) r
+  prepared s (Ok r) is p =
+      (p.0, ap Bounds is.0 ∙ p.1, p.2, small_more (size_of_statement s) (length (tokens_of text)) p.0 (bound_in r) is.1 p.3, p.4)
+  prepared s (Err why) is p = prepared_refusal s why is p

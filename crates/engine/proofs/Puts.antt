@@ -1,5 +1,5 @@
 -- The rows of an INSERT come behind the others, one after another, as the definition puts them.
-use Rattle.std.proofs.Common.{◌≡◌, ℕ, suc, ◌+◌, ◌-◌, ◌<◌, List, [], ◌∷◌, ◌++◌, Bool, true, false, not, cond, ◌&&◌, length, map, Option, Some, None, Result, Ok, Err, ℤ, pos, ◌+ℤ◌, ◌<ℤ◌, int_le, is_some, slice_get, slice_set, if◌then◌else◌, All, refl, sym, ap, ◌∙◌, subst, arith, lt-ltb}
+use Rattle.std.proofs.Common.{◌≡◌, ℕ, suc, ◌+◌, ◌-◌, ◌<◌, List, [], ◌∷◌, ◌++◌, Bool, true, false, not, cond, ◌&&◌, length, Option, Some, None, Result, Ok, Err, ℤ, pos, ◌+ℤ◌, ◌<ℤ◌, int_le, is_some, slice_get, slice_set, if◌then◌else◌, All, refl, sym, ap, ◌∙◌, subst, arith, lt-ltb}
 use Rattle.std.proofs.lemmas.Int.{ints}
 use Rattle.std.proofs.lemmas.List.{length-set}
 use Rattle.eng_value.specs.Casts.{store_as}
@@ -13,9 +13,10 @@ use Rattle.eng_value.specs.declared.value.Value.{Value}
 use Rattle.gen_write.specs.Writes.{Course, stored_as, row_under, row_put, rows_run}
 use Rattle.sql_meaning.specs.declared.bound.BoundInsert.{BoundInsert}
 use Rattle.sql_meaning.specs.declared.column.Column.{Column}
-use Rattle.sql_meaning.specs.declared.column.TableEntry.{TableEntry}
-use Rattle.sql_meaning.specs.Statement.{Item, Row, Failed as Bad, item_of, stored, item_put, rows_put, row_under as row_meant, with_row as with_row_meant}
+use Rattle.sql_meaning.specs.BoundStatements.{Put}
+use Rattle.sql_meaning.specs.Statement.{Item, Row, Failed as Bad, item_of, stored, item_put, rows_put, value_at, values_placed, row_under as row_meant, with_row as with_row_meant}
 use Rattle.sql_meaning.specs.Binding.{◌>>=◌}
+use Rattle.bind_stmt.specs.Binds.{IsPutAs, put_columns}
 use Rattle.vm_code.specs.Machine.{IsSound, Shared, rows_of, row_under as found_under, put_row, is_free, with_row, world_of}
 use Rattle.vm_code.proofs.Rows.{All-cons, All-head, All-tail, All-nil, ascending_head, ascending_tail, lt_trans, eq_below, put_row-behind}
 use Rattle.vm_code.proofs.Kept.{ordered_rows, sound_with_row}
@@ -56,10 +57,12 @@ module _ (x : Written) (table : ℕ) (r : StoredRow) (sound : IsSound x.world) (
 
 -- ---- all rows
 
-stored_is : (columns : List Column) (row : List Value) → stored_as (map (λ (c : Column). c.affinity) columns) row ≡ stored columns row
-stored_is [] row = refl
-stored_is (c ∷ columns) [] = refl
-stored_is (c ∷ columns) (v ∷ row) = ap (λ outs. store_as c.affinity v ∷ outs) (stored_is columns row)
+-- what each column takes is stored as the definition stores it
+stored_is : (columns : List Column) (places : List (Option ℕ)) (values : List Value) → length places ≡ length columns → stored_as (put_columns columns places) values ≡ stored columns (values_placed places values)
+stored_is [] [] values wide = refl
+stored_is [] (p ∷ places) values wide = absurd (omega arith)
+stored_is (c ∷ columns) [] values wide = absurd (omega arith)
+stored_is (c ∷ columns) (p ∷ places) values wide = ap (λ outs. store_as c.affinity (value_at values p) ∷ outs) (stored_is columns places values (omega arith))
 
 -- what a course comes to from `x` on where the definition writes so: the same is written, and nothing is given; or it fails for the same causes
 abbrev pub Puts : Shared → Result Written CauseSet → Course → Type 0
@@ -71,27 +74,34 @@ puts_then : (x : Shared) (y : Written) (result : Result Written CauseSet) (cours
 puts_then x y (Err causes) course same p = p
 puts_then x y (Ok z) course same p = (p.0, p.1, p.2 ∙ same)
 
-module _ (b : BoundInsert) (t : TableEntry) (named : b.name ≡ t.name) (affinities : b.affinities ≡ map (λ (c : Column). c.affinity) t.columns) where
-  abbrev OneMore : List (List Value) → Type 0
-  OneMore source = (x : Shared) → IsSound (world_of x) → b.table < length (world_of x) → Puts x (rows_put t b.table x.written source) (rows_run b source x)
+module _ (b : BoundInsert) (p : Put) (at : IsPutAs p b) (wide : length p.places ≡ length p.table.columns) where
+  abbrev number : ℕ
+  number = p.table.number
 
-  puts_rowid : (source : List (List Value)) (others : OneMore source) (x : Shared) → IsSound (world_of x) → b.table < length (world_of x) → (values : List Value) (rowid : Option ℤ) → next_rowid (rows_of (world_of x) b.table) ≡ rowid → Puts x (row_meant t b.table x.written values rowid >>= λ more. rows_put t b.table more source) (row_under b.table b.name x values rowid (rows_run b source))
-  puts_rowid source others x sound lt values None next = (ap (λ name. Some (only (Full name))) named, refl)
+  abbrev OneMore : List (List Value) → Type 0
+  OneMore source = (x : Shared) → IsSound (world_of x) → number < length (world_of x) → Puts x (rows_put p x.written source) (rows_run b source x)
+
+  puts_rowid : (source : List (List Value)) (others : OneMore source) (x : Shared) → IsSound (world_of x) → number < length (world_of x) → (values : List Value) (rowid : Option ℤ) → next_rowid (rows_of (world_of x) number) ≡ rowid
+      → Puts x (row_meant p.table x.written values rowid >>= λ more. rows_put p more source) (row_under b.table b.name x values rowid (rows_run b source))
+  puts_rowid source others x sound lt values None next = (ap (λ name. Some (only (Full name))) at.name, refl)
   puts_rowid source others x sound lt values (Some n) next =
       let r : StoredRow = record { rowid = n; values = values } in
-      let y = with_row_meant x.written b.table r in
-      let far : b.table < length y.world = omega (arith, lt, length-set (world_of x) b.table (rows_of (world_of x) b.table ++ r ∷ [])) in
-      let same : with_row x.written b.table r ≡ y = with_row-behind x.written b.table r sound lt next in
+      let y = with_row_meant x.written number r in
+      let far : number < length y.world = omega (arith, lt, length-set (world_of x) number (rows_of (world_of x) number ++ r ∷ [])) in
+      let same : with_row x.written b.table r ≡ y = ap (λ t. with_row x.written t r) at.table ∙ with_row-behind x.written number r sound lt next in
       let kept : IsSound y.world = subst (λ (z : Written). IsSound z.world) same (sound_with_row x.written b.table r sound) in
-      subst (λ (z : Written). Puts x (rows_put t b.table y source) (rows_run b source (record x { written = z }))) (sym same)
-      (puts_then x y (rows_put t b.table y source) (rows_run b source (record x { written = y })) refl (others (record x { written = y }) kept far))
+      subst (λ (z : Written). Puts x (rows_put p y source) (rows_run b source (record x { written = z }))) (sym same)
+      (puts_then x y (rows_put p y source) (rows_run b source (record x { written = y })) refl (others (record x { written = y }) kept far))
 
-  puts_item : (source : List (List Value)) (others : OneMore source) (x : Shared) → IsSound (world_of x) → b.table < length (world_of x) → (i : Item) → Puts x (item_put t b.table x.written i >>= λ more. rows_put t b.table more source) (row_put b.table b.name x i (rows_run b source))
+  puts_item : (source : List (List Value)) (others : OneMore source) (x : Shared) → IsSound (world_of x) → number < length (world_of x) → (i : Item) → Puts x (item_put p.table x.written i >>= λ more. rows_put p more source) (row_put b.table b.name x i (rows_run b source))
   puts_item source others x sound lt (Bad causes) = (refl, refl)
-  puts_item source others x sound lt (Row values) = puts_rowid source others x sound lt values (next_rowid (rows_of (world_of x) b.table)) refl
+  puts_item source others x sound lt (Row values) =
+      let drawn = next_rowid (rows_of (world_of x) number) in
+      subst (λ k. Puts x (row_meant p.table x.written values drawn >>= λ more. rows_put p more source) (row_under b.table b.name x values (next_rowid (rows_of (world_of x) k)) (rows_run b source))) (sym at.table)
+      (puts_rowid source others x sound lt values drawn refl)
 
   pub puts_rows : (source : List (List Value)) → OneMore source
   puts_rows [] x sound lt = (refl, refl, refl)
   puts_rows (row ∷ source) x sound lt =
-      let same : stored_as b.affinities row ≡ stored t.columns row = rw affinities (stored_is t.columns row) in
-      rw same (puts_item source (puts_rows source) x sound lt (item_of no_causes (stored t.columns row)))
+      let same : stored_as b.columns row ≡ stored p.table.columns (values_placed p.places row) = rw at.columns (stored_is p.table.columns p.places row wide) in
+      rw same (puts_item source (puts_rows source) x sound lt (item_of no_causes (stored p.table.columns (values_placed p.places row))))

@@ -1,52 +1,117 @@
--- What a text means whose statement was bound: the outcome of what was bound, whose tables go by places.
-use Rattle.std.proofs.Common.{◌≡◌, ◌-◌, inl, inr, ℕ, List, ℤ, length, Option, Ok, Err, subst, sym, ap}
-use Rattle.bind_stmt.specs.declared.statement.Bound.{Bound}
-use Rattle.bind_stmt.specs.declared.statement.Bound.TheVariants as bound
+-- What a text means whose statement is ready to run: the outcome of what is ready, where tables go by their numbers.
+use Rattle.std.proofs.Common.{◌≡◌, ◌-◌, inl, inr, ℕ, cond, List, [], ◌∷◌, ℤ, length, Option, Some, None, Ok, Err, All, refl, subst, sym, ap, ◌∙◌}
 use Rattle.bind_stmt.specs.Binds.{IsBound, IsRefusal}
+use Rattle.eng_entry.specs.Entries.{Entries, entry_named}
+use Rattle.eng_entry.specs.declared.entry.Entry.{Entry}
 use Rattle.eng_value.specs.HostMeanings.{HostMeanings}
 use Rattle.eng_value.specs.declared.cause.Cause.{Cause}
 use Rattle.eng_value.specs.declared.value.Value.{Value}
-use Rattle.sql_meaning.specs.declared.column.TableEntry.{TableEntry}
-use Rattle.sql_meaning.proofs.ValidLaws.{text-fits}
-use Rattle.sql_meaning.specs.BoundStatements.{BoundStatement, Creates, Puts, Queries}
-use Rattle.sql_meaning.specs.Statement.{Outcome, bound_outcome, outcome_of, text_bound, text_outcome}
+use Rattle.sql_meaning.proofs.TableLaws.{IsElse, found-all, none-named}
+use Rattle.sql_meaning.proofs.ValidLaws.{FitsIn, text-fits}
+use Rattle.sql_meaning.specs.BoundStatements.{BoundStatement, Creates, DoesNothing, Drops, Puts, Queries, Shows}
+use Rattle.sql_meaning.specs.Declarations.{table_of, tables_of}
+use Rattle.sql_meaning.specs.Statement.{Outcome, bound_outcome, create_outcome, outcome_of, text_bound, text_outcome}
+use Rattle.sql_meaning.specs.Valid.{IsTable, IsWorld}
 use Rattle.sql_meaning.specs.World.{Context, State, context}
 use Rattle.vm_code.specs.Machine.{World as Lists, IsSound}
-use Rattle.engine.specs.Held.{state_of}
+use Rattle.vm_code.proofs.Rows.{All-head, All-tail}
+use Rattle.engine.specs.declared.preparing.NewEntry.{NewEntry}
+use Rattle.engine.specs.declared.preparing.Ready.{Ready}
+use Rattle.engine.specs.declared.preparing.Ready.TheVariants as ready
+use Rattle.engine.specs.Held.{state_of, world_in}
 use Rattle.engine.specs.Outcomes.{outcome_in}
 use Rattle.engine.specs.Connected.{CarriesOut}
+use Rattle.engine.specs.Prepared.{HasEntry, IsNew, MayRun, bound_in}
 use Rattle.engine.specs.Taking.{Rows}
 use Rattle.engine.proofs.CarryingOut.{StandsFor, stands_same, carries_Mem, carries_refused}
-use Rattle.engine.proofs.Bridges.{query_same, put_same, create_same}
+use Rattle.engine.proofs.Bridges.{drop_same, put_same, query_same}
 
-module _ (hosts : HostMeanings) (catalog : List TableEntry) (lists : Lists) (changes : ℕ) (last : ℤ) (params : List Value) (text : List ℕ) where
+-- no entry has a name where each has another
+none_found : (name : List ℕ) (entries : List Entry) → All (IsElse name) entries → entry_named name entries ≡ None
+none_found name [] others = refl
+none_found name (e ∷ entries) others =
+    ap (λ b. cond b (Some e) (entry_named name entries)) (All-head (IsElse name) e entries others) ∙ none_found name entries (All-tail (IsElse name) e entries others)
+
+module _ (hosts : HostMeanings) (entries : Entries) (lists : Lists) (changes : ℕ) (last : ℤ) (params : List Value) (text : List ℕ) (valid : IsWorld (world_in entries lists)) where
   abbrev state : State
-  state = state_of catalog lists changes last
+  state = state_of entries lists changes last
 
   abbrev ctx : Context
   ctx = context hosts state params
 
+  abbrev Fits : BoundStatement → Type 0
+  Fits x = FitsIn (tables_of entries) (length lists) x
+
   -- ---- what was bound
 
-  bound_stands : (x : BoundStatement) (b : Bound) → length lists ≡ length catalog → IsSound lists → text_bound catalog text ≡ Ok x → IsBound catalog x b → StandsFor (outcome_of ctx x) (outcome_in hosts catalog lists changes last params b)
-  bound_stands (Creates t) (bound.CreateTable e) long up is at =
-      rw at (stands_same _ _ (create_same hosts catalog lists changes last long t (text-fits catalog text (Creates t) is)))
-  bound_stands (Puts p) (bound.Insert b) long up is at = put_same hosts catalog lists changes last long p b at up
-  bound_stands (Queries q) (bound.Select b) long up is at = stands_same _ _ (query_same hosts catalog lists changes last long params q b at)
-  bound_stands (Creates t) (bound.Insert b) long up is at = absurd at
-  bound_stands (Creates t) (bound.Select b) long up is at = absurd at
-  bound_stands (Puts p) (bound.CreateTable e) long up is at = absurd at
-  bound_stands (Puts p) (bound.Select b) long up is at = absurd at
-  bound_stands (Queries q) (bound.CreateTable e) long up is at = absurd at
-  bound_stands (Queries q) (bound.Insert b) long up is at = absurd at
+  is_new : (e : Entry) (n : NewEntry) → Fits (Creates e) → HasEntry (Creates e) (ready.Create n) → IsNew entries n
+  is_new e n fits has = record {
+    kind = ap (λ (x : Entry). x.kind) has.0 ∙ fits.kind;
+    free = ap (λ (x : Entry). entry_named x.name entries.names) has.0 ∙ none_found e.name entries.names (none-named entries.names e.name valid.declared fits.free);
+    declared = ap table_of has.0 ∙ has.1;
+  }
 
-  pub text_stands : (x : BoundStatement) (b : Bound) → length lists ≡ length catalog → IsSound lists → text_bound catalog text ≡ Ok x → IsBound catalog x b → StandsFor (text_outcome ctx text) (outcome_in hosts catalog lists changes last params b)
-  text_stands x b long up is at =
-      subst (λ (o : Outcome). StandsFor o (outcome_in hosts catalog lists changes last params b)) (sym (ap (bound_outcome ctx) is)) (bound_stands x b long up is at)
+  by_ready : (x : BoundStatement) (r : Ready) → Fits x → IsBound x (bound_in r) → HasEntry x r → MayRun entries r
+  by_ready (Creates e) (ready.Create n) fits at has = is_new e n fits has
+  by_ready (Drops t) (ready.Create n) fits at has = absurd at
+  by_ready (Puts p) (ready.Create n) fits at has = absurd at
+  by_ready (Queries q) (ready.Create n) fits at has = absurd at
+  by_ready (Shows rows) (ready.Create n) fits at has = absurd at
+  by_ready DoesNothing (ready.Create n) fits at has = absurd at
+  by_ready x (ready.Drop d) fits at has = tt
+  by_ready x (ready.Insert b) fits at has = tt
+  by_ready x (ready.Select b) fits at has = tt
+  by_ready x (ready.Values b) fits at has = tt
+  by_ready x ready.Nothing fits at has = tt
+
+  pub may_run : (x : BoundStatement) (r : Ready) → text_bound (world_in entries lists) text ≡ Ok x → IsBound x (bound_in r) → HasEntry x r → MayRun entries r
+  may_run x r is at has = by_ready x r (text-fits (world_in entries lists) text x is) at has
+
+  bound_stands : (x : BoundStatement) (r : Ready) → IsSound lists → Fits x → IsBound x (bound_in r) → HasEntry x r → StandsFor (outcome_of ctx x) (outcome_in hosts entries lists changes last params r)
+  bound_stands (Creates e) (ready.Create n) sound fits at has = stands_same _ _ (ap (create_outcome state) (sym has.0))
+  bound_stands (Creates e) (ready.Drop d) sound fits at has = absurd at
+  bound_stands (Creates e) (ready.Insert b) sound fits at has = absurd at
+  bound_stands (Creates e) (ready.Select b) sound fits at has = absurd at
+  bound_stands (Creates e) (ready.Values b) sound fits at has = absurd at
+  bound_stands (Creates e) ready.Nothing sound fits at has = absurd at
+  bound_stands (Drops t) (ready.Create n) sound fits at has = absurd at
+  bound_stands (Drops t) (ready.Drop d) sound fits at has = stands_same _ _ (drop_same hosts entries lists changes last params t d at.0 at.1)
+  bound_stands (Drops t) (ready.Insert b) sound fits at has = absurd at
+  bound_stands (Drops t) (ready.Select b) sound fits at has = absurd at
+  bound_stands (Drops t) (ready.Values b) sound fits at has = absurd at
+  bound_stands (Drops t) ready.Nothing sound fits at has = absurd at
+  bound_stands (Puts p) (ready.Create n) sound fits at has = absurd at
+  bound_stands (Puts p) (ready.Drop d) sound fits at has = absurd at
+  bound_stands (Puts p) (ready.Insert b) sound fits at has = put_same hosts entries lists changes last params p b at fits.places (found-all (IsTable lists) (tables_of entries) p.table.name p.table valid.tables fits.found).there sound
+  bound_stands (Puts p) (ready.Select b) sound fits at has = absurd at
+  bound_stands (Puts p) (ready.Values b) sound fits at has = absurd at
+  bound_stands (Puts p) ready.Nothing sound fits at has = absurd at
+  bound_stands (Queries q) (ready.Create n) sound fits at has = absurd at
+  bound_stands (Queries q) (ready.Drop d) sound fits at has = absurd at
+  bound_stands (Queries q) (ready.Insert b) sound fits at has = absurd at
+  bound_stands (Queries q) (ready.Select b) sound fits at has = stands_same _ _ (query_same hosts entries lists changes last params q b at)
+  bound_stands (Queries q) (ready.Values b) sound fits at has = absurd at
+  bound_stands (Queries q) ready.Nothing sound fits at has = absurd at
+  bound_stands (Shows rows) (ready.Create n) sound fits at has = absurd at
+  bound_stands (Shows rows) (ready.Drop d) sound fits at has = absurd at
+  bound_stands (Shows rows) (ready.Insert b) sound fits at has = absurd at
+  bound_stands (Shows rows) (ready.Select b) sound fits at has = absurd at
+  bound_stands (Shows rows) (ready.Values b) sound fits at has = rw at (stands_same _ _ refl)
+  bound_stands (Shows rows) ready.Nothing sound fits at has = absurd at
+  bound_stands DoesNothing (ready.Create n) sound fits at has = absurd at
+  bound_stands DoesNothing (ready.Drop d) sound fits at has = absurd at
+  bound_stands DoesNothing (ready.Insert b) sound fits at has = absurd at
+  bound_stands DoesNothing (ready.Select b) sound fits at has = absurd at
+  bound_stands DoesNothing (ready.Values b) sound fits at has = absurd at
+  bound_stands DoesNothing ready.Nothing sound fits at has = stands_same _ _ refl
+
+  pub text_stands : (x : BoundStatement) (r : Ready) → IsSound lists → text_bound (world_in entries lists) text ≡ Ok x → IsBound x (bound_in r) → HasEntry x r → StandsFor (text_outcome ctx text) (outcome_in hosts entries lists changes last params r)
+  text_stands x r sound is at has =
+      subst (λ (o : Outcome). StandsFor o (outcome_in hosts entries lists changes last params r)) (sym (ap (bound_outcome ctx) is)) (bound_stands x r sound (text-fits (world_in entries lists) text x is) at has)
 
   -- ---- a text that is not run
 
-  pub refusal_carries : (why : Cause) → IsRefusal (text_bound catalog text) why → (budget bound steps : ℕ) (t : Option Rows) (rose : Type 0) → CarriesOut (text_outcome ctx text) state state budget bound (steps - steps) t t rose (Err why)
+  pub refusal_carries : (why : Cause) → IsRefusal (text_bound (world_in entries lists) text) why → (budget bound steps : ℕ) (t : Option Rows) (rose : Type 0) → CarriesOut (text_outcome ctx text) state state budget bound (steps - steps) t t rose (Err why)
   refusal_carries why (inl memory) budget bound steps t rose =
       subst (λ k. CarriesOut (text_outcome ctx text) state state budget bound (steps - steps) t t rose (Err k)) (sym memory)
       (carries_Mem (text_outcome ctx text) state budget bound steps t rose)

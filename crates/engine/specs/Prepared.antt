@@ -1,11 +1,66 @@
--- Why a text has no statement.
+-- Why a text has no statement, and what a statement that is ready to run stands for.
+use Rattle.std.specs.Prelude.{◌≡◌, ◌≤◌, ⊤, ℕ, ◌+◌, Some, None, Result, Ok, Err}
+use Rattle.bind_stmt.specs.declared.statement.Bound.{Bound}
+use Rattle.bind_stmt.specs.declared.statement.Bound.TheVariants as bound
+use Rattle.bind_stmt.specs.Binds.{IsBound, IsRefusal}
+use Rattle.bind_stmt.specs.Small.{IsSmall}
+use Rattle.eng_entry.specs.Entries.{Entries, entry_named}
+use Rattle.eng_entry.specs.declared.entry.EntryKind.TheVariants as entry_kind
 use Rattle.eng_value.specs.declared.cause.Cause.{Cause}
 use Rattle.eng_value.specs.declared.cause.Cause.TheVariants as cause
 use Rattle.parse_cursor.specs.declared.texts.Failure.{Failure}
 use Rattle.parse_cursor.specs.declared.texts.Failure.TheVariants as failure
+use Rattle.sql_meaning.specs.BoundStatements.{BoundStatement, Creates}
+use Rattle.sql_meaning.specs.Declarations.{table_of}
 use Rattle.sql_meaning.specs.Statement.{limit_kind}
+use Rattle.engine.specs.declared.preparing.NewEntry.{NewEntry}
+use Rattle.engine.specs.declared.preparing.Ready.{Ready}
+use Rattle.engine.specs.declared.preparing.Ready.TheVariants as ready
 
-abbrev pub cause_of : Failure → Cause
-cause_of failure.Memory = cause.Mem
-cause_of (failure.Syntax at) = cause.Syntax at
-cause_of (failure.TooMuch limit at) = cause.Limit (limit_kind limit)
+-- of a text whose first token stands behind so many bytes
+abbrev pub cause_of : ℕ → Failure → Cause
+cause_of before failure.Memory = cause.Mem
+cause_of before (failure.Syntax at) = cause.Syntax (before + at)
+cause_of before (failure.TooMuch limit at) = cause.Limit (limit_kind limit)
+
+-- the place of a syntax error behind so many bytes stands in a text of so many
+abbrev pub StandsIn : ℕ → ℕ → Failure → Type 0
+StandsIn len before failure.Memory = ⊤
+StandsIn len before (failure.Syntax at) = before + at ≤ len
+StandsIn len before (failure.TooMuch limit at) = ⊤
+
+-- what was bound
+abbrev pub bound_in : Ready → Bound
+bound_in (ready.Create n) = bound.CreateTable (record { name = n.table.name; columns = n.table.columns })
+bound_in (ready.Drop d) = bound.DropTable d
+bound_in (ready.Insert b) = bound.Insert b
+bound_in (ready.Select q) = bound.Select q
+bound_in (ready.Values rows) = bound.Values rows
+bound_in ready.Nothing = bound.Nothing
+
+-- the entry is that of the statement, and declares the table
+abbrev pub IsEntryOf : BoundStatement → NewEntry → Type 0
+IsEntryOf (Creates e) n = (n.entry ≡ e) × (table_of e ≡ Some n.table)
+IsEntryOf x n = ⊥
+
+-- a table that is created has its entry
+abbrev pub HasEntry : BoundStatement → Ready → Type 0
+HasEntry x (ready.Create n) = IsEntryOf x n
+HasEntry x r = ⊤
+
+-- the statement is bound and ready, and small beside its tokens; or it is refused; and memory may be wanting
+abbrev pub Readies : ℕ → Result BoundStatement Cause → Result Ready Cause → Type 0
+Readies size meant (Ok r) = (x : BoundStatement) × (meant ≡ Ok x) × IsBound x (bound_in r) × IsSmall size x (bound_in r) × HasEntry x r
+Readies size meant (Err why) = IsRefusal meant why
+
+-- ---- what may run
+
+-- an entry that may come into a catalog: that of a table, whose name is free
+pub record IsNew (entries : Entries) (n : NewEntry) : Type 0 where
+  pub kind : n.entry.kind ≡ entry_kind.Table
+  pub free : entry_named n.entry.name entries.names ≡ None
+  pub declared : table_of n.entry ≡ Some n.table
+
+abbrev pub MayRun : Entries → Ready → Type 0
+MayRun entries (ready.Create n) = IsNew entries n
+MayRun entries r = ⊤

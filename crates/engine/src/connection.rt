@@ -2,16 +2,18 @@
 ghost use Rattle.std.specs.Prelude.{◌≡◌, ◌≤◌, ◌+◌, ◌-◌, map, true, None, Some, OnOk, IfOk, IfErr};
 ghost use Rattle.eng_value.specs.declared.cause.Cause.TheVariants.{Mem};
 ghost use Rattle.engine.specs.Causes.{GivesCounted, GivesFront, IsCause, WhereTold, is_accident};
-ghost use Rattle.bind_stmt.specs.Binds.{place_named};
+ghost use Rattle.std.specs.Option.{option_map};
+ghost use Rattle.sql_meaning.specs.Declarations.{table_called};
+ghost use Rattle.sql_meaning.specs.declared.column.TableEntry.{TableEntry as Declared};
 ghost use Rattle.host_traits.specs.Faults.{Rose};
 ghost use Rattle.sql_meaning.specs.Valid.{IsValid};
-ghost use Rattle.sql_meaning.specs.World.{is_in_transaction, new_state, table_rows, with_rowid};
-ghost use Rattle.vm_code.specs.Machine.{rows_of};
+ghost use Rattle.sql_meaning.specs.World.{is_in_transaction, new_state, rows_at, table_rows, with_rowid};
 ghost use Rattle.vm_core.specs.Meant.{meant};
 
 use crate::answers::{Done, Refusal};
 use crate::database::{Database, run_text};
 use crate::row_sink::RowSink;
+use eng_entry::is_same_name;
 use eng_value::{Cause, Row, Rows, Steps, StoredRow, Value};
 use sql_meaning::TableEntry;
 use std::alloc::{AllocError, Global};
@@ -36,16 +38,18 @@ impl Model for Connection {
 
     ghost use Rattle.std.specs.Coded.{codes};
     ghost use Rattle.sql_meaning.specs.contracts.bound.BoundExpr as expression;
+    ghost use Rattle.sql_tree.specs.contracts.expr.Expr as expr;
+    ghost use Rattle.sql_tree.specs.contracts.query.Query as query;
 
-    ghost coded = { Prim.hlevel (codes, expression.the_row.coded) };
+    ghost coded = { Prim.hlevel (codes, expression.the_row.coded, expr.the_row.coded, query.the_row.coded) };
 
     ghost view = { λ c.
         record {
-          state = state_of c.database.catalog c.database.tables.world c.database.changes c.database.last_rowid;
+          state = state_of c.database.schema c.database.tables.world c.database.changes c.database.last_rowid;
           budget = c.budget;
         } };
 
-    ghost invariant = { λ c. IsConsistent c.database.catalog c.database.tables.world c.database.tables.marks c.database.changes c.database.last_rowid };
+    ghost invariant = { λ c. IsConsistent c.database.schema c.database.tables.world c.database.tables.marks c.database.changes c.database.last_rowid };
 }
 
 impl Connection {
@@ -127,10 +131,10 @@ impl Connection {
         ensures table { IfOk result (λ found. found ≡ table_rows self.now.state name.now) }
         ensures memory { IfErr result (λ r. r.cause ≡ Mem) }
     {
-        let Some(place) = place_named(self.database.catalog.entries(), name) else {
+        let Some(number) = number_named(self.database.schema.tables(), name) else {
             return Ok(None);
         };
-        match numbered(alloc, &self.database.tables, place) {
+        match numbered(alloc, &self.database.tables, number as usize) {
             Ok(rows) => Ok(Some(rows)),
             Err(_) => Err(Refusal { cause: Cause::Mem }),
         }
@@ -159,16 +163,19 @@ impl Connection {
     }
 }
 
-/// The place of the first table of this name.
-fn place_named(catalog: &[TableEntry], name: &str) -> Option<usize>
-    ensures { result ≡ place_named catalog.now name.now }
+/// The number of the table of this name.
+fn number_named(tables: &[TableEntry], name: &str) -> Option<u32>
+    ensures { result ≡ option_map (λ (t : Declared). t.number) (table_called tables.now name.now) }
 {
-    catalog.iter().position(|t| t.name.as_bytes().eq_ignore_ascii_case(name.as_bytes()))
+    let table = tables
+        .iter()
+        .find(|t| is_same_name(t.name.as_bytes(), name.as_bytes()))?;
+    Some(table.number)
 }
 
 /// The rows of a table with their rowids in front.
 fn numbered(alloc: Global, tables: &Tables, table: usize) -> Result<Rows, AllocError>
-    ensures { IfOk result (λ found. found ≡ map with_rowid (rows_of tables.now.world table)) }
+    ensures { IfOk result (λ found. found ≡ map with_rowid (rows_at tables.now.world table)) }
 {
     let rows = tables.rows(alloc, table)?;
     let mut found = Rows::empty(alloc);

@@ -4,13 +4,13 @@
 #![tactic(auto)]
 
 mod answers;
-mod catalog;
 mod connection;
 mod database;
 mod executing;
 mod preparing;
 mod row_sink;
 mod running;
+mod schema;
 
 pub use answers::{Done, Refusal};
 pub use connection::Connection;

@@ -1,54 +1,187 @@
-// From the text of a statement to a bound one.
-ghost use Rattle.std.specs.Prelude.{◌≡◌, length};
+// From the text of a statement to one that is ready to run.
+ghost use Rattle.std.specs.Prelude.{◌≡◌, ℕ, All, IfErr, IfOk, Ok, drop, length, true};
+ghost use Rattle.std.specs.Str.{IsCharBoundary, is_utf8};
 ghost use Rattle.bind_stmt.specs.Binds.{BindsTo};
-ghost use Rattle.engine.specs.Prepared.{cause_of};
-ghost use Rattle.sql_lex.specs.Tokens.{tokens_of};
-ghost use Rattle.sql_meaning.specs.Statement.{count_of, limit_kind, text_bound};
+ghost use Rattle.eng_entry.specs.Entries.{Entries};
+ghost use Rattle.eng_value.specs.declared.cause.Cause.TheVariants.{Mem};
+ghost use Rattle.engine.specs.Held.{world_in};
+ghost use Rattle.engine.specs.Prepared.{Readies, StandsIn, cause_of};
+ghost use Rattle.sql_lex.specs.Cutting.{start_of};
+ghost use Rattle.sql_lex.specs.Tokens.{InOrder, slice_of, tokens_of};
+ghost use Rattle.sql_meaning.specs.Declarations.{tables_of};
+ghost use Rattle.sql_meaning.specs.Statement.{end_of, entry_with, limit_kind, statement_bound, text_bound, text_bound_from, without_end};
+ghost use Rattle.sql_tree.specs.Sizes.{size_of_statement};
+ghost use Rattle.vm_code.specs.Machine.{World as Lists};
 
-use crate::catalog::Catalog;
-use bind_stmt::{Bound, bind};
-use eng_value::{Cause, LimitKind};
+use crate::schema::Schema;
+use bind_stmt::{Bound, DroppedTable, NewTable, bind};
+use eng_catalog::{Entry, EntryKind};
+use eng_value::{Cause, LimitKind, Text};
 use parse_stmt::{Failure, parse};
 use sql_grammar::Limit;
 use sql_lex::tokens;
-use sql_tree::{Token, TokenKind};
+use sql_meaning::{BoundExpr, BoundInsert, BoundSelect, TableEntry};
+use sql_tree::{Statement, Token, TokenKind};
+use sqlite_items::Items;
 use std::alloc::Global;
 
-/// The bound statement of a text, or why it is refused: first by the grammar, then since a part of it is not built, then for names.
-pub(crate) fn prepare(alloc: Global, catalog: &Catalog, text: &str) -> Result<Bound, Cause>
-    ensures { BindsTo catalog.now (length (tokens_of text.now)) (text_bound catalog.now text.now) result }
-{
-    let tokens = tokens(alloc, text)?;
-    let statement = match parse(alloc, &tokens, text.len()) {
-        Ok(statement) => statement,
-        Err(failure) => return Err(cause_of(failure)),
-    };
-    bind(
-        alloc,
-        catalog.entries(),
-        text,
-        count_of(&tokens),
-        &statement,
-    )
+/// What a CREATE TABLE puts into the catalog: the entry, and what it declares.
+#[derive(Drop)]
+pub(crate) struct NewEntry {
+    pub(crate) entry: Entry,
+    pub(crate) table: TableEntry,
 }
 
-/// How many tokens there are, without a `;` at their end.
-fn count_of(tokens: &[Token]) -> usize
-    ensures { result ≡ count_of tokens.now }
+/// A statement that is ready to run.
+#[derive(Drop)]
+pub(crate) enum Ready {
+    Create(NewEntry),
+    Drop(DroppedTable),
+    Insert(BoundInsert),
+    Select(BoundSelect),
+    Values(Items<Items<BoundExpr>>),
+    Nothing,
+}
+
+/// The statement of a text over so many tables that ever were, or why it is refused: first by the grammar, then since a part of it is
+/// not built, then for names.
+pub(crate) fn prepare(
+    alloc: Global,
+    schema: &Schema,
+    number: usize,
+    text: &str,
+) -> Result<Ready, Cause>
+    ensures { (lists : Lists) → length lists ≡ number → Readies (length (tokens_of text.now)) (text_bound (world_in schema.now lists) text.now) result }
 {
-    match tokens.last() {
-        Some(token) if token.kind == TokenKind::Semicolon => tokens.len() - 1,
-        _ => tokens.len(),
+    let found = tokens(alloc, text)?;
+    let start = start_of(&found);
+    if start == 0 {
+        return prepare_from(alloc, schema, number, text, 0, &found);
+    }
+    let again = tokens(alloc, &text[start..])?;
+    prepare_from(alloc, schema, number, text, start, &again)
+}
+
+/// The statement of a text from a byte on, where these are the tokens.
+fn prepare_from(
+    alloc: Global,
+    schema: &Schema,
+    number: usize,
+    text: &str,
+    start: usize,
+    tokens: &[Token],
+) -> Result<Ready, Cause>
+    requires cut { IsCharBoundary text.now start }
+    requires tokens { tokens.now ≡ tokens_of (drop start text.now) }
+    requires order { InOrder 0 (length (drop start text.now)) tokens.now }
+    requires characters { All (λ t. is_utf8 (slice_of (drop start text.now) t) ≡ true) tokens.now }
+    ensures { (lists : Lists) → length lists ≡ number → Readies (length tokens.now) (text_bound_from (world_in schema.now lists) start text.now) result }
+{
+    let from = &text[start..];
+    let statement = match parse(alloc, tokens, from.len()) {
+        Ok(statement) => statement,
+        Err(failure) => return Err(cause_of(text, start, failure)),
+    };
+    let body = &from[..end_of(without_end(tokens))];
+    let bound = bind(alloc, schema.tables(), body, &statement)?;
+    readied(alloc, bound, number, body, statement)
+}
+
+/// A bound statement with what running it takes.
+fn readied(
+    alloc: Global,
+    bound: Bound,
+    number: usize,
+    body: &str,
+    statement: Statement,
+) -> Result<Ready, Cause>
+    ensures { (lists : Lists) (entries : Entries) → length lists ≡ number → BindsTo (size_of_statement statement) (statement_bound (tables_of entries) number body.now statement) (Ok bound)
+        → Readies (size_of_statement statement) (statement_bound (tables_of entries) number body.now statement) result }
+{
+    match bound {
+        Bound::CreateTable(new) => {
+            let created = new_entry(alloc, new, number, body, statement)?;
+            Ok(Ready::Create(created))
+        }
+        Bound::DropTable(dropped) => Ok(Ready::Drop(dropped)),
+        Bound::Insert(insert) => Ok(Ready::Insert(insert)),
+        Bound::Select(select) => Ok(Ready::Select(select)),
+        Bound::Values(rows) => Ok(Ready::Values(rows)),
+        Bound::Nothing => Ok(Ready::Nothing),
     }
 }
 
-/// Why a text has no statement: memory is wanting, the grammar does not derive it, or there is too much of something.
-fn cause_of(failure: Failure) -> Cause
-    ensures { result ≡ cause_of failure }
+/// The entry of a table that is created, and what it declares.
+fn new_entry(
+    alloc: Global,
+    new: NewTable,
+    number: usize,
+    body: &str,
+    statement: Statement,
+) -> Result<NewEntry, Cause>
+    ensures entry { IfOk result (λ n. n.entry ≡ entry_with number body.now new.name statement) }
+    ensures table { IfOk result (λ n. n.table ≡ record { name = new.name; columns = new.columns; number = number; tokens = length (tokens_of body.now) }) }
+    ensures memory { IfErr result (λ why. why ≡ Mem) }
+{
+    let NewTable { name, columns } = new;
+    let Ok(place) = u32::try_from(number) else {
+        return Err(Cause::Mem);
+    };
+    let entry = Entry {
+        kind: EntryKind::Table,
+        name: name.clone()?,
+        owner: Text::from_str(alloc, "")?,
+        number: u64::from(place),
+        text: Text::from_str(alloc, body)?,
+        def: statement,
+    };
+    let table = TableEntry {
+        name,
+        columns,
+        number: place,
+        tokens: tokens(alloc, body)?.len(),
+    };
+    Ok(NewEntry { entry, table })
+}
+
+/// The byte where the first token starts.
+fn start_of(tokens: &[Token]) -> usize
+    ensures { result ≡ start_of tokens.now 0 }
+{
+    match tokens.first() {
+        Some(token) => token.span.start,
+        None => 0,
+    }
+}
+
+/// Tokens without a `;` at their end.
+fn without_end(tokens: &[Token]) -> &[Token]
+    ensures { result.now ≡ without_end tokens.now }
+{
+    match tokens {
+        [front @ .., last] if last.kind == TokenKind::Semicolon => front,
+        _ => tokens,
+    }
+}
+
+/// The byte behind the last token.
+fn end_of(tokens: &[Token]) -> usize
+    ensures { result ≡ end_of tokens.now }
+{
+    match tokens.last() {
+        Some(token) => token.span.end,
+        None => 0,
+    }
+}
+
+/// Why a text has no statement from a byte on: memory is wanting, the grammar does not derive it, or there is too much of something.
+fn cause_of(text: &str, start: usize, failure: Failure) -> Cause
+    requires { StandsIn (length text.now) start failure }
+    ensures { result ≡ cause_of start failure }
 {
     match failure {
         Failure::Memory => Cause::Mem,
-        Failure::Syntax(at) => Cause::Syntax(at),
+        Failure::Syntax(at) => Cause::Syntax(start + at),
         Failure::TooMuch(limit, _) => Cause::Limit(limit_kind(limit)),
     }
 }

@@ -1,37 +1,105 @@
 -- What columns store, in registers one after another, and their causes in one register.
-use Rattle.std.proofs.Common.{◌≡◌, ◌≢◌, ℕ, zero, suc, ◌+◌, ◌*◌, ◌≤◌, ◌<◌, List, [], ◌∷◌, ◌++◌, length, take, fold, get_or, refl, sym, ap, ◌∙◌, subst, arith, length-append, min}
-use Rattle.std.specs.Prelude.{slice_set}
+use Rattle.std.proofs.Common.{◌≡◌, ◌≢◌, ℕ, zero, suc, ◌+◌, ◌*◌, ◌≤◌, ◌<◌, List, [], ◌∷◌, ◌++◌, length, map, fold, get_or, take, Some, None, refl, sym, ap, ◌∙◌, subst, arith, length-append}
+use Rattle.std.specs.Prelude.{slice_get, slice_index_or, slice_set}
+use Rattle.std.specs.declared.option.Option.{Option}
 use Rattle.std.proofs.Math.ListN.{length-set}
-use Rattle.std.proofs.lemmas.List.{get_or-set_same, get_or-set_other}
+use Rattle.std.proofs.lemmas.List.{get_or-set_same, get_or-set_other, length-map, map-append, take_more}
 use Rattle.std.proofs.lemmas.List.Sums.{fold-append}
 use Rattle.eng_value.specs.Applied.{merged}
 use Rattle.eng_value.specs.Casts.{store_as}
 use Rattle.eng_value.specs.Environments.{with_causes}
 use Rattle.eng_value.specs.Outs.{turned}
-use Rattle.eng_value.specs.declared.affinity.Affinity.{Affinity}
 use Rattle.eng_value.specs.declared.out.Out.{Out}
-use Rattle.gen_write.specs.Stretches.{Stores, stored_literals}
+use Rattle.eng_value.specs.declared.out.Out.TheVariants.{Good}
+use Rattle.eng_value.specs.declared.value.Value.{Value}
+use Rattle.eng_value.specs.declared.value.Value.TheVariants.{Null}
+use Rattle.gen_write.specs.Stretches.{AreKept, Loads, SameBut, Stores, kept_at, kept_out, out_loaded}
+use Rattle.gen_write.specs.Writes.{stored_as}
+use Rattle.gen_write.specs.declared.source.Kept.{Kept}
+use Rattle.gen_write.specs.declared.source.Kept.TheVariants as kept
 use Rattle.sql_meaning.specs.Expression.{literal_out}
+use Rattle.sql_meaning.specs.Statement.{value_at}
 use Rattle.sql_meaning.specs.declared.bound.Literal.{Literal}
+use Rattle.sql_meaning.specs.declared.bound.PutColumn.{PutColumn}
+use Rattle.vm_code.specs.declared.op.Op.{Op}
 use Rattle.vm_code.specs.declared.op.Op.TheVariants as op
 use Rattle.vm_code.specs.Draft.{Draft, with_op, taken}
-use Rattle.vm_code.specs.Machine.{Setting, State, outs_from, read, Reaches}
-use Rattle.vm_code.specs.Frames.{Here, here, with_regs, Calls, Leaves}
+use Rattle.vm_code.specs.Tracked.{GoesOn}
+use Rattle.vm_code.specs.Machine.{On, Setting, State, act, outs_from, put, read, Reaches}
+use Rattle.vm_code.specs.Frames.{placed, Here, here, with_regs, Calls, Leaves}
 use Rattle.vm_code.specs.Claims.{Claim, Labels, Last, on, Triple}
 use Rattle.vm_code.proofs.Runs.{leads_more, leads_then, reaches_none, reaches_op}
 use Rattle.vm_code.proofs.Drafts.{at_op, extends, g_op, g_taken, grows_none, grows_then, long_op}
 use Rattle.vm_code.proofs.Tracks.{st_none, st_op, st_taken, st_then}
 use Rattle.vm_code.proofs.Registers.{outs_same}
 use Rattle.vm_code.proofs.Triples.{ready_less}
-use Rattle.vm_code.proofs.Values.{leaves_one}
 
-pub stores_none : (calls : Calls) (a : Draft) (causes : ℕ) → a.next ≤ a.most → Stores calls a a causes []
-stores_none calls a causes counted = record {
+-- ---- a value is loaded
+
+-- what is loaded of a row's values is the one at the place
+pub loaded_is : (row : List Kept) (values : List Value) (q : List Out) (place : Option ℕ) → map (kept_out q) row ≡ map Good values → out_loaded q (kept_at row place) ≡ Good (value_at values place)
+loaded_is row values q None e = refl
+loaded_is row values q (Some place) e = by row values place e
+  where
+    by : (row : List Kept) (values : List Value) (k : ℕ) → map (kept_out q) row ≡ map Good values → out_loaded q (slice_get row k) ≡ Good (slice_index_or values k Null)
+    by [] [] k e = refl
+    by [] (v ∷ values) k e = cc
+    by (x ∷ row) [] k e = cc
+    by (x ∷ row) (v ∷ values) zero e = cc
+    by (x ∷ row) (v ∷ values) (suc k) e = by row values k (cc)
+
+-- by one instruction
+pub loads_op : (calls : Calls) (d : Draft) (o : Op) (to : ℕ) (k : Option Kept) → GoesOn o → to < d.next → d.next ≤ d.most → ((m : Setting) (at : ℕ → ℕ) (s : State) → act m (Some (placed at o)) s ≡ put s to (out_loaded s.regs k)) → Loads calls d (with_op d o) to k
+loads_op calls d o to k plain lt counted law = record {
+  grows = g_op d o;
+  next = refl;
+  steady = st_op [] [] d o plain;
+  loads = λ m called u at h s room start.
+      let v = out_loaded s.regs k in
+      let last : State = record s { pc = length d.code + 1; regs = slice_set s.regs to v } in
+      let way : Reaches m 1 s last = reaches_op m s last u (length d.code) (placed at o) room.unit start (at_op d o m.prog u at h) (law m at s ∙ ap (λ p. On (record s { pc = p + 1; regs = slice_set s.regs to v })) start) in
+      record {
+        regs = slice_set s.regs to v;
+        way = subst (λ p. Reaches m 1 s (record s { pc = p; regs = slice_set s.regs to v })) (sym (long_op d o)) way;
+        long = length-set s.regs to v;
+        has = get_or-set_same s.regs to v _ (omega (arith, room.regs, lt, counted));
+        keeps = λ j below ne. get_or-set_other s.regs to j v _ ne;
+      };
+}
+
+pub loads_null : (calls : Calls) (d : Draft) (to : ℕ) → to < d.next → d.next ≤ d.most → Loads calls d (with_op d (op.Null to)) to None
+loads_null calls d to lt counted = loads_op calls d (op.Null to) to None (refl, refl) lt counted (λ m at s. refl)
+
+pub loads_register : (calls : Calls) (d : Draft) (r to : ℕ) → to < d.next → d.next ≤ d.most → Loads calls d (with_op d (op.Copy r to)) to (Some (kept.Register r))
+loads_register calls d r to lt counted =
+    loads_op calls d (op.Copy r to) to (Some (kept.Register r)) (refl, refl) lt counted (λ m at s. refl)
+
+-- by the code of a literal
+pub loads_literal : {calls : Calls} {a b : Draft} (to : ℕ) (k : Kept) (l : Literal) → ((regs : List Out) → kept_out regs k ≡ literal_out l) → Leaves calls a b to (λ env. literal_out l) (λ env. 1) → Loads calls a b to (Some k)
+loads_literal to k l is x = record {
+  grows = x.grows;
+  next = x.next;
+  steady = x.steady;
+  loads = λ m called u at h s room start.
+      let y = x.leaves m called u at h s room start in
+      record {
+        regs = y.regs;
+        way = y.way;
+        long = y.long;
+        has = y.has ∙ sym (is s.regs);
+        keeps = y.keeps;
+      };
+}
+
+-- ---- columns
+
+pub stores_none : (calls : Calls) (a : Draft) (causes : ℕ) (row : List Kept) → a.next ≤ a.most → Stores calls a a causes row []
+stores_none calls a causes row counted = record {
   grows = grows_none a;
   next = omega arith;
   counted = counted;
   steady = st_none [] [] a;
-  stores = λ m called u at h s room start. record {
+  stores = λ m called u at h s room start values kept_now. record {
     regs = s.regs;
     way = subst (λ p. Reaches m 0 s (record s { pc = p })) start (reaches_none m s);
     long = refl;
@@ -53,65 +121,95 @@ outs_append r (suc n) k first =
     ∙ ap (λ l. read r first ∷ l) (outs_append r n k (first + 1))
     ∙ ap (λ j. read r first ∷ (outs_from r (first + 1) n ++ outs_from r j k)) place
 
+outs_both : (r : List Out) (first : ℕ) (os ps : List Out) → outs_from r first (length os) ≡ os → outs_from r (first + length os) (length ps) ≡ ps → outs_from r first (length (os ++ ps)) ≡ os ++ ps
+outs_both r first os ps old new =
+    ap (outs_from r first) (length-append os ps)
+    ∙ outs_append r (length os) (length ps) first
+    ∙ ap (λ z. z ++ outs_from r (first + length os) (length ps)) old
+    ∙ ap (λ z. os ++ z) new
+
+-- as many as there are columns
+pub stored-long : (columns : List PutColumn) (values : List Value) → length (stored_as columns values) ≡ length columns
+stored-long columns values = length-map columns (λ (c : PutColumn). store_as c.affinity (value_at values c.place))
+
 -- some columns and then others
-pub stores_then : {calls : Calls} {a b c : Draft} (causes : ℕ) (xs ys : List Out) → causes < a.next → Stores calls a b causes xs → Stores calls b c causes ys → Stores calls a c causes (xs ++ ys)
-stores_then {calls} {a} {b} {c} causes xs ys below x y = record {
+pub stores_then : {calls : Calls} {a b c : Draft} (causes : ℕ) (row : List Kept) (xs ys : List PutColumn) → causes < a.next → Stores calls a b causes row xs → Stores calls b c causes row ys → Stores calls a c causes row (xs ++ ys)
+stores_then {calls} {a} {b} {c} causes row xs ys below x y = record {
   grows = grows_then x.grows y.grows;
   next = omega (arith, x.next, y.next, length-append xs ys);
   counted = y.counted;
   steady = st_then x.grows x.steady y.steady;
-  stores = λ m called u at h s room start.
-      let l = x.stores m called u at (y.grows.holds m.prog u at h) s (ready_less room y.grows.most y.grows.cursors) start in
+  stores = λ m called u at h s room start values kept_now.
+      let os = stored_as xs values in
+      let ps = stored_as ys values in
+      let outs : stored_as (xs ++ ys) values ≡ os ++ ps = map-append (λ (c : PutColumn). store_as c.affinity (value_at values c.place)) xs ys in
+      let long_os : length os ≡ length xs = stored-long xs values in
+      let long_ps : length ps ≡ length ys = stored-long ys values in
+      let l = x.stores m called u at (y.grows.holds m.prog u at h) s (ready_less room y.grows.most y.grows.cursors) start values kept_now in
       let t : State = record s { pc = length b.code; regs = l.regs } in
-      let v = y.stores m called u at h t (record { unit = room.unit; regs = omega (arith, room.regs, l.long); cursors = room.cursors; sound = room.sound }) refl in
-      let old : outs_from v.regs a.next (length xs) ≡ xs = outs_same v.regs l.regs (length xs) a.next (λ k le lt. v.keeps k (omega (arith, x.next, lt)) (omega (arith, le, below))) ∙ l.has in
-      let new : outs_from v.regs (a.next + length xs) (length ys) ≡ ys = ap (λ j. outs_from v.regs j (length ys)) (sym x.next) ∙ v.has in
+      let kept_then : AreKept causes b.next row values t.regs = λ q same. kept_now q (λ k lt ne. same k (omega (arith, lt, x.next)) ne ∙ l.keeps k lt ne) in
+      let v = y.stores m called u at h t (record { unit = room.unit; regs = omega (arith, room.regs, l.long); cursors = room.cursors; sound = room.sound }) refl values kept_then in
+      let old : outs_from v.regs a.next (length os) ≡ os = outs_same v.regs l.regs (length os) a.next (λ k le lt. v.keeps k (omega (arith, x.next, lt, long_os)) (omega (arith, le, below))) ∙ l.has in
+      let place : a.next + length os ≡ b.next = omega (arith, x.next, long_os) in
+      let new : outs_from v.regs (a.next + length os) (length ps) ≡ ps = ap (λ j. outs_from v.regs j (length ps)) place ∙ v.has in
       record {
         regs = v.regs;
         way = leads_more m (3 * length (xs ++ ys)) (omega (arith, length-append xs ys)) (leads_then m l.way v.way);
         long = v.long ∙ l.long;
-        has = ap (outs_from v.regs a.next) (length-append xs ys) ∙ outs_append v.regs (length xs) (length ys) a.next ∙ ap (λ z. z ++ outs_from v.regs (a.next + length xs) (length ys)) old ∙ ap (λ z. xs ++ z) new;
-        gathers = v.gathers ∙ ap (λ o. fold with_causes o ys) l.gathers ∙ sym (fold-append with_causes (read s.regs causes) xs ys);
+        has = subst (λ z. outs_from v.regs a.next (length z) ≡ z) (sym outs) (outs_both v.regs a.next os ps old new);
+        gathers = v.gathers ∙ ap (λ o. fold with_causes o ps) l.gathers ∙ sym (fold-append with_causes (read s.regs causes) os ps) ∙ ap (fold with_causes (read s.regs causes)) (sym outs);
         keeps = λ k lt ne. v.keeps k (omega (arith, x.next, lt)) ne ∙ l.keeps k lt ne;
       };
 }
 
 -- one column
-pub stores_column : (calls : Calls) (a z : Draft) (affinity : Affinity) (l : Literal) (to causes : ℕ) → to ≡ a.next → causes < a.next → a.next ≤ a.most → Leaves calls (taken a) z to (λ env. literal_out l) (λ env. 1) → Stores calls a (with_op (with_op z (op.Affinity to affinity)) (op.Merge to causes)) causes (turned (store_as affinity) (literal_out l) ∷ [])
-stores_column calls a z affinity l to causes to_is below counted x =
-    let out = turned (store_as affinity) (literal_out l) in
-    let b = with_op z (op.Affinity to affinity) in
-    let y : Leaves calls (taken a) b to (λ env. out) (λ env. 1 + 1) = leaves_one calls (taken a) z (op.Affinity to affinity) to (λ env. literal_out l) (turned (store_as affinity)) (λ env. 1) (refl, refl) x (omega (arith, to_is)) (omega arith) (λ m at s. refl) in
+pub stores_column : {calls : Calls} {a z : Draft} (c : PutColumn) (row : List Kept) (to causes : ℕ) → to ≡ a.next → causes < a.next → a.next ≤ a.most → Loads calls (taken a) z to (kept_at row c.place) → Stores calls a (with_op (with_op z (op.Affinity to c.affinity)) (op.Merge to causes)) causes row (c ∷ [])
+stores_column {calls} {a} {z} c row to causes to_is below counted x =
+    let affinity = op.Affinity to c.affinity in
+    let merge = op.Merge to causes in
+    let b = with_op z affinity in
     record {
-      grows = grows_then (g_taken a) (grows_then y.grows (g_op b (op.Merge to causes)));
-      next = omega (arith, y.next);
-      counted = omega (arith, y.next, y.grows.most);
-      steady = st_then (g_taken a) (st_taken [] [] a) (st_then y.grows y.steady (st_op [] [] b (op.Merge to causes) (refl, refl)));
-      stores = λ m called u at h s room start.
-          let hb = (g_op b (op.Merge to causes)).holds m.prog u at h in
-          let q = y.leaves m called u at hb s (ready_less room (omega arith) (omega arith)) start in
-          let v = merged (read q.regs to) (read q.regs causes) in
-          let t : State = record s { pc = length b.code; regs = q.regs } in
-          let last : State = record t { pc = length b.code + 1; regs = slice_set q.regs causes v } in
-          let way : Reaches m 1 t last = reaches_op m t last u (length b.code) (op.Merge to causes) room.unit refl (at_op b (op.Merge to causes) m.prog u at h) refl in
-          let fits : causes < length q.regs = omega (arith, q.long, room.regs, y.grows.most, below, counted) in
-          let same : read q.regs causes ≡ read s.regs causes = q.keeps causes (omega arith) (omega (arith, to_is, below)) in
+      grows = grows_then (g_taken a) (grows_then x.grows (grows_then (g_op z affinity) (g_op b merge)));
+      next = omega (arith, x.next);
+      counted = omega (arith, x.next, x.grows.most);
+      steady = st_then (g_taken a) (st_taken [] [] a) (st_then x.grows x.steady (st_then (g_op z affinity) (st_op [] [] z affinity (refl, refl)) (st_op [] [] b merge (refl, refl))));
+      stores = λ m called u at h s room start values kept_now.
+          let out = store_as c.affinity (value_at values c.place) in
+          let hb = (g_op b merge).holds m.prog u at h in
+          let hz = (g_op z affinity).holds m.prog u at hb in
+          let l = x.loads m called u at hz s (ready_less room (omega arith) (omega arith)) start in
+          let long : to < length l.regs = omega (arith, l.long, room.regs, x.grows.most, to_is) in
+          let loaded : read l.regs to ≡ Good (value_at values c.place) = l.has ∙ loaded_is row values s.regs c.place (kept_now s.regs (λ k lt ne. refl)) in
+          let turned_out = turned (store_as c.affinity) (read l.regs to) in
+          let q = slice_set l.regs to turned_out in
+          let stored : read q to ≡ out = get_or-set_same l.regs to turned_out _ long ∙ ap (turned (store_as c.affinity)) loaded in
+          let v = merged (read q to) (read q causes) in
+          let t : State = record s { pc = length z.code; regs = l.regs } in
+          let then : State = record t { pc = length z.code + 1; regs = q } in
+          let then_at : State = record then { pc = length b.code } in
+          let last : State = record then { pc = length b.code + 1; regs = slice_set q causes v } in
+          let first_way : Reaches m 1 t then = reaches_op m t then u (length z.code) affinity room.unit refl (at_op z affinity m.prog u at hb) refl in
+          let first_at : Reaches m 1 t then_at = subst (λ p. Reaches m 1 t (record then { pc = p })) (sym (long_op z affinity)) first_way in
+          let way : Reaches m 1 then_at last = reaches_op m then_at last u (length b.code) merge room.unit refl (at_op b merge m.prog u at h) refl in
+          let fits : causes < length q = omega (arith, length-set l.regs to turned_out, long, to_is, below) in
+          let apart : causes ≢ to = omega (arith, to_is, below) in
+          let same : read q causes ≡ read s.regs causes = get_or-set_other l.regs to causes turned_out _ apart ∙ l.keeps causes (omega arith) apart in
           record {
-            regs = slice_set q.regs causes v;
-            way = subst (λ k. Reaches m 3 s (record s { pc = k; regs = slice_set q.regs causes v })) (sym (long_op b (op.Merge to causes))) (leads_more m 3 (omega arith) (leads_then m q.way way));
-            long = length-set q.regs causes v ∙ q.long;
-            has = ap (λ o. o ∷ []) (get_or-set_other q.regs causes a.next v _ (omega (arith, below)) ∙ ap (read q.regs) (sym to_is) ∙ q.has);
-            gathers = get_or-set_same q.regs causes v _ fits ∙ ap (λ o. merged o (read q.regs causes)) q.has ∙ ap (merged out) same;
-            keeps = λ k lt ne. get_or-set_other q.regs causes k v _ ne ∙ q.keeps k (omega arith) (omega (arith, to_is, lt));
+            regs = slice_set q causes v;
+            way = subst (λ p. Reaches m 3 s (record s { pc = p; regs = slice_set q causes v })) (sym (long_op b merge)) (leads_more m 3 (omega arith) (leads_then m l.way (leads_then m first_at way)));
+            long = length-set q causes v ∙ length-set l.regs to turned_out ∙ l.long;
+            has = ap (λ o. o ∷ []) (get_or-set_other q causes a.next v _ (omega (arith, below)) ∙ ap (read q) (sym to_is) ∙ stored);
+            gathers = get_or-set_same q causes v _ fits ∙ ap (λ o. merged o (read q causes)) stored ∙ ap (merged out) same;
+            keeps = λ k lt ne. get_or-set_other q causes k v _ ne ∙ get_or-set_other l.regs to k turned_out _ (omega (arith, to_is, lt)) ∙ l.keeps k (omega arith) (omega (arith, to_is, lt));
           };
     }
 
 -- code that stores columns, inside another stretch
-pub t_stores : (m : Setting) {calls : Calls} {a b : Draft} {causes : ℕ} {outs : List Out} (called : calls m) (g : Labels) (e : Last) (p q : Claim) → Stores calls a b causes outs → ((h0 h : Here) (regs : List Out) → p h0 h → length regs ≡ length h.regs → outs_from regs a.next (length outs) ≡ outs → read regs causes ≡ fold with_causes (read h.regs causes) outs → ((k : ℕ) → k < a.next → k ≢ causes → read regs k ≡ read h.regs k) → q h0 (with_regs h regs)) → Triple m a b (λ h0. 3 * length outs) g e p q
-t_stores m called g e p q x goes = record {
+pub t_stores : (m : Setting) {calls : Calls} {a b : Draft} {causes : ℕ} {row : List Kept} {columns : List PutColumn} (called : calls m) (values : List Value) (g : Labels) (e : Last) (p q : Claim) → Stores calls a b causes row columns → ((h0 h : Here) → p h0 h → AreKept causes a.next row values h.regs) → ((h0 h : Here) (regs : List Out) → p h0 h → length regs ≡ length h.regs → outs_from regs a.next (length (stored_as columns values)) ≡ stored_as columns values → read regs causes ≡ fold with_causes (read h.regs causes) (stored_as columns values) → SameBut causes a.next h.regs regs → q h0 (with_regs h regs)) → Triple m a b (λ h0. 3 * length columns) g e p q
+t_stores m called values g e p q x kept_now goes = record {
   extends = extends x.grows;
   runs = λ u at h h0 s room start pre.
-      let l = x.stores m called u at h s room start in
+      let l = x.stores m called u at h s room start values (kept_now h0 (here s) pre) in
       on (record {
         regs = l.regs;
         scene = s.scene;
@@ -124,27 +222,7 @@ t_stores m called g e p q x goes = record {
       });
 }
 
--- ---- column by column
-
-pub stored-more : (affinities : List Affinity) (row : List Literal) (i : ℕ) (a : Affinity) (l : Literal) → i < length affinities → i < length row → stored_literals (take i affinities) (take i row) ++ turned (store_as (get_or affinities i a)) (literal_out (get_or row i l)) ∷ [] ≡ stored_literals (take (suc i) affinities) (take (suc i) row)
-stored-more [] row i a l lt lt2 = absurd (omega arith)
-stored-more (x ∷ xs) [] i a l lt lt2 = absurd (omega arith)
-stored-more (x ∷ xs) (y ∷ ys) zero a l lt lt2 = refl
-stored-more (x ∷ xs) (y ∷ ys) (suc i) a l lt lt2 =
-    ap (λ z. turned (store_as x) (literal_out y) ∷ z) (stored-more xs ys i a l (omega arith) (omega arith))
-
-pub stored-all : (affinities : List Affinity) (row : List Literal) (i : ℕ) → i ≡ min (length affinities) (length row) → stored_literals (take i affinities) (take i row) ≡ stored_literals affinities row
-stored-all [] row i e =
-    let none : i ≡ 0 = omega (arith, e) in
-    ap (λ n. stored_literals (take n []) (take n row)) none
-stored-all (x ∷ xs) [] i e =
-    let none : i ≡ 0 = omega (arith, e) in
-    ap (λ n. stored_literals (take n (x ∷ xs)) (take n [])) none
-stored-all (x ∷ xs) (y ∷ ys) zero e = absurd (omega arith)
-stored-all (x ∷ xs) (y ∷ ys) (suc i) e =
-    ap (λ z. turned (store_as x) (literal_out y) ∷ z) (stored-all xs ys i (omega (arith, e)))
-
-pub stored-short : (affinities : List Affinity) (row : List Literal) → length (stored_literals affinities row) ≤ length row
-stored-short [] row = omega arith
-stored-short (a ∷ affinities) [] = omega arith
-stored-short (a ∷ affinities) (l ∷ row) = omega (arith, stored-short affinities row)
+-- the next column
+pub stores_next : {calls : Calls} {a b c : Draft} (causes : ℕ) (row : List Kept) (columns : List PutColumn) (i : ℕ) (default : PutColumn) → causes < a.next → i < length columns → Stores calls a b causes row (take i columns) → Stores calls b c causes row (get_or columns i default ∷ []) → Stores calls a c causes row (take (i + 1) columns)
+stores_next {calls} {a} {b} {c} causes row columns i default below lt x y =
+    subst (Stores calls a c causes row) (sym (take_more columns i default lt)) (stores_then causes row (take i columns) (get_or columns i default ∷ []) below x y)

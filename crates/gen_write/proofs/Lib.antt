@@ -1,7 +1,10 @@
-mod Courses
-mod Sources
-mod Columns
+mod Causing
+mod Seeing
 mod Refusals
+pub mod Sizing
+mod Keeping
+mod Columns
+mod Courses
 mod RowRuns
 mod RowCode
 mod Whole

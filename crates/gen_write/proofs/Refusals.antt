@@ -1,117 +1,81 @@
--- The program of a bad row ends with its causes.
-use Rattle.std.proofs.Common.{◌≡◌, ℕ, ◌+◌, ◌*◌, ◌≤◌, ◌<◌, List, [], ◌∷◌, ◌++◌, length, map, fold, refl, sym, ap, ◌∙◌, arith}
-use Rattle.std.proofs.lemmas.List.{map-append}
-use Rattle.std.proofs.lemmas.List.Sums.{fold-append}
-use Rattle.eng_value.specs.Applied.{merged}
-use Rattle.eng_value.specs.Environments.{Environment, no_causes, with_causes}
-use Rattle.eng_value.specs.declared.out.Out.{Out}
-use Rattle.eng_value.specs.declared.out.Out.TheVariants.{Good, Bad}
-use Rattle.gen_write.specs.Stretches.{causes_in, left_with, refused_run}
-use Rattle.gen_write.specs.Writes.{run_by, untouched}
-use Rattle.sql_meaning.specs.Expression.{literal_out}
-use Rattle.sql_meaning.specs.declared.bound.Literal.{Literal}
-use Rattle.vm_code.specs.declared.op.Op.{Op}
+-- The code behind which a register is not bad.
+use Rattle.std.proofs.Common.{◌≡◌, ◌≢◌, ℕ, ◌<◌, List, [], ◌∷◌, true, false, length, Some, None, refl, ap, ◌∙◌, arith, inl, inr}
+use Rattle.std.specs.Prelude.{slice_get}
+use Rattle.gen_write.specs.Stretches.{with_bad_refused}
 use Rattle.vm_code.specs.declared.op.Op.TheVariants as op
-use Rattle.vm_code.specs.declared.program.Program.{Program}
-use Rattle.vm_code.specs.Draft.{Draft, begun, with_op, taken, given_back}
-use Rattle.vm_code.specs.Machine.{Setting, Shared, Performs, leaving_of, read, world_of}
-use Rattle.vm_code.specs.Frames.{Calls, no_calls, Here, Leaves, IsProgramOf, environment_of}
-use Rattle.vm_code.specs.Balanced.{IsBalanced}
-use Rattle.vm_code.specs.Claims.{Claim, Last, Triple}
-use Rattle.vm_code.proofs.Drafts.{g_given_back, g_op, g_taken, grows_then}
-use Rattle.vm_code.proofs.Tracks.{st_given_back, st_op, st_taken, st_then}
-use Rattle.vm_code.proofs.Triples.{no_labels, no_last, t_seq, t_more, t_draft, t_halt_bad}
-use Rattle.vm_code.proofs.Effects.{t_leaves, t_put, leaves_of, but_env, but_none, but_regs}
-use Rattle.vm_code.proofs.Values.{has, kept, leaves_op, leaves_same, t_value}
-use Rattle.vm_code.proofs.Balancing.{balanced_of}
-use Rattle.vm_code.proofs.Whole.{Begins, EndsAs, ending_of, performs_of}
+use Rattle.vm_code.specs.Draft.{Draft, bound, with_label, with_op}
+use Rattle.vm_code.specs.Tracked.{Steady}
+use Rattle.vm_code.specs.Machine.{Setting, is_bad, leaving_of, read}
+use Rattle.vm_code.specs.Frames.{Grows, Here}
+use Rattle.vm_code.specs.Claims.{Claim, Labels, Last, Triple}
+use Rattle.vm_code.proofs.Drafts.{g_bound, g_label, g_op, grows_then, long_label, open_new, open_old, open_other}
+use Rattle.vm_code.proofs.Tracks.{has-bound, place-bound, st_fork, st_goto, st_leave, st_made, st_on, st_then}
+use Rattle.vm_code.proofs.Triples.{no_labels, with_claim, t_seq, t_more, t_draft, t_test, t_goto, t_bind, t_halt_bad}
 
--- ---- the causes of literals
+-- the label behind it has no place yet when that of what is bad got its own
+pub behind_open : (d x z : Draft) (fail next : ℕ) → next ≡ length d.labels → fail ≡ length (with_label d).labels → x.labels ≡ (with_label (with_label d)).labels → z.labels ≡ (bound x fail).labels → slice_get z.labels next ≡ Some None
+behind_open d x z fail next next_is fail_is x_is z_is =
+    let apart : next ≢ fail = λ same. absurd (omega (arith, same, next_is, fail_is, long_label d)) in
+    let before = ap (λ l. slice_get l next) x_is ∙ ap (slice_get (with_label (with_label d)).labels) next_is ∙ open_old (with_label d) (length d.labels) (open_new d) in
+    ap (λ l. slice_get l next) z_is ∙ open_other x fail next apart before
 
-pub leaves_no_causes : (calls : Calls) (d : Draft) (causes : ℕ) → causes < d.next → d.next ≤ d.most → Leaves calls d (with_op d (op.Null causes)) causes (λ env. causes_in []) (λ env. 1)
-leaves_no_causes calls d causes lt counted =
-    leaves_op calls d (op.Null causes) causes (λ env. no_causes) (refl, refl) lt counted (λ m at s. refl)
+module _ (d : Draft) (causes : ℕ) where
+  abbrev next : ℕ
+  next = length d.labels
 
--- what stands in a register that is taken for it is merged into what was there before
-leaves_merged : {calls : Calls} {a b z : Draft} {f g : Environment → Out} {i n : Environment → ℕ} (causes value : ℕ) → causes < a.next → a.next ≤ a.most → value ≡ b.next → Leaves calls a b causes f i → Leaves calls (taken b) z value g n → Leaves calls a (given_back (with_op z (op.Merge value causes))) causes (λ env. with_causes (f env) (g env)) (λ env. i env + n env + 1)
-leaves_merged {calls} {a} {b} {z} {f} {g} {i} {n} causes value lt counted is_next x y =
-    leaves_of causes both (kept a.next causes) (grows_then x.grows (grows_then (g_taken b) (grows_then y.grows (grows_then (g_op z merge) (g_given_back (with_op z merge)))))) (omega (arith, x.next, y.next)) (st_then x.grows x.steady (st_then (g_taken b) (st_taken [] [] b) (st_then y.grows y.steady (st_then (g_op z merge) (st_op [] [] z merge (refl, refl)) (st_given_back [] [] (with_op z merge)))))) (λ h. but_none a.next causes h) all
-  where
-    merge : Op
-    merge = op.Merge value causes
+  abbrev fail : ℕ
+  fail = length (with_label d).labels
 
-    both : Environment → Out
-    both env = with_causes (f env) (g env)
+  abbrev labelled : Draft
+  labelled = with_label (with_label d)
 
-    all : (m : Setting) → calls m → Triple m a (given_back (with_op z merge)) (λ h0. i (environment_of m h0) + n (environment_of m h0) + 1) no_labels no_last (kept a.next causes) (has m a.next causes both)
-    all m called =
-        let first = has m a.next causes f in
-        let second : Claim = λ h0 h. first h0 h × (read h.regs value ≡ g (environment_of m h0)) in
-        let gathered = t_value m called a.next no_labels no_last (kept a.next causes) (omega arith) (λ h0 h pre. pre) x in
-        let take = t_draft m no_labels no_last first (g_taken b) refl in
-        let other : Triple m (taken b) z (λ h0. n (environment_of m h0)) no_labels no_last first second = t_leaves m called no_labels no_last first second y (λ h0 h pre. but_env m pre.0) (λ h0 h regs pre long is same.
-        ((but_regs regs (λ k below ne. same k (omega (arith, x.next)) (omega (arith, is_next, x.next))) pre.0, same causes (omega (arith, x.next)) (omega (arith, is_next, x.next)) ∙ pre.1), is ∙ ap g (but_env m pre.0))) in
-        let last : Triple m z (with_op z merge) (λ h0. 1) no_labels no_last second (has m a.next causes both) = t_put m z merge causes (λ h. merged (read h.regs value) (read h.regs causes)) no_labels no_last second (has m a.next causes both) (omega (arith, x.grows.most, y.grows.most)) (λ at s. refl) (λ h0 h regs pre long is same.
-        (but_regs regs (λ k below ne. same k ne) pre.0.0, is ∙ ap (λ v. merged v (read h.regs causes)) pre.1 ∙ ap (merged (g (environment_of m h0))) pre.0.1)) in
-        let back = t_draft m no_labels no_last (has m a.next causes both) (g_given_back (with_op z merge)) refl in
-        t_more (λ h0. i (environment_of m h0) + n (environment_of m h0) + 1) (λ h0. omega arith) (t_seq (t_seq (t_seq (t_seq gathered take) other) last) back)
+  abbrev testing : Draft
+  testing = with_op labelled (op.IsBad causes fail)
 
-causes_in-last : (row : List Literal) (l : Literal) → with_causes (causes_in row) (literal_out l) ≡ causes_in (row ++ l ∷ [])
-causes_in-last row l =
-    sym (ap (fold with_causes no_causes) (map-append literal_out row (l ∷ [])) ∙ fold-append with_causes no_causes (map literal_out row) (literal_out l ∷ []))
+  abbrev leaving : Draft
+  leaving = with_op testing (op.Goto next)
 
--- one literal more
-pub leaves_causes : {calls : Calls} {a b z : Draft} (causes value n k : ℕ) (row : List Literal) (l : Literal) → value ≡ b.next → causes < a.next → a.next ≤ a.most → n + 2 ≡ k → Leaves calls a b causes (λ env. causes_in row) (λ env. n) → Leaves calls (taken b) z value (λ env. literal_out l) (λ env. 1) → Leaves calls a (given_back (with_op z (op.Merge value causes))) causes (λ env. causes_in (row ++ l ∷ [])) (λ env. k)
-leaves_causes causes value n k row l is lt counted cost x y =
-    leaves_same (λ env. causes_in (row ++ l ∷ [])) (λ env. k) (λ env. causes_in-last row l) (λ env. omega (arith, cost)) (leaves_merged causes value lt counted is x y)
+  abbrev halting : Draft
+  halting = with_op (bound leaving fail) (op.HaltBad causes)
 
--- ---- the program
+  next_below : next < fail
+  next_below = omega (arith, long_label d)
 
--- what is shared at the start of a run
-abbrev pub first_shared : Here → Shared
-first_shared h0 = untouched (world_of h0.shared) h0.shared.written.last_rowid
+  fail_open : slice_get leaving.labels fail ≡ Some None
+  fail_open = open_new (with_label d)
 
-pub untouched_is : {cursors : ℕ} (h0 h : Here) → (h ≡ h0) × Begins cursors h0 → h.shared ≡ first_shared h0
-untouched_is h0 h pre = ap (λ (q : Here). q.shared) pre.0 ∙ pre.1.shared
+  next_open : slice_get halting.labels next ≡ Some None
+  next_open =
+      open_other leaving fail next (λ e. absurd (omega (arith, e, next_below))) (open_old (with_label d) next (open_new d))
 
-ending_left : (out : Out) (x : Shared) → ending_of (leaving_of out) ≡ (run_by (left_with out x)).ending
-ending_left (Good v) x = refl
-ending_left (Bad causes) x = refl
+  grows_labelled : Grows d labelled
+  grows_labelled = grows_then (g_label d) (g_label (with_label d))
 
-shared_left : (out : Out) (x : Shared) → (run_by (left_with out x)).shared ≡ x
-shared_left (Good v) x = refl
-shared_left (Bad causes) x = refl
+  grows_leaving : Grows d leaving
+  grows_leaving =
+      grows_then grows_labelled (grows_then (g_op labelled (op.IsBad causes fail)) (g_op testing (op.Goto next)))
 
-module _ (z : Draft) (row : List Literal) (x : Leaves no_calls (taken (begun [])) z 0 (λ env. causes_in row) (λ env. 2 * length row + 1)) where
-  abbrev refusing : Draft
-  refusing = with_op z (op.HaltBad 0)
+  pub grows_refused : Grows d (with_bad_refused d causes)
+  grows_refused =
+      g_bound halting next (grows_then (g_bound leaving fail grows_leaving (omega (arith, next_below)) fail_open) (g_op (bound leaving fail) (op.HaltBad causes))) (omega arith) next_open
 
-  abbrev start : Claim
-  start h0 h = (h ≡ h0) × Begins refusing.cursors h0
+  abbrev inside : List ℕ
+  inside = fail ∷ next ∷ []
 
-  abbrev known : Claim
-  known h0 h = (h.shared ≡ first_shared h0) × (read h.regs 0 ≡ causes_in row)
+  pub steady_refused : (uses : List ℕ) → Steady uses [] d (with_bad_refused d causes)
+  steady_refused uses =
+      st_made next refl (place-bound halting next next_open) (st_made fail refl (has-bound halting next fail (place-bound leaving fail fail_open)) (st_then (g_op labelled (op.IsBad causes fail)) (st_fork uses inside labelled (op.IsBad causes fail) fail refl refl (inl refl)) (st_on (λ l xs m. m) (st_goto uses inside testing next fail (inr (inl refl)) (inl refl)) (st_leave uses inside (bound leaving fail) (op.HaltBad causes) next refl refl (inr (inl refl))))))
 
-  module _ (m : Setting) where
-    abbrev last : Last
-    last = EndsAs m (refused_run row)
-
-    gathers : Triple m (begun []) z (λ h0. 2 * length row + 1) no_labels last start known
-    gathers =
-        let take = t_draft m no_labels last start (g_taken (begun [])) refl in
-        let leave = t_leaves m tt no_labels last start known x (λ h0 h pre. ap (environment_of m) pre.0) (λ h0 h regs pre long is same.
-        (untouched_is h0 h pre, is)) in
-        t_more (λ h0. 2 * length row + 1) (λ h0. omega arith) (t_seq take leave)
-
-    ends : Triple m (begun []) refusing (λ h0. 2 * length row + 2) no_labels last start (λ h0 h. ⊥)
-    ends =
-        let halt = t_halt_bad m z 0 no_labels last known (λ h0 h pre.
-        (ap (λ o. ending_of (leaving_of o)) pre.1 ∙ ending_left (causes_in row) (first_shared h0), pre.0 ∙ sym (shared_left (causes_in row) (first_shared h0)))) in
-        t_more (λ h0. 2 * length row + 2) (λ h0. omega arith) (t_seq gathers halt)
-
-  pub refusal-performs : (p : Program) → IsProgramOf refusing p → Performs p (refused_run row) (λ x. 2 * length row + 2)
-  refusal-performs p is = performs_of [] refusing p (refused_run row) (λ x. 2 * length row + 2) is ends
-
-  pub refusal-balanced : (p : Program) → IsProgramOf refusing p → IsBalanced p.main
-  refusal-balanced p is =
-      balanced_of [] z (op.HaltBad 0) p (st_then (g_taken (begun [])) (st_taken [] [] (begun [])) x.steady) refl refl is
+  -- where it is bad the unit gives up for its causes
+  pub t_refused : (m : Setting) (e : Last) (p q : Claim) → ((h0 h : Here) → p h0 h → is_bad (read h.regs causes) ≡ false → q h0 h) → ((h0 h : Here) → p h0 h → is_bad (read h.regs causes) ≡ true → e h0 (leaving_of (read h.regs causes)) h.shared) → Triple m d (with_bad_refused d causes) (λ h0. 3) no_labels e p q
+  t_refused m e p q goes fails =
+      let good : Claim = λ h0 h. p h0 h × (is_bad (read h.regs causes) ≡ false) in
+      let bad_now : Claim = λ h0 h. p h0 h × (is_bad (read h.regs causes) ≡ true) in
+      let inner : Labels = with_claim next q no_labels in
+      let innermost : Labels = with_claim fail bad_now inner in
+      let label = t_draft m innermost e p grows_labelled refl in
+      let jump = t_test m labelled (op.IsBad causes fail) fail (λ h. is_bad (read h.regs causes)) innermost e p good (λ at s. refl) (λ h0 h pre b. inl (refl, (pre, b))) (λ h0 h pre b. (pre, b)) in
+      let go = t_goto m testing next innermost e good (λ h0 h pre. inr (inl (refl, goes h0 h pre.0 pre.1))) in
+      let at_fail = t_bind fail bad_now fail_open (λ h0 h no. absurd no) (t_seq (t_seq label jump) go) in
+      let halt = t_halt_bad m (bound leaving fail) causes inner e bad_now (λ h0 h pre. fails h0 h pre.0 pre.1) in
+      t_more (λ h0. 3) (λ h0. omega arith) (t_bind next q next_open (λ h0 h no. absurd no) (t_seq at_fail halt))

@@ -1,14 +1,17 @@
 -- The code of rows, one after the other.
-use Rattle.std.proofs.Common.{◌≡◌, ℕ, ◌+◌, ◌≤◌, ◌<◌, List, [], ◌∷◌, ◌++◌, length, sum_by, Some, None, refl, sym, ◌∙◌, subst, arith}
+use Rattle.std.proofs.Common.{◌≡◌, ℕ, zero, suc, ◌+◌, ◌*◌, ◌≤◌, ◌<◌, List, [], ◌∷◌, ◌++◌, length, map, take, get_or, Some, None, refl, sym, ap, ◌∙◌, subst, arith}
 use Rattle.std.specs.declared.option.Option.{Option}
-use Rattle.std.proofs.lemmas.List.Sums.{sum_by_push}
+use Rattle.std.proofs.lemmas.List.{length-map, take_all, take_more}
 use Rattle.eng_value.specs.Causes.{CauseSet}
+use Rattle.eng_value.specs.Environments.{no_causes}
 use Rattle.eng_value.specs.declared.out.Out.{Out}
-use Rattle.gen_write.specs.Stretches.{Puts, Ran, and_on, literals_put, literals_run, unless_failed}
-use Rattle.gen_write.specs.Writes.{Course, failed, finished, row_steps}
-use Rattle.gen_write.proofs.Courses.{literals_run-last}
+use Rattle.eng_value.specs.declared.out.Out.TheVariants.{Good}
+use Rattle.eng_value.specs.declared.value.Value.{Value}
+use Rattle.gen_write.specs.Stretches.{AreAllKept, AreKept, Puts, Ran, SameBut, and_on, kept_out, row_course, unless_failed}
+use Rattle.gen_write.specs.Writes.{Course, failed, finished, row_steps, rows_run}
+use Rattle.gen_write.specs.declared.source.Kept.{Kept}
+use Rattle.gen_write.proofs.Courses.{rows_run-last}
 use Rattle.sql_meaning.specs.declared.bound.BoundInsert.{BoundInsert}
-use Rattle.sql_meaning.specs.declared.bound.Literal.{Literal}
 use Rattle.vm_code.specs.Draft.{Draft}
 use Rattle.vm_code.specs.Tracked.{Steady}
 use Rattle.vm_code.specs.Machine.{IsSound, Shared, Setting, State, GivesUp, Open, Reaches, Leads, cursor_at, leads_to, read, world_of}
@@ -22,104 +25,129 @@ use Rattle.vm_code.proofs.Triples.{no_labels, ready_less}
 
 -- ---- one course and then another
 
-pub puts_none : (calls : Calls) (a : Draft) (cursor table : ℕ) → Puts calls a a cursor table finished 0
-puts_none calls a cursor table = record {
+pub puts_none : (calls : Calls) (a : Draft) (cursor causes : ℕ) (b : BoundInsert) (source : List (List Kept)) (width : ℕ) → Puts calls a a cursor b.table causes (AreAllKept causes a.next source) (λ rows. rows_run b (take 0 rows)) (0 * row_steps width)
+puts_none calls a cursor causes b source width = record {
   grows = grows_none a;
   next = refl;
   steady = st_none (cursor ∷ []) [] a;
-  puts = λ m called u at h s room start opened. record {
+  puts = λ m called u at h s room start opened calm rows kept_now. record {
     regs = s.regs;
-    way = subst (λ p. Reaches m 0 s (record s { pc = p })) start (reaches_none m s);
+    way = leads_more m (0 * row_steps width) (omega arith) (subst (λ p. Reaches m 0 s (record s { pc = p })) start (reaches_none m s));
     long = refl;
-    keeps = λ k lt. refl;
+    calm = calm;
+    keeps = λ k lt ne. refl;
   };
 }
 
-ran_then : (m : Setting) (i n : ℕ) (s : State) (p1 p2 mark : ℕ) (o : Option CauseSet) (x : Shared) (f : Shared → Course) → IsSound (world_of s.shared) → Ran m i s p1 mark o x → ((regs : List Out) → length regs ≡ length s.regs → IsSound (world_of x) → Ran m n (record s { pc = p1; regs = regs; shared = x }) p2 mark (f x).causes (f x).shared) → Ran m (i + n) s p2 mark (unless_failed o x f).causes (unless_failed o x f).shared
-ran_then m i n s p1 p2 mark (Some causes) x f up z next = leads_more m (i + n) (omega arith) z
-ran_then m i n s p1 p2 mark None x f up l next = by (f x).causes (f x).shared (next l.regs l.long (sound_after l.way up))
+ran_then : (m : Setting) (i n : ℕ) (s : State) (p1 p2 mark causes : ℕ) (o : Option CauseSet) (x : Shared) (f : Shared → Course) → IsSound (world_of s.shared) → Ran m i s p1 mark causes o x → ((regs : List Out) → length regs ≡ length s.regs → read regs causes ≡ no_causes → SameBut causes mark s.regs regs → IsSound (world_of x) → Ran m n (record s { pc = p1; regs = regs; shared = x }) p2 mark causes (f x).causes (f x).shared) → Ran m (i + n) s p2 mark causes (unless_failed o x f).causes (unless_failed o x f).shared
+ran_then m i n s p1 p2 mark causes (Some why) x f up z next = leads_more m (i + n) (omega arith) z
+ran_then m i n s p1 p2 mark causes None x f up l next =
+    by (f x).causes (f x).shared (next l.regs l.long l.calm l.keeps (sound_after l.way up))
   where
-    by : (o : Option CauseSet) (y : Shared) → Ran m n (record s { pc = p1; regs = l.regs; shared = x }) p2 mark o y → Ran m (i + n) s p2 mark o y
-    by (Some causes) y z = leads_then m l.way z
+    by : (o : Option CauseSet) (y : Shared) → Ran m n (record s { pc = p1; regs = l.regs; shared = x }) p2 mark causes o y → Ran m (i + n) s p2 mark causes o y
+    by (Some why) y z = leads_then m l.way z
     by None y v = record {
       regs = v.regs;
       way = leads_then m l.way v.way;
       long = v.long ∙ l.long;
-      keeps = λ k lt. v.keeps k lt ∙ l.keeps k lt;
+      calm = v.calm;
+      keeps = λ k lt ne. v.keeps k lt ne ∙ l.keeps k lt ne;
     }
 
-pub puts_then : {calls : Calls} {a b d : Draft} {cursor table : ℕ} (f g : Shared → Course) (i n : ℕ) → Puts calls a b cursor table f i → Puts calls b d cursor table g n → Puts calls a d cursor table (λ x. and_on (f x) g) (i + n)
-puts_then {calls} {a} {b} {d} {cursor} {table} f g i n x y = record {
+-- what is kept of one row is part of what is kept of all
+row_kept : (f : List Kept → List Out) (source : List (List Kept)) (rows : List (List Value)) (i : ℕ) (row : List Kept) → map f source ≡ map (map Good) rows → i < length source → row ≡ get_or source i row → f row ≡ map Good (get_or rows i [])
+row_kept f [] rows i row e lt is = absurd (omega (arith, lt))
+row_kept f (k ∷ source) [] i row e lt is = cc
+row_kept f (k ∷ source) (v ∷ rows) zero row e lt is = ap f is ∙ cc
+row_kept f (k ∷ source) (v ∷ rows) (suc i) row e lt is = row_kept f source rows i row (cc) (omega arith) is
+
+-- there are as many rows as are kept
+rows_long : (causes mark : ℕ) (source : List (List Kept)) (rows : List (List Value)) (regs : List Out) → AreAllKept causes mark source rows regs → length source ≡ length rows
+rows_long causes mark source rows regs e =
+    sym (length-map source (map (kept_out regs))) ∙ ap length (e regs (λ k lt ne. refl)) ∙ length-map rows (map Good)
+
+-- one row more
+pub puts_row : {calls : Calls} {a b d : Draft} {cursor causes : ℕ} (insert : BoundInsert) (source : List (List Kept)) (i most : ℕ) (row : List Kept) → i < length source → row ≡ get_or source i row → Puts calls a b cursor insert.table causes (AreAllKept causes a.next source) (λ rows. rows_run insert (take i rows)) (i * most) → Puts calls b d cursor insert.table causes (AreKept causes b.next row) (row_course insert) most → Puts calls a d cursor insert.table causes (AreAllKept causes a.next source) (λ rows. rows_run insert (take (i + 1) rows)) ((i + 1) * most)
+puts_row {calls} {a} {b} {d} {cursor} {causes} insert source i most row lt is x y = record {
   grows = grows_then x.grows y.grows;
   next = y.next ∙ x.next;
   steady = st_then x.grows x.steady y.steady;
-  puts = λ m called u at h s room start opened.
-      ran_then m i n s (length b.code) (length d.code) a.next (f s.shared).causes (f s.shared).shared g room.sound (x.puts m called u at (y.grows.holds m.prog u at h) s (ready_less room y.grows.most y.grows.cursors) start opened) (λ regs long up.
-      let t : State = record s { pc = length b.code; regs = regs; shared = (f s.shared).shared } in
-      subst (λ k. Ran m n t (length d.code) k (g t.shared).causes (g t.shared).shared) x.next (y.puts m called u at h t (record { unit = room.unit; regs = omega (arith, room.regs, long); cursors = room.cursors; sound = up }) refl opened));
+  puts = λ m called u at h s room start opened calm rows kept_now.
+      let values = get_or rows i [] in
+      let first = rows_run insert (take i rows) in
+      let inside : i < length rows = omega (arith, lt, rows_long causes a.next source rows s.regs kept_now) in
+      let more : take (i + 1) rows ≡ take i rows ++ values ∷ [] = take_more rows i [] inside in
+      let all : and_on (first s.shared) (row_course insert values) ≡ rows_run insert (take (i + 1) rows) s.shared = rows_run-last insert (take i rows) values s.shared ∙ ap (λ l. rows_run insert l s.shared) (sym more) in
+      let both = ran_then m (i * most) most s (length b.code) (length d.code) a.next causes (first s.shared).causes (first s.shared).shared (row_course insert values) room.sound (x.puts m called u at (y.grows.holds m.prog u at h) s (ready_less room y.grows.most y.grows.cursors) start opened calm rows kept_now) (λ regs long calm_then same up.
+      let t : State = record s { pc = length b.code; regs = regs; shared = (first s.shared).shared } in
+      let row_now : AreKept causes b.next row values t.regs = λ q agree. row_kept (map (kept_out q)) source rows i row (kept_now q (λ k below ne. agree k (omega (arith, below, x.next)) ne ∙ same k below ne)) lt is in
+      subst (λ k. Ran m most t (length d.code) k causes (row_course insert values t.shared).causes (row_course insert values t.shared).shared) x.next (y.puts m called u at h t (record { unit = room.unit; regs = omega (arith, room.regs, long); cursors = room.cursors; sound = up }) refl opened calm_then values row_now)) in
+      let steps : i * most + most ≤ (i + 1) * most = omega arith in
+      ran_more m (i * most + most) ((i + 1) * most) steps s (length d.code) a.next causes (rows_run insert (take (i + 1) rows) s.shared).causes (rows_run insert (take (i + 1) rows) s.shared).shared (subst (λ (c : Course). Ran m (i * most + most) s (length d.code) a.next causes c.causes c.shared) all both);
 }
+  where
+    ran_more : (m : Setting) (i n : ℕ) → i ≤ n → (s : State) (place mark causes : ℕ) (o : Option CauseSet) (y : Shared) → Ran m i s place mark causes o y → Ran m n s place mark causes o y
+    ran_more m i n le s place mark causes (Some why) y z = leads_more m n le z
+    ran_more m i n le s place mark causes None y l =
+        record { regs = l.regs; way = leads_more m n le l.way; long = l.long; calm = l.calm; keeps = l.keeps }
 
--- the same of courses that agree
-pub puts_same : {calls : Calls} {a b : Draft} {cursor table i n : ℕ} (f g : Shared → Course) → ((x : Shared) → f x ≡ g x) → i ≤ n → Puts calls a b cursor table f i → Puts calls a b cursor table g n
-puts_same {calls} {a} {b} {cursor} {table} {i} {n} f g same le x = record {
+-- all rows
+pub puts_all : {calls : Calls} {a b : Draft} {cursor causes : ℕ} (insert : BoundInsert) (source : List (List Kept)) (i width : ℕ) → i ≡ length source → Puts calls a b cursor insert.table causes (AreAllKept causes a.next source) (λ rows. rows_run insert (take i rows)) (i * row_steps width) → Puts calls a b cursor insert.table causes (AreAllKept causes a.next source) (rows_run insert) (length source * row_steps width)
+puts_all {calls} {a} {b} {cursor} {causes} insert source i width i_is x = record {
   grows = x.grows;
   next = x.next;
   steady = x.steady;
-  puts = λ m called u at h s room start opened.
-      subst (λ (c : Course). Ran m n s (length b.code) a.next c.causes c.shared) (same s.shared) (more m s (f s.shared).causes (f s.shared).shared (x.puts m called u at h s room start opened));
+  puts = λ m called u at h s room start opened calm rows kept_now.
+      let whole : take i rows ≡ rows = take_all i rows (omega (arith, i_is, rows_long causes a.next source rows s.regs kept_now)) in
+      subst (λ l. Ran m (length source * row_steps width) s (length b.code) a.next causes (rows_run insert l s.shared).causes (rows_run insert l s.shared).shared) whole (subst (λ n. Ran m (n * row_steps width) s (length b.code) a.next causes (rows_run insert (take i rows) s.shared).causes (rows_run insert (take i rows) s.shared).shared) i_is (x.puts m called u at h s room start opened calm rows kept_now));
 }
-  where
-    more : (m : Setting) (s : State) (o : Option CauseSet) (y : Shared) → Ran m i s (length b.code) a.next o y → Ran m n s (length b.code) a.next o y
-    more m s None y l = record { regs = l.regs; way = leads_more m n le l.way; long = l.long; keeps = l.keeps }
-    more m s (Some causes) y z = leads_more m n le z
-
--- one row more
-pub puts_row : {calls : Calls} {a d z : Draft} {cursor : ℕ} (b : BoundInsert) (rows : List (List Literal)) (row : List Literal) → Puts calls a d cursor b.table (literals_run b rows) (sum_by row_steps rows) → Puts calls d z cursor b.table (literals_put b row) (row_steps row) → Puts calls a z cursor b.table (literals_run b (rows ++ row ∷ [])) (sum_by row_steps (rows ++ row ∷ []))
-puts_row b rows row x y =
-    puts_same (λ v. and_on (literals_run b rows v) (literals_put b row)) (literals_run b (rows ++ row ∷ [])) (literals_run-last b rows row) (omega (arith, sum_by_push row_steps rows row)) (puts_then (literals_run b rows) (literals_put b row) (sum_by row_steps rows) (row_steps row) x y)
 
 -- ---- as stretches
 
--- the machine came to the end with what the course finished with; the registers below the mark, and all else of the frame, are as they were
-pub record HasRun (course : Shared → Course) (mark : ℕ) (h0 h : Here) : Type 0 where
-  pub regs : (k : ℕ) → k < mark → read h.regs k ≡ read h0.regs k
+-- the machine came to the end with what the course finished with, and no causes; the other registers below the mark, and all else of the frame, are as they were
+pub record HasRun (course : Shared → Course) (mark causes : ℕ) (h0 h : Here) : Type 0 where
+  pub regs : SameBut causes mark h0.regs h.regs
+  pub calm : read h.regs causes ≡ no_causes
   pub scene : h.scene ≡ h0.scene
   pub store : h.store ≡ h0.store
   pub is : course h0.shared ≡ finished h.shared
 
 abbrev pub HasFailed : (Shared → Course) → Last
-HasFailed course h0 o x = (causes : CauseSet) × (o ≡ GivesUp causes) × (course h0.shared ≡ failed causes x)
+HasFailed course h0 o x = (why : CauseSet) × (o ≡ GivesUp why) × (course h0.shared ≡ failed why x)
 
 -- a stretch that takes the course
-pub puts_of : {calls : Calls} {a b : Draft} {most : ℕ} (cursor table : ℕ) (course : Shared → Course) (p : Claim) → Grows a b → b.next ≡ a.next → Steady (cursor ∷ []) [] a b → ((h : Here) → cursor_at h.scene.cursors cursor ≡ Open table None → p h h) → ((m : Setting) → calls m → Triple m a b (λ h0. most) no_labels (HasFailed course) p (HasRun course a.next)) → Puts calls a b cursor table course most
-puts_of {calls} {a} {b} {most} cursor table course p grows next steady begins x = record {
+pub puts_of : {X : Type 0} {calls : Calls} {a b : Draft} {most : ℕ} (cursor table causes : ℕ) (IsThere : X → List Out → Type 0) (course : X → Shared → Course) (p : X → Claim) → Grows a b → b.next ≡ a.next → Steady (cursor ∷ []) [] a b → ((x : X) (h : Here) → cursor_at h.scene.cursors cursor ≡ Open table None → read h.regs causes ≡ no_causes → IsThere x h.regs → p x h h) → ((m : Setting) → calls m → (x : X) → Triple m a b (λ h0. most) no_labels (HasFailed (course x)) (p x) (HasRun (course x) a.next causes)) → Puts calls a b cursor table causes IsThere course most
+puts_of {X} {calls} {a} {b} {most} cursor table causes IsThere course p grows next steady begins run = record {
   grows = grows;
   next = next;
   steady = steady;
-  puts = λ m called u at h s room start opened.
-      by m at s ((x m called).runs u at h (here s) s room start (begins (here s) opened));
+  puts = λ m called u at h s room start opened calm x kept_now.
+      by m at s x ((run m called x).runs u at h (here s) s room start (begins x (here s) opened calm kept_now));
 }
   where
-    by : (m : Setting) (at : ℕ → ℕ) (s : State) → Exits m at most (λ l h. ⊥) (HasFailed course (here s)) s (length b.code) (HasRun course a.next (here s)) → Ran m most s (length b.code) a.next (course s.shared).causes (course s.shared).shared
-    by m at s (off l h) = absurd h.holds
-    by m at s (ends o y z h) =
-        subst (λ (c : Course). Ran m most s (length b.code) a.next c.causes c.shared) (sym h.2) (subst (λ v. Leads m most s (leads_to v s.stack y)) h.1 z)
-    by m at s (on h) = subst (λ (c : Course). Ran m most s (length b.code) a.next c.causes c.shared) (sym h.holds.is) (record {
+    by : (m : Setting) (at : ℕ → ℕ) (s : State) (x : X) → Exits m at most (λ l h. ⊥) (HasFailed (course x) (here s)) s (length b.code) (HasRun (course x) a.next causes (here s)) → Ran m most s (length b.code) a.next causes (course x s.shared).causes (course x s.shared).shared
+    by m at s x (off l h) = absurd h.holds
+    by m at s x (ends o y z h) =
+        subst (λ (c : Course). Ran m most s (length b.code) a.next causes c.causes c.shared) (sym h.2) (subst (λ v. Leads m most s (leads_to v s.stack y)) h.1 z)
+    by m at s x (on h) = subst (λ (c : Course). Ran m most s (length b.code) a.next causes c.causes c.shared) (sym h.holds.is) (record {
       regs = h.regs;
       way = subst (λ y. Reaches m most s (there s (length b.code) h.regs s.scene y h.shared)) h.holds.store (subst (λ c. Reaches m most s (there s (length b.code) h.regs c h.store h.shared)) h.holds.scene h.way);
       long = h.long;
+      calm = h.holds.calm;
       keeps = h.holds.regs;
     })
 
--- code that takes a course, inside another stretch
-pub t_puts : (m : Setting) {calls : Calls} {a b : Draft} {cursor table most : ℕ} {course : Shared → Course} (called : calls m) (g : Labels) (e : Last) (p q : Claim) → Puts calls a b cursor table course most → ((h0 h : Here) → p h0 h → cursor_at h.scene.cursors cursor ≡ Open table None) → ((h0 h : Here) (regs : List Out) (x : Shared) → p h0 h → course h.shared ≡ finished x → q h0 (record h { regs = regs; shared = x })) → ((h0 h : Here) (causes : CauseSet) (x : Shared) → p h0 h → course h.shared ≡ failed causes x → e h0 (GivesUp causes) x) → Triple m a b (λ h0. most) g e p q
-t_puts m {calls} {a} {b} {cursor} {table} {most} {course} called g e p q x opened goes fails = record {
+-- code that takes the course of what is there, inside another stretch
+pub t_puts : (m : Setting) {X : Type 0} {calls : Calls} {a b : Draft} {cursor table causes most : ℕ} {IsThere : X → List Out → Type 0} {course : X → Shared → Course} (called : calls m) (what : Here → X) (g : Labels) (e : Last) (p q : Claim) → Puts calls a b cursor table causes IsThere course most → ((h0 h : Here) → p h0 h → (cursor_at h.scene.cursors cursor ≡ Open table None) × (read h.regs causes ≡ no_causes) × IsThere (what h0) h.regs) → ((h0 h : Here) (regs : List Out) (x : Shared) → p h0 h → course (what h0) h.shared ≡ finished x → q h0 (record h { regs = regs; shared = x })) → ((h0 h : Here) (why : CauseSet) (x : Shared) → p h0 h → course (what h0) h.shared ≡ failed why x → e h0 (GivesUp why) x) → Triple m a b (λ h0. most) g e p q
+t_puts m {X} {calls} {a} {b} {cursor} {table} {causes} {most} {IsThere} {course} called what g e p q x known goes fails = record {
   extends = extends x.grows;
   runs = λ u at h h0 s room start pre.
-      by at h0 s pre (course s.shared).causes (course s.shared).shared refl (x.puts m called u at h s room start (opened h0 (here s) pre));
+      let now = known h0 (here s) pre in
+      let c = course (what h0) s.shared in
+      by at h0 s pre c.causes c.shared refl (x.puts m called u at h s room start now.0 now.1 (what h0) now.2);
 }
   where
-    by : (at : ℕ → ℕ) (h0 : Here) (s : State) → p h0 (here s) → (o : Option CauseSet) (y : Shared) → course s.shared ≡ record { causes = o; shared = y } → Ran m most s (length b.code) a.next o y → Exits m at most (λ l. g l h0) (e h0) s (length b.code) (q h0)
+    by : (at : ℕ → ℕ) (h0 : Here) (s : State) → p h0 (here s) → (o : Option CauseSet) (y : Shared) → course (what h0) s.shared ≡ record { causes = o; shared = y } → Ran m most s (length b.code) a.next causes o y → Exits m at most (λ l. g l h0) (e h0) s (length b.code) (q h0)
     by at h0 s pre None y is l =
         on (record { regs = l.regs; scene = s.scene; store = s.store; shared = y; way = l.way; long = l.long; wide = refl; holds = goes h0 (here s) l.regs y pre is })
-    by at h0 s pre (Some causes) y is z = ends (GivesUp causes) y z (fails h0 (here s) causes y pre is)
+    by at h0 s pre (Some why) y is z = ends (GivesUp why) y z (fails h0 (here s) why y pre is)

@@ -1,37 +1,101 @@
 -- The programs of an INSERT, of a CREATE TABLE and a DROP TABLE, and of a statement that does nothing.
-use Rattle.std.proofs.Common.{◌≡◌, ℕ, ◌+◌, ◌*◌, ◌≤◌, List, [], length, find, sum_by, ℤ, Some, None, refl, sym, ap, ◌∙◌, subst, arith}
-use Rattle.eng_value.specs.Environments.{Surroundings}
-use Rattle.gen_write.specs.Stretches.{Puts, holds_bad, left_with, literals_run, refused_run, stored_run}
-use Rattle.gen_write.specs.Writes.{Course, create_run, create_steps, drop_run, drop_steps, finished, nothing_run, nothing_steps, put_run, put_steps, row_steps, run_by, source_of, source_run, untouched}
-use Rattle.gen_write.proofs.Refusals.{first_shared, untouched_is}
+use Rattle.std.proofs.Common.{◌≡◌, ℕ, zero, suc, ◌+◌, ◌*◌, List, [], ◌∷◌, length, sum_by, ℤ, Some, None, refl, sym, ap, ◌∙◌, subst, arith}
+use Rattle.std.specs.Prelude.{slice_index_or}
+use Rattle.std.specs.declared.option.Option.{Option}
+use Rattle.eng_value.specs.Causes.{CauseSet}
+use Rattle.eng_value.specs.Environments.{Surroundings, environment, no_causes, null_row}
+use Rattle.eng_value.specs.declared.out.Out.{Out}
+use Rattle.gen_write.specs.Stretches.{AreAllKept, KeepsRows, Puts, SourcedBy, items_for, values_in}
+use Rattle.gen_write.specs.Writes.{create_run, create_steps, drop_run, drop_steps, finished, items_in, nothing_run, nothing_steps, put_run, put_steps, read_steps, row_steps, rows_run, run_by, source_of, source_run, untouched}
+use Rattle.gen_write.specs.declared.source.Kept.{Kept}
 use Rattle.gen_write.proofs.RowRuns.{t_puts}
-use Rattle.gen_write.proofs.Sources.{IsRefused, CoursesSame, TakesNoMore, is_refused, courses_same, takes_no_more}
-use Rattle.sql_meaning.specs.Statement.{given_of}
+use Rattle.gen_write.proofs.Seeing.{value_of-same}
+use Rattle.sql_meaning.specs.Expression.{value_of}
+use Rattle.sql_meaning.specs.Statement.{Item, given_of, item_of, refusal_of}
+use Rattle.sql_meaning.specs.declared.bound.BoundExpr.{BoundExpr}
 use Rattle.sql_meaning.specs.declared.bound.BoundInsert.{BoundInsert}
-use Rattle.sql_meaning.specs.declared.bound.Literal.{Literal}
 use Rattle.vm_code.specs.declared.op.Op.TheVariants as op
 use Rattle.vm_code.specs.declared.program.Program.{Program}
 use Rattle.vm_code.specs.declared.schema_change.SchemaChange.{SchemaChange}
 use Rattle.vm_code.specs.declared.schema_change.SchemaChange.TheVariants.{AddTable, DropTable}
-use Rattle.vm_code.specs.Draft.{Draft, begun, with_op, with_cursor}
-use Rattle.vm_code.specs.Machine.{Closed, Open, Finished, Run, Setting, Shared, Performs, Ends, cursor_at, ending_by, setting, start, with_schema}
-use Rattle.vm_code.specs.Frames.{no_calls, IsProgramOf}
+use Rattle.vm_code.specs.declared.way.Way.TheVariants as way
+use Rattle.vm_code.specs.Tracked.{Steady}
+use Rattle.vm_code.specs.Draft.{Draft, begun, taken, with_op, with_cursor}
+use Rattle.vm_code.specs.Machine.{Closed, Cursor, Open, Finished, GivesUp, Run, Setting, Shared, State, Performs, cursor_at, ending_by, read, with_schema, world_of}
+use Rattle.vm_code.specs.Frames.{Calls, Here, IsProgramOf, environment_of, here, no_calls, surroundings_of, with_regs}
 use Rattle.vm_code.specs.Balanced.{IsBalanced}
-use Rattle.vm_code.specs.Claims.{Claim, Last, Triple}
-use Rattle.vm_code.proofs.Runs.{leads_more}
-use Rattle.vm_code.proofs.Drafts.{g_cursor}
+use Rattle.vm_code.specs.Claims.{Claim, Exits, Labels, Last, Triple, ends, on}
+use Rattle.vm_code.proofs.Drafts.{extends, g_cursor, g_op, g_taken, grows_then}
 use Rattle.vm_code.proofs.Triples.{no_labels, t_seq, t_more, t_draft, t_op, t_halt}
+use Rattle.vm_code.proofs.Effects.{t_put}
 use Rattle.vm_code.proofs.Loops.{t_move}
 use Rattle.vm_code.proofs.Balancing.{balanced_of}
-use Rattle.vm_code.proofs.Tracks.{st_none, st_op, st_opened}
+use Rattle.vm_code.proofs.Tracks.{st_none, st_op, st_opened, st_taken, st_then}
 use Rattle.vm_code.proofs.Whole.{Begins, EndsAs, performs_of}
 
--- ---- the rows of an INSERT
+-- ---- what is shared at the start of a run
 
-module _ (b : BoundInsert) (z : Draft) (x : Puts no_calls (with_op (with_cursor (begun [])) (op.OpenWrite 0 b.table)) z 0 b.table (literals_run b b.rows) (sum_by row_steps b.rows)) (one : z.cursors ≡ 1) where
-  abbrev opening : Draft
-  opening = with_op (with_cursor (begun [])) (op.OpenWrite 0 b.table)
+abbrev first_shared : Here → Shared
+first_shared h0 = untouched (world_of h0.shared) h0.shared.written.last_rowid
 
+untouched_is : {cursors : ℕ} (h0 h : Here) → (h ≡ h0) × Begins cursors h0 → h.shared ≡ first_shared h0
+untouched_is h0 h pre = ap (λ (q : Here). q.shared) pre.0 ∙ pre.1.shared
+
+-- ---- what the source sees
+
+-- the cursor of the table reads NULL
+one_closed : (cursors : List Cursor) → length cursors ≡ 1 → cursor_at cursors 0 ≡ Closed → cursors ≡ Closed ∷ []
+one_closed [] e shut = absurd (omega arith)
+one_closed (c ∷ []) e shut = ap (λ x. x ∷ []) shut
+one_closed (c ∷ d ∷ cs) e shut = absurd (omega arith)
+
+no_row : (item : ℕ) → slice_index_or (null_row ∷ []) item null_row ≡ slice_index_or [] item null_row
+no_row zero = refl
+no_row (suc k) = refl
+
+values-same : (x : Surroundings) (row : List BoundExpr) → values_in row (environment x [] [] (null_row ∷ [])) ≡ values_in row (environment x [] [] [])
+values-same x [] = refl
+values-same x (e ∷ row) =
+    ap (λ o. o ∷ values_in row (environment x [] [] (null_row ∷ []))) (value_of-same (environment x [] [] (null_row ∷ [])) [] no_row e)
+    ∙ ap (λ l. value_of e (environment x [] [] []) ∷ l) (values-same x row)
+
+items-same : (x : Surroundings) (rows : List (List BoundExpr)) → items_for rows (environment x [] [] (null_row ∷ [])) ≡ items_in rows x
+items-same x [] = refl
+items-same x (row ∷ rows) =
+    ap (λ outs. item_of no_causes outs ∷ items_for rows (environment x [] [] (null_row ∷ []))) (values-same x row)
+    ∙ ap (λ l. item_of no_causes (values_in row (environment x [] [] [])) ∷ l) (items-same x rows)
+
+-- a main unit has no arguments, and nothing in its slots
+sees : (m : Setting) (h : Here) → Begins 1 h → environment_of m h ≡ environment (surroundings_of m h.shared) [] [] (null_row ∷ [])
+sees m h b =
+    ap (λ l. environment_of m (record h { scene = record h.scene { cursors = l } })) (one_closed h.scene.cursors b.wide (b.shut 0 (omega arith)))
+    ∙ ap (λ l. environment_of m (record h { scene = record { cursors = Closed ∷ []; slots = l } })) b.slots
+    ∙ ap (λ k. environment_of m (record h { scene = record { cursors = Closed ∷ []; slots = [] }; inputs = k })) b.inputs
+
+-- ---- the source, inside another stretch
+
+t_keeps : (m : Setting) {calls : Calls} {a b : Draft} {causes : ℕ} {rows : List (List BoundExpr)} {source : List (List Kept)} (called : calls m) (g : Labels) (e : Last) (p q : Claim) → KeepsRows calls a b causes rows source → ((h0 h : Here) → p h0 h → read h.regs causes ≡ no_causes) → ((h0 h : Here) (regs : List Out) → p h0 h → refusal_of (items_for rows (environment_of m h)) ≡ None → AreAllKept causes b.next source (given_of (items_for rows (environment_of m h))) regs → read regs causes ≡ no_causes → q h0 (with_regs h regs)) → ((h0 h : Here) (why : CauseSet) → p h0 h → refusal_of (items_for rows (environment_of m h)) ≡ Some why → e h0 (GivesUp why) h.shared) → Triple m a b (λ h0. sum_by read_steps rows) g e p q
+t_keeps m {calls} {a} {b} {causes} {rows} {source} called g e p q x calm goes fails = record {
+  extends = extends x.grows;
+  runs = λ u at h h0 s room start pre.
+      let items = items_for rows (environment_of m (here s)) in
+      by at h0 s pre (refusal_of items) refl (x.keeps m called u at h s room start (calm h0 (here s) pre));
+}
+  where
+    by : (at : ℕ → ℕ) (h0 : Here) (s : State) → p h0 (here s) → (o : Option CauseSet) → refusal_of (items_for rows (environment_of m (here s))) ≡ o → SourcedBy m (sum_by read_steps rows) s (length b.code) a.next b.next causes source o (given_of (items_for rows (environment_of m (here s)))) → Exits m at (sum_by read_steps rows) (λ l. g l h0) (e h0) s (length b.code) (q h0)
+    by at h0 s pre None is l =
+        on (record { regs = l.regs; scene = s.scene; store = s.store; shared = s.shared; way = l.way; long = l.long; wide = refl; holds = goes h0 (here s) l.regs pre is l.has l.calm })
+    by at h0 s pre (Some why) is z = ends (GivesUp why) s.shared z (fails h0 (here s) why pre is)
+
+-- ---- an INSERT
+
+abbrev pub nulled : Draft
+nulled = with_op (taken (begun [])) (op.Null 0)
+
+abbrev pub open_on : Draft → ℕ → Draft
+open_on y table = with_op (with_cursor y) (op.OpenWrite 0 table)
+
+module _ (b : BoundInsert) (source : List (List Kept)) (y z : Draft) (x : KeepsRows no_calls nulled y 0 b.rows source) (none : y.cursors ≡ 0) (w : Puts no_calls (open_on y b.table) z 0 b.table 0 (AreAllKept 0 y.next source) (rows_run b) (length source * row_steps (length b.columns))) (one : z.cursors ≡ 1) where
   abbrev closing : Draft
   closing = with_op z (op.Close 0)
 
@@ -39,72 +103,96 @@ module _ (b : BoundInsert) (z : Draft) (x : Puts no_calls (with_op (with_cursor 
   whole = with_op closing op.Halt
 
   abbrev begins : Claim
-  begins h0 h = (h ≡ h0) × Begins whole.cursors h0
+  begins h0 h = (h ≡ h0) × Begins z.cursors h0
 
-  abbrev opened : Claim
-  opened h0 h = (cursor_at h.scene.cursors 0 ≡ Open b.table None) × (h.shared ≡ first_shared h0)
+  -- the same but for the registers, of which the first holds no causes
+  abbrev calm : Claim
+  calm h0 h = (with_regs h h0.regs ≡ h0) × Begins 1 h0 × (read h.regs 0 ≡ no_causes)
 
-  abbrev has_run : Claim
-  has_run h0 h = literals_run b b.rows (first_shared h0) ≡ finished h.shared
+  abbrev row_count : ℕ
+  row_count = length source * row_steps (length b.columns)
 
   module _ (m : Setting) where
     abbrev last : Last
-    last = EndsAs m (stored_run b)
+    last = EndsAs m (put_run b)
 
-    opens : Triple m (begun []) opening (λ h0. 1) no_labels last begins opened
+    abbrev items : Here → List Item
+    items h0 = source_of b (surroundings_of m h0.shared)
+
+    abbrev sourced : Claim
+    sourced h0 h =
+        (h.shared ≡ first_shared h0) × (refusal_of (items h0) ≡ None) × (read h.regs 0 ≡ no_causes) × AreAllKept 0 y.next source (given_of (items h0)) h.regs
+
+    abbrev opened : Claim
+    opened h0 h = sourced h0 h × (cursor_at h.scene.cursors 0 ≡ Open b.table None)
+
+    abbrev has_run : Claim
+    has_run h0 h = (refusal_of (items h0) ≡ None) × (rows_run b (given_of (items h0)) (first_shared h0) ≡ finished h.shared)
+
+    -- the run of a good source, and of a bad one
+    run_good : (h0 : Here) → refusal_of (items h0) ≡ None → run_by (rows_run b (given_of (items h0)) (first_shared h0)) ≡ put_run b (surroundings_of m h0.shared) h0.shared.written.last_rowid
+    run_good h0 e = ap (λ o. run_by (source_run b (first_shared h0) o (given_of (items h0)))) (sym e)
+
+    run_bad : (h0 : Here) (why : CauseSet) → refusal_of (items h0) ≡ Some why → record { ending = ending_by (Some why); shared = first_shared h0 } ≡ put_run b (surroundings_of m h0.shared) h0.shared.written.last_rowid
+    run_bad h0 why e = ap (λ o. run_by (source_run b (first_shared h0) o (given_of (items h0)))) (sym e)
+
+    -- what the source comes to
+    seen : (h0 h : Here) → calm h0 h → items_for b.rows (environment_of m h) ≡ items h0
+    seen h0 h pre =
+        ap (λ (k : Here). items_for b.rows (environment_of m k)) pre.0
+        ∙ ap (items_for b.rows) (sees m h0 pre.1)
+        ∙ items-same (surroundings_of m h0.shared) b.rows
+
+    shared_is : (h0 h : Here) → calm h0 h → h.shared ≡ first_shared h0
+    shared_is h0 h pre = ap (λ (k : Here). k.shared) pre.0 ∙ pre.1.shared
+
+    clears : Triple m (begun []) nulled (λ h0. 1) no_labels last begins calm
+    clears =
+        let take = t_draft m no_labels last begins (g_taken (begun [])) refl in
+        let clear = t_put m (taken (begun [])) (op.Null 0) 0 (λ h. no_causes) no_labels last begins calm (omega arith) (λ at s. refl) (λ h0 h regs pre long is same.
+        (ap (λ (k : Here). with_regs k h0.regs) pre.0, subst (λ n. Begins n h0) one pre.1, is)) in
+        t_more (λ h0. 1) (λ h0. omega arith) (t_seq take clear)
+
+    reads : Triple m nulled y (λ h0. sum_by read_steps b.rows) no_labels last calm sourced
+    reads = t_keeps m tt no_labels last calm sourced x (λ h0 h pre. pre.2) (λ h0 h regs pre good kept_now is.
+        (shared_is h0 h pre, ap refusal_of (sym (seen h0 h pre)) ∙ good, is, subst (λ l. AreAllKept 0 y.next source (given_of l) regs) (seen h0 h pre) kept_now)) (λ h0 h why pre bad.
+        let run = run_bad h0 why (ap refusal_of (sym (seen h0 h pre)) ∙ bad) in
+        (ap (λ (r : Run). r.ending) run, shared_is h0 h pre ∙ ap (λ (r : Run). r.shared) run))
+
+    opens : Triple m y (open_on y b.table) (λ h0. 1) no_labels last sourced opened
     opens =
-        let cursor = t_draft m no_labels last begins (g_cursor (begun [])) refl in
-        let open_it : Triple m (with_cursor (begun [])) opening (λ h0. 1) no_labels last begins opened = t_move m (with_cursor (begun [])) (op.OpenWrite 0 b.table) 0 (Open b.table None) no_labels last begins opened (omega arith) (λ at s. refl) (λ h0 h pre is. (is, untouched_is h0 h pre)) in
+        let cursor = t_draft m no_labels last sourced (g_cursor y) refl in
+        let open_it = t_move m (with_cursor y) (op.OpenWrite 0 b.table) 0 (Open b.table None) no_labels last sourced opened (omega arith) (λ at s. refl) (λ h0 h pre is. (pre, is)) in
         t_more (λ h0. 1) (λ h0. omega arith) (t_seq cursor open_it)
 
-    puts : Triple m opening z (λ h0. sum_by row_steps b.rows) no_labels last opened has_run
-    puts = t_puts m tt no_labels last opened has_run x (λ h0 h pre. pre.0) (λ h0 h regs y pre is. ap (literals_run b b.rows) (sym pre.1) ∙ is) (λ h0 h causes y pre is.
-        let same = sym (ap (literals_run b b.rows) (sym pre.1) ∙ is) in
-        (ap (λ (c : Course). ending_by c.causes) same, ap (λ (c : Course). c.shared) same))
+    puts : Triple m (open_on y b.table) z (λ h0. row_count) no_labels last opened has_run
+    puts = t_puts m tt (λ h0. given_of (items h0)) no_labels last opened has_run w (λ h0 h pre. (pre.1, pre.0.2, pre.0.3)) (λ h0 h regs k pre is.
+        (pre.0.1, ap (rows_run b (given_of (items h0))) (sym pre.0.0) ∙ is)) (λ h0 h why k pre is.
+        let run = ap run_by (sym (ap (rows_run b (given_of (items h0))) (sym pre.0.0) ∙ is)) ∙ run_good h0 pre.0.1 in
+        (ap (λ (r : Run). r.ending) run, ap (λ (r : Run). r.shared) run))
 
     closes : Triple m z closing (λ h0. 1) no_labels last has_run has_run
     closes = t_move m z (op.Close 0) 0 Closed no_labels last has_run has_run (omega (arith, one)) (λ at s. refl) (λ h0 h pre is. pre)
 
-    ends : Triple m (begun []) whole (λ h0. sum_by row_steps b.rows + 3) no_labels last begins (λ h0 h. ⊥)
-    ends =
+    ends_run : Triple m (begun []) whole (λ h0. sum_by read_steps b.rows + length b.rows * row_steps (length b.columns) + 4) no_labels last begins (λ h0 h. ⊥)
+    ends_run =
         let halt = t_halt m closing no_labels last has_run (λ h0 h pre.
-        (ap (λ (c : Course). ending_by c.causes) (sym pre), ap (λ (c : Course). c.shared) (sym pre))) in
-        t_more (λ h0. sum_by row_steps b.rows + 3) (λ h0. omega arith) (t_seq (t_seq (t_seq opens puts) closes) halt)
+        let run = ap run_by (sym pre.1) ∙ run_good h0 pre.0 in
+        (ap (λ (r : Run). r.ending) run, ap (λ (r : Run). r.shared) run)) in
+        let many : row_count ≡ length b.rows * row_steps (length b.columns) = ap (λ n. n * row_steps (length b.columns)) x.wide in
+        t_more (λ h0. sum_by read_steps b.rows + length b.rows * row_steps (length b.columns) + 4) (λ h0. omega (arith, many)) (t_seq (t_seq (t_seq (t_seq (t_seq clears reads) opens) puts) closes) halt)
 
-  pub rows-perform : (p : Program) → IsProgramOf whole p → Performs p (stored_run b) (λ x. sum_by row_steps b.rows + 3)
-  rows-perform p is = performs_of [] whole p (stored_run b) (λ x. sum_by row_steps b.rows + 3) is ends
+  pub insert-performs : (p : Program) → IsProgramOf whole p → Performs p (put_run b) (put_steps b)
+  insert-performs p is = performs_of [] whole p (put_run b) (put_steps b) is ends_run
 
-  pub rows-balanced : (p : Program) → IsProgramOf whole p → IsBalanced p.main
-  rows-balanced p is =
-      balanced_of [] closing op.Halt p (st_opened (begun []) z (op.OpenWrite 0 b.table) (op.Close 0) refl refl refl refl (omega (arith, one)) x.steady [] []) refl refl is
-
--- ---- the whole INSERT
-
--- what a program performs, by a run that agrees and more instructions
-performs_as : {p : Program} {f : Surroundings → ℤ → Run} {n : Surroundings → ℕ} (g : Surroundings → ℤ → Run) (k : Surroundings → ℕ) → ((x : Surroundings) (last_rowid : ℤ) → f x last_rowid ≡ g x last_rowid) → ((x : Surroundings) → n x ≤ k x) → Performs p f n → Performs p g k
-performs_as {p} g k same le performs x last_rowid sound =
-    let m = setting x.hosts x.ask x.params p in
-    subst (λ (r : Run). Ends m (k x) (start p x.world last_rowid) r.ending r.shared) (same x last_rowid) (leads_more m (k x) (le x) (performs x last_rowid sound))
-
-refused_is : (b : BoundInsert) (row : List Literal) → find holds_bad b.rows ≡ Some row → (x : Surroundings) (last_rowid : ℤ) → refused_run row x last_rowid ≡ put_run b x last_rowid
-refused_is b row e x last_rowid =
-    let known = subst (IsRefused b.rows) e (is_refused b.rows) in
-    let first = untouched x.world last_rowid in
-    ap (λ o. run_by (left_with o first)) known.2 ∙ sym (ap (λ o. run_by (source_run b first o (given_of (source_of b)))) known.1)
-
-rows_are : (b : BoundInsert) → find holds_bad b.rows ≡ None → (x : Surroundings) (last_rowid : ℤ) → stored_run b x last_rowid ≡ put_run b x last_rowid
-rows_are b e x last_rowid =
-    let same = subst (CoursesSame b b.rows) e (courses_same b b.rows) in
-    let good = subst (IsRefused b.rows) e (is_refused b.rows) in
-    let first = untouched x.world last_rowid in
-    ap run_by (sym (same first) ∙ sym (ap (λ o. source_run b first o (given_of (source_of b))) good))
-
-pub refusal-puts : (b : BoundInsert) (row : List Literal) (p : Program) → find holds_bad b.rows ≡ Some row → Performs p (refused_run row) (λ x. 2 * length row + 2) → Performs p (put_run b) (put_steps b)
-refusal-puts b row p e performs =
-    performs_as (put_run b) (put_steps b) (refused_is b row e) (λ x. omega (arith, subst (TakesNoMore b.rows) e (takes_no_more b.rows))) performs
-
-pub rows-put : (b : BoundInsert) (p : Program) → find holds_bad b.rows ≡ None → Performs p (stored_run b) (λ x. sum_by row_steps b.rows + 3) → Performs p (put_run b) (put_steps b)
-rows-put b p e performs = performs_as (put_run b) (put_steps b) (rows_are b e) (λ x. omega arith) performs
+  pub insert-balanced : (p : Program) → IsProgramOf whole p → IsBalanced p.main
+  insert-balanced p is =
+      let clearing = st_then (g_taken (begun [])) (st_taken [] [] (begun [])) (st_op [] [] (taken (begun [])) (op.Null 0) (refl, refl)) in
+      let reading = st_then (grows_then (g_taken (begun [])) (g_op (taken (begun [])) (op.Null 0))) clearing x.steady in
+      let grows = grows_then (g_taken (begun [])) (grows_then (g_op (taken (begun [])) (op.Null 0)) x.grows) in
+      let body = subst (λ n. Steady (n ∷ []) [] (open_on y b.table) z) (sym none) w.steady in
+      let putting = st_opened y z (op.OpenWrite 0 b.table) (op.Close 0) (ap way.Opens (sym none)) refl (ap way.Closes (sym none)) (ap (λ n. n ∷ []) (sym none)) (omega (arith, none, one)) body [] [] in
+      balanced_of [] closing op.Halt p (st_then grows reading putting) refl refl is
 
 -- ---- CREATE TABLE and DROP TABLE
 

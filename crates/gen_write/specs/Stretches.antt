@@ -1,54 +1,119 @@
 -- What the stretches of a write's code do.
-use Rattle.std.specs.Prelude.{◌≡◌, ◌≢◌, ℕ, ◌+◌, ◌*◌, ◌≤◌, ◌<◌, List, [], ◌∷◌, length, map, fold, ℤ, Option, Some, None, Bool, true, false}
-use Rattle.std.specs.List.{list_any}
-use Rattle.eng_value.specs.Casts.{store_as}
+use Rattle.std.specs.Prelude.{◌≡◌, ◌≢◌, ℕ, ◌+◌, ◌*◌, ◌≤◌, ◌<◌, List, [], ◌∷◌, length, map, fold, sum_by, Option, Some, None, slice_get}
 use Rattle.eng_value.specs.Causes.{CauseSet}
-use Rattle.eng_value.specs.Environments.{Surroundings, no_causes, with_causes}
-use Rattle.eng_value.specs.Outs.{turned}
-use Rattle.eng_value.specs.declared.affinity.Affinity.{Affinity}
+use Rattle.eng_value.specs.Environments.{Environment, no_causes, with_causes}
 use Rattle.eng_value.specs.declared.out.Out.{Out}
-use Rattle.eng_value.specs.declared.out.Out.TheVariants.{Good, Bad}
-use Rattle.gen_write.specs.Writes.{Course, failed, finished, row_put, run_by, untouched}
-use Rattle.sql_meaning.specs.Expression.{literal_out}
-use Rattle.sql_meaning.specs.Statement.{item_of}
+use Rattle.eng_value.specs.declared.out.Out.TheVariants.{Good}
+use Rattle.eng_value.specs.declared.value.Value.{Value}
+use Rattle.eng_value.specs.declared.value.Value.TheVariants.{Null}
+use Rattle.gen_write.specs.Writes.{Course, failed, finished, read_steps, row_put, stored_as, value_steps}
+use Rattle.gen_write.specs.declared.source.Kept.{Kept}
+use Rattle.gen_write.specs.declared.source.Kept.TheVariants as kept
+use Rattle.sql_meaning.specs.Expression.{literal_out, value_of}
+use Rattle.sql_meaning.specs.Statement.{Item, given_of, item_of, refusal_of, shown}
+use Rattle.sql_meaning.specs.declared.bound.BoundExpr.{BoundExpr}
 use Rattle.sql_meaning.specs.declared.bound.BoundInsert.{BoundInsert}
-use Rattle.sql_meaning.specs.declared.bound.Literal.{Literal}
-use Rattle.sql_meaning.specs.declared.bound.Literal.TheVariants as literal
+use Rattle.sql_meaning.specs.declared.bound.PutColumn.{PutColumn}
 use Rattle.vm_code.specs.declared.op.Op.TheVariants as op
 use Rattle.vm_code.specs.Draft.{Draft, bound, taken, with_label, with_op}
 use Rattle.vm_code.specs.Tracked.{Steady}
-use Rattle.vm_code.specs.Frames.{Calls, Gave, Grows, Holds, Ready}
-use Rattle.vm_code.specs.Machine.{Shared, Setting, State, Run, Open, Reaches, cursor_at, outs_from, read}
+use Rattle.vm_code.specs.Frames.{Calls, Gave, Grows, Holds, Left, Ready, environment_of, here}
+use Rattle.vm_code.specs.Machine.{Shared, Setting, State, Open, Reaches, cursor_at, outs_from, read}
 
--- ---- the source
+-- ---- what is kept of the source
 
-abbrev pub is_bad_literal : Literal → Bool
-is_bad_literal (literal.Value v) = false
-is_bad_literal (literal.Bad why) = true
+abbrev pub kept_out : List Out → Kept → Out
+kept_out regs (kept.Literal l) = literal_out l.now
+kept_out regs (kept.Register r) = read regs r
 
-abbrev pub holds_bad : List Literal → Bool
-holds_bad row = list_any is_bad_literal row
+-- the registers below a mark are as they were, but for the one that gathers causes
+abbrev pub SameBut : ℕ → ℕ → List Out → List Out → Type 0
+SameBut causes mark r q = (k : ℕ) → k < mark → k ≢ causes → read q k ≡ read r k
 
--- the causes of all literals of a row
-abbrev pub causes_in : List Literal → Out
-causes_in row = fold with_causes no_causes (map literal_out row)
+-- a row's values are kept, as long as those registers are as they were
+abbrev pub AreKept : ℕ → ℕ → List Kept → List Value → List Out → Type 0
+AreKept causes mark row values regs = (q : List Out) → SameBut causes mark regs q → map (kept_out q) row ≡ map Good values
 
--- by what a register came to
-abbrev pub left_with : Out → Shared → Course
-left_with (Good v) x = finished x
-left_with (Bad causes) x = failed causes x
+-- and so are those of all rows
+abbrev pub AreAllKept : ℕ → ℕ → List (List Kept) → List (List Value) → List Out → Type 0
+AreAllKept causes mark source rows regs =
+    (q : List Out) → SameBut causes mark regs q → map (map (kept_out q)) source ≡ map (map Good) rows
 
--- nothing is written
-abbrev pub refused_run : List Literal → Surroundings → ℤ → Run
-refused_run row x last_rowid = run_by (left_with (causes_in row) (untouched x.world last_rowid))
+-- ---- the source is evaluated
+
+abbrev pub values_in : List BoundExpr → Environment → List Out
+values_in row env = map (λ e. value_of e env) row
+
+abbrev pub items_for : List (List BoundExpr) → Environment → List Item
+items_for rows env = map (λ row. shown row env no_causes) rows
+
+-- the machine comes to a place where this is kept of what expressions came to, as long as the registers below a mark are as they are, and their causes gathered; the others below the first mark are as they were
+pub record Held (m : Setting) (most : ℕ) (s : State) (place low high causes : ℕ) (row : List Kept) (outs : List Out) : Type 0 where
+  pub regs : List Out
+  pub way : Reaches m most s (record s { pc = place; regs = regs })
+  pub long : length regs ≡ length s.regs
+  pub has : (q : List Out) → SameBut causes high regs q → map (kept_out q) row ≡ outs
+  pub gathers : read regs causes ≡ fold with_causes (read s.regs causes) outs
+  pub keeps : SameBut causes low s.regs regs
+
+-- code that evaluates the expressions of a row, keeps what they came to and gathers their causes; where it takes no register there are none, and else it takes instructions
+pub record KeepsValues (calls : Calls) (a b : Draft) (causes : ℕ) (es : List BoundExpr) (row : List Kept) : Type 0 where
+  pub grows : Grows a b
+  pub next : a.next ≤ b.next
+  pub counted : b.next ≤ b.most
+  pub steady : Steady [] [] a b
+  pub calm : b.next ≡ a.next → (env : Environment) → fold with_causes no_causes (values_in es env) ≡ no_causes
+  pub busy : a.next < b.next → 0 < sum_by value_steps es
+  pub keeps : (m : Setting) → calls m → (u : ℕ) (at : ℕ → ℕ) → Holds b m.prog u at → (s : State) → Ready b u s → s.pc ≡ length a.code
+      → Held m (sum_by value_steps es) s (length b.code) a.next b.next causes row (values_in es (environment_of m (here s)))
+
+-- the machine comes to a place where the values of these rows are kept, and there are no causes
+pub record Sourced (m : Setting) (most : ℕ) (s : State) (place low high causes : ℕ) (source : List (List Kept)) (rows : List (List Value)) : Type 0 where
+  pub regs : List Out
+  pub way : Reaches m most s (record s { pc = place; regs = regs })
+  pub long : length regs ≡ length s.regs
+  pub has : AreAllKept causes high source rows regs
+  pub calm : read regs causes ≡ no_causes
+  pub keeps : SameBut causes low s.regs regs
+
+-- or the unit gives up
+abbrev pub SourcedBy : Setting → ℕ → State → ℕ → ℕ → ℕ → ℕ → List (List Kept) → Option CauseSet → List (List Value) → Type 0
+SourcedBy m most s place low high causes source None rows = Sourced m most s place low high causes source rows
+SourcedBy m most s place low high causes source (Some why) rows = Gave m most s why s.shared
+
+-- code that evaluates rows in turn, keeps what they came to, and gives up behind the first bad one
+pub record KeepsRows (calls : Calls) (a b : Draft) (causes : ℕ) (rows : List (List BoundExpr)) (source : List (List Kept)) : Type 0 where
+  pub grows : Grows a b
+  pub next : a.next ≤ b.next
+  pub counted : b.next ≤ b.most
+  pub steady : Steady [] [] a b
+  pub wide : length source ≡ length rows
+  pub keeps : (m : Setting) → calls m → (u : ℕ) (at : ℕ → ℕ) → Holds b m.prog u at → (s : State) → Ready b u s → s.pc ≡ length a.code → read s.regs causes ≡ no_causes
+      → SourcedBy m (sum_by read_steps rows) s (length b.code) a.next b.next causes source (refusal_of (items_for rows (environment_of m (here s)))) (given_of (items_for rows (environment_of m (here s))))
+
+-- the unit gives up where a register is bad
+abbrev pub with_bad_refused : Draft → ℕ → Draft
+with_bad_refused d causes =
+    bound (with_op (bound (with_op (with_op (with_label (with_label d)) (op.IsBad causes (length (with_label d).labels))) (op.Goto (length d.labels))) (length (with_label d).labels)) (op.HaltBad causes)) (length d.labels)
 
 -- ---- the columns of a row
 
--- what the columns store of a row's literals
-abbrev pub stored_literals : List Affinity → List Literal → List Out
-stored_literals [] row = []
-stored_literals (a ∷ affinities) [] = []
-stored_literals (a ∷ affinities) (l ∷ row) = turned (store_as a) (literal_out l) ∷ stored_literals affinities row
+-- what is kept of the value at a place
+abbrev pub kept_at : List Kept → Option ℕ → Option Kept
+kept_at row None = None
+kept_at row (Some place) = slice_get row place
+
+abbrev pub out_loaded : List Out → Option Kept → Out
+out_loaded regs None = Good Null
+out_loaded regs (Some k) = kept_out regs k
+
+-- code that leaves that in a register
+pub record Loads (calls : Calls) (a b : Draft) (to : ℕ) (k : Option Kept) : Type 0 where
+  pub grows : Grows a b
+  pub next : b.next ≡ a.next
+  pub steady : Steady [] [] a b
+  pub loads : (m : Setting) → calls m → (u : ℕ) (at : ℕ → ℕ) → Holds b m.prog u at → (s : State) → Ready b u s → s.pc ≡ length a.code
+      → Left m 1 s (length b.code) a.next to (out_loaded s.regs k)
 
 -- the machine comes to a place with these in registers one after another, from the mark on, and with their causes gathered in another register; the others below the mark are as they were
 pub record Stored (m : Setting) (most : ℕ) (s : State) (place mark causes : ℕ) (outs : List Out) : Type 0 where
@@ -57,42 +122,43 @@ pub record Stored (m : Setting) (most : ℕ) (s : State) (place mark causes : �
   pub long : length regs ≡ length s.regs
   pub has : outs_from regs mark (length outs) ≡ outs
   pub gathers : read regs causes ≡ fold with_causes (read s.regs causes) outs
-  pub keeps : (k : ℕ) → k < mark → k ≢ causes → read regs k ≡ read s.regs k
+  pub keeps : SameBut causes mark s.regs regs
 
--- code that leaves what columns store in the registers that it takes, and gathers their causes
-pub record Stores (calls : Calls) (a b : Draft) (causes : ℕ) (outs : List Out) : Type 0 where
+-- code that leaves what columns store of the values that are kept in the registers that it takes, and gathers their causes
+pub record Stores (calls : Calls) (a b : Draft) (causes : ℕ) (row : List Kept) (columns : List PutColumn) : Type 0 where
   pub grows : Grows a b
-  pub next : b.next ≡ a.next + length outs
+  pub next : b.next ≡ a.next + length columns
   pub counted : b.next ≤ b.most
   pub steady : Steady [] [] a b
-  pub stores : (m : Setting) → calls m → (u : ℕ) (at : ℕ → ℕ) → Holds b m.prog u at → (s : State) → Ready b u s → s.pc ≡ length a.code
-      → Stored m (3 * length outs) s (length b.code) a.next causes outs
+  pub stores : (m : Setting) → calls m → (u : ℕ) (at : ℕ → ℕ) → Holds b m.prog u at → (s : State) → Ready b u s → s.pc ≡ length a.code → (values : List Value) → AreKept causes a.next row values s.regs
+      → Stored m (3 * length columns) s (length b.code) a.next causes (stored_as columns values)
 
--- a row is put of registers, or the unit gives up where another is bad
-abbrev pub with_row_code : Draft → ℕ → ℕ → ℕ → ℕ → List ℕ → Draft
-with_row_code d cursor causes first count name =
-    bound (with_op (bound (with_op (with_op (with_op (with_op (taken (with_label (with_label d))) (op.IsBad causes (length (with_label d).labels))) (op.NewRowid cursor d.next name)) (op.Insert cursor d.next first count)) (op.Goto (length d.labels))) (length (with_label d).labels)) (op.HaltBad causes)) (length d.labels)
+-- a row is put of registers, under a rowid that is drawn for it
+abbrev pub with_row_inserted : Draft → ℕ → ℕ → ℕ → List ℕ → Draft
+with_row_inserted d cursor first count name =
+    with_op (with_op (taken d) (op.NewRowid cursor d.next name)) (op.Insert cursor d.next first count)
 
 -- ---- rows
 
--- the machine comes to a place with this shared, the registers below the mark as they were
-pub record Got (m : Setting) (most : ℕ) (s : State) (place mark : ℕ) (x : Shared) : Type 0 where
+-- the machine comes to a place with this shared and no causes, the other registers below the mark as they were
+pub record Got (m : Setting) (most : ℕ) (s : State) (place mark causes : ℕ) (x : Shared) : Type 0 where
   pub regs : List Out
   pub way : Reaches m most s (record s { pc = place; regs = regs; shared = x })
   pub long : length regs ≡ length s.regs
-  pub keeps : (k : ℕ) → k < mark → read regs k ≡ read s.regs k
+  pub calm : read regs causes ≡ no_causes
+  pub keeps : SameBut causes mark s.regs regs
 
-abbrev pub Ran : Setting → ℕ → State → ℕ → ℕ → Option CauseSet → Shared → Type 0
-Ran m most s place mark None x = Got m most s place mark x
-Ran m most s place mark (Some causes) x = Gave m most s causes x
+abbrev pub Ran : Setting → ℕ → State → ℕ → ℕ → ℕ → Option CauseSet → Shared → Type 0
+Ran m most s place mark causes None x = Got m most s place mark causes x
+Ran m most s place mark causes (Some why) x = Gave m most s why x
 
--- code that takes this course from what is shared, through a cursor that is open on a table
-pub record Puts (calls : Calls) (a b : Draft) (cursor table : ℕ) (course : Shared → Course) (most : ℕ) : Type 0 where
+-- code that takes the course of what registers keep, from what is shared, through a cursor that is open on a table
+pub record Puts {X : Type 0} (calls : Calls) (a b : Draft) (cursor table causes : ℕ) (IsThere : X → List Out → Type 0) (course : X → Shared → Course) (most : ℕ) : Type 0 where
   pub grows : Grows a b
   pub next : b.next ≡ a.next
   pub steady : Steady (cursor ∷ []) [] a b
-  pub puts : (m : Setting) → calls m → (u : ℕ) (at : ℕ → ℕ) → Holds b m.prog u at → (s : State) → Ready b u s → s.pc ≡ length a.code → cursor_at s.scene.cursors cursor ≡ Open table None
-      → Ran m most s (length b.code) a.next (course s.shared).causes (course s.shared).shared
+  pub puts : (m : Setting) → calls m → (u : ℕ) (at : ℕ → ℕ) → Holds b m.prog u at → (s : State) → Ready b u s → s.pc ≡ length a.code → cursor_at s.scene.cursors cursor ≡ Open table None → read s.regs causes ≡ no_causes → (x : X) → IsThere x s.regs
+      → Ran m most s (length b.code) a.next causes (course x s.shared).causes (course x s.shared).shared
 
 -- ---- courses
 
@@ -104,15 +170,6 @@ unless_failed (Some causes) x others = failed causes x
 abbrev pub and_on : Course → (Shared → Course) → Course
 and_on c others = unless_failed c.causes c.shared others
 
--- a row by its literals
-abbrev pub literals_put : BoundInsert → List Literal → Shared → Course
-literals_put b row x = row_put b.table b.name x (item_of no_causes (stored_literals b.affinities row)) finished
-
--- one row after another
-abbrev pub literals_run : BoundInsert → List (List Literal) → Shared → Course
-literals_run b [] x = finished x
-literals_run b (row ∷ rows) x = and_on (literals_put b row x) (literals_run b rows)
-
--- all rows are put, the first upon what was there
-abbrev pub stored_run : BoundInsert → Surroundings → ℤ → Run
-stored_run b x last_rowid = run_by (literals_run b b.rows (untouched x.world last_rowid))
+-- a row of the source
+abbrev pub row_course : BoundInsert → List Value → Shared → Course
+row_course b values x = row_put b.table b.name x (item_of no_causes (stored_as b.columns values)) finished

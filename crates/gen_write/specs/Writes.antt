@@ -1,18 +1,25 @@
 -- What the programs of writes perform over lists of rows, and in how many instructions at most.
-use Rattle.std.specs.Prelude.{ℕ, ◌+◌, ◌*◌, List, [], ◌∷◌, length, map, sum_by, ℤ, Option, Some, None}
+use Rattle.std.specs.Prelude.{◌≡◌, ℕ, zero, suc, ◌+◌, ◌*◌, ◌≤◌, Bool, true, List, [], ◌∷◌, length, map, sum_by, ℤ, Option, Some, None, is_some}
+use Rattle.std.specs.List.{list_all}
 use Rattle.eng_value.specs.Casts.{store_as}
 use Rattle.eng_value.specs.Causes.{CauseSet, only}
-use Rattle.eng_value.specs.Environments.{Surroundings, no_causes}
+use Rattle.eng_value.specs.Environments.{Surroundings, environment, no_causes}
 use Rattle.eng_value.specs.StoredRows.{StoredRow, next_rowid}
 use Rattle.eng_value.specs.Written.{unwritten}
-use Rattle.eng_value.specs.declared.affinity.Affinity.{Affinity}
 use Rattle.eng_value.specs.declared.cause.Cause.TheVariants.{Full}
 use Rattle.eng_value.specs.declared.out.Out.{Out}
 use Rattle.eng_value.specs.declared.value.Value.{Value}
-use Rattle.sql_meaning.specs.Expression.{literal_out}
-use Rattle.sql_meaning.specs.Statement.{Item, Row, Failed as Bad, given_of, item_of, refusal_of}
+use Rattle.gen_expr.specs.Steps.{steps_of}
+use Rattle.sql_meaning.specs.Sizes.{all_nodes}
+use Rattle.sql_meaning.specs.Statement.{Item, Row, Failed as Bad, given_of, item_of, refusal_of, shown, value_at}
+use Rattle.sql_meaning.specs.declared.bound.BoundArm.{BoundArm}
+use Rattle.sql_meaning.specs.declared.bound.BoundExpr.{BoundExpr, out-BoundExpr}
+use Rattle.sql_meaning.specs.declared.bound.BoundExpr.TheOpen.{BoundExpr-F}
 use Rattle.sql_meaning.specs.declared.bound.BoundInsert.{BoundInsert}
+use Rattle.sql_meaning.specs.declared.bound.BoundMatch.{BoundMatch}
 use Rattle.sql_meaning.specs.declared.bound.Literal.{Literal}
+use Rattle.sql_meaning.specs.declared.bound.Literal.TheVariants as literal
+use Rattle.sql_meaning.specs.declared.bound.PutColumn.{PutColumn}
 use Rattle.vm_code.specs.Machine.{World, Finished, Run, Shared, ending_by, rows_of, with_row, with_table, without_rows, world_of}
 
 -- nothing is given and nothing is written
@@ -47,11 +54,9 @@ nothing_steps x = 1
 
 -- ---- INSERT
 
--- values as the affinities store them
-abbrev pub stored_as : List Affinity → List Value → List Out
-stored_as [] values = []
-stored_as (a ∷ affinities) [] = []
-stored_as (a ∷ affinities) (v ∷ values) = store_as a v ∷ stored_as affinities values
+-- the values of a row of the source that are placed for the columns, as the affinities of these store them
+abbrev pub stored_as : List PutColumn → List Value → List Out
+stored_as columns values = map (λ (c : PutColumn). store_as c.affinity (value_at values c.place)) columns
 
 -- what a stretch of a write comes to: it goes on, or it gives up for causes, with this shared
 pub record Course : Type 0 where
@@ -83,11 +88,14 @@ row_put table name x (Row values) others = row_under table name x values (next_r
 -- one row after another
 abbrev pub rows_run : BoundInsert → List (List Value) → Shared → Course
 rows_run b [] x = finished x
-rows_run b (row ∷ rows) x = row_put b.table b.name x (item_of no_causes (stored_as b.affinities row)) (rows_run b rows)
+rows_run b (row ∷ rows) x = row_put b.table b.name x (item_of no_causes (stored_as b.columns row)) (rows_run b rows)
 
--- the rows of literals, each a row of values or bad
-abbrev pub source_of : BoundInsert → List Item
-source_of b = map (λ row. item_of no_causes (map literal_out row)) b.rows
+-- the items of rows; their expressions see no row of a table
+abbrev pub items_in : List (List BoundExpr) → Surroundings → List Item
+items_in rows x = map (λ row. shown row (environment x [] [] []) no_causes) rows
+
+abbrev pub source_of : BoundInsert → Surroundings → List Item
+source_of b x = items_in b.rows x
 
 -- a bad row in the source ends the run before any row is put
 abbrev pub source_run : BoundInsert → Shared → Option CauseSet → List (List Value) → Course
@@ -95,10 +103,53 @@ source_run b x (Some causes) source = failed causes x
 source_run b x None source = rows_run b source x
 
 abbrev pub put_run : BoundInsert → Surroundings → ℤ → Run
-put_run b x last_rowid = run_by (source_run b (untouched x.world last_rowid) (refusal_of (source_of b)) (given_of (source_of b)))
+put_run b x last_rowid = run_by (source_run b (untouched x.world last_rowid) (refusal_of (source_of b x)) (given_of (source_of b x)))
 
-abbrev pub row_steps : List Literal → ℕ
-row_steps row = 3 * length row + 6
+-- ---- how many instructions an INSERT takes
+
+-- a literal that has a value, which is always good and the same
+abbrev pub plain_of : Literal → Option Literal
+plain_of (literal.Value v) = Some (literal.Value v)
+plain_of (literal.Bad why) = None
+
+abbrev pub plain_in : BoundExpr-F BoundExpr BoundArm BoundMatch → Option Literal
+plain_in (BoundExpr-F.Literal l) = plain_of l
+plain_in other = None
+
+abbrev pub plain_literal : BoundExpr → Option Literal
+plain_literal e = plain_in (out-BoundExpr e)
+
+-- an expression and its causes; such a literal is loaded where it is put
+abbrev pub steps_unless : Option Literal → ℕ → ℕ
+steps_unless None n = n + 1
+steps_unless (Some l) n = 0
+
+abbrev pub value_steps : BoundExpr → ℕ
+value_steps e = steps_unless (plain_literal e) (steps_of e)
+
+-- a row of the source gives up where it is bad, which one of such literals alone never is
+abbrev pub and_refused : ℕ → ℕ
+and_refused zero = 0
+and_refused (suc n) = suc n + 3
+
+abbrev pub read_steps : List BoundExpr → ℕ
+read_steps row = and_refused (sum_by value_steps row)
+
+-- a row of so many columns
+abbrev pub row_steps : ℕ → ℕ
+row_steps width = 3 * width + 5
 
 abbrev pub put_steps : BoundInsert → Surroundings → ℕ
-put_steps b x = 4 + sum_by row_steps b.rows
+put_steps b x = sum_by read_steps b.rows + length b.rows * row_steps (length b.columns) + 4
+
+-- by how many nodes the source has, and how many rows and columns there are
+abbrev pub StepsAreFew : BoundInsert → Type 0
+StepsAreFew b = (x : Surroundings) → put_steps b x ≤ 4 * sum_by all_nodes b.rows + length b.rows * (3 * length b.columns + 8) + 6
+
+-- reading a source that is made of literals with values takes none
+abbrev pub is_plain : BoundExpr → Bool
+is_plain e = is_some (plain_literal e)
+
+abbrev pub LiteralsTakeNoSteps : BoundInsert → Type 0
+LiteralsTakeNoSteps b =
+    list_all (list_all is_plain) b.rows ≡ true → (x : Surroundings) → put_steps b x ≡ length b.rows * row_steps (length b.columns) + 4

@@ -2,19 +2,22 @@
 //!
 //! `compile_insert`, `compile_create` and `compile_drop` write the programs of INSERT, CREATE TABLE and DROP TABLE, and
 //! `compile_nothing` that of a statement that does nothing; their contracts, `Performs`, say that from every world a run of the
-//! program does what specs/Writes.antt says: where the source of an INSERT is bad nothing is changed, else one row after another is
-//! stored by the columns' affinities and put under the rowid behind the others. Where a row fails the rows in front of it stay, and
-//! who runs the program takes them back. Begin with `compile_insert`, then `emit_row`.
+//! program does what specs/Writes.antt says: the source of an INSERT is evaluated whole, and where it is bad nothing is changed; else one
+//! row after another is stored by the columns' affinities and put under the rowid behind the others. Where a row fails the rows in
+//! front of it stay, and who runs the program takes them back. Begin with `compile_insert`, then `keep_rows` and `put_rows`.
 #![tactic(auto)]
 
 mod creating;
 mod dropping;
 mod inserting;
+mod laws;
 mod nothing;
 mod refusing;
 mod rows;
+mod source;
 
 pub use creating::compile_create;
 pub use dropping::compile_drop;
 pub use inserting::compile_insert;
+pub use laws::{an_insert_takes_few_steps, literals_are_loaded_where_they_are_put};
 pub use nothing::compile_nothing;

@@ -1,70 +1,77 @@
-// The rows of an INSERT.
-ghost use Rattle.std.specs.Prelude.{◌≡◌, ◌+◌, ◌<◌, ◌≤◌, [], ◌∷◌, map, sum_by, OnOk};
-ghost use Rattle.eng_value.specs.Casts.{store_as};
-ghost use Rattle.eng_value.specs.Outs.{turned};
-ghost use Rattle.gen_write.specs.Writes.{row_steps};
-ghost use Rattle.gen_write.specs.Stretches.{Puts, Stores, literals_put, literals_run, stored_literals, with_row_code};
-ghost use Rattle.sql_meaning.specs.Expression.{literal_out};
+// The rows that an INSERT puts.
+ghost use Rattle.std.specs.Prelude.{◌≡◌, ◌*◌, ◌<◌, ◌≤◌, [], ◌∷◌, length, OnOk, Some};
+ghost use Rattle.std.specs.Option.{option_copied};
+ghost use Rattle.gen_write.specs.Writes.{row_steps, rows_run};
+ghost use Rattle.gen_write.specs.Stretches.{AreAllKept, AreKept, Loads, Puts, Stores, kept_at, row_course, with_row_inserted};
 ghost use Rattle.vm_code.specs.Frames.{no_calls};
 
-use eng_value::{Affinity, Text};
+use crate::refusing::refuse_bad;
+use crate::source::Kept;
+use eng_value::Text;
 use gen_expr::emit_literal;
-use sql_meaning::{BoundInsert, Literal};
+use sql_meaning::{BoundInsert, PutColumn};
+use sqlite_items::Items;
 use std::alloc::AllocError;
 use vm_code::{Builder, Op};
 
-/// Writes code that puts each row in turn through a cursor that is open on the table. The registers of one row serve the next.
-pub(crate) fn emit_rows(
+/// Writes code that puts each row of the source in turn through a cursor that is open on the table. The registers of one row serve
+/// the next. There are no causes in the register `causes` in front of a row.
+pub(crate) fn put_rows(
     b: &mut Builder,
     cursor: u32,
+    causes: u32,
     insert: &BoundInsert,
+    source: &[Items<Kept>],
 ) -> Result<(), AllocError>
+    requires taken { causes < b.old.next }
     requires counted { b.old.next ≤ b.old.most }
-    ensures puts { OnOk result (Puts no_calls b.old b.new cursor insert.now.table (literals_run insert.now insert.now.rows) (sum_by row_steps insert.now.rows)) }
+    ensures puts { OnOk result (Puts no_calls b.old b.new cursor insert.now.table causes (AreAllKept causes b.old.next source.now) (rows_run insert.now) (length source.now * row_steps (length insert.now.columns))) }
     ensures cursors { OnOk result (b.new.cursors ≡ b.old.cursors) }
 {
-    for row in insert.rows.as_slice() {
-        emit_row(b, cursor, insert, row.as_slice())?;
+    for kept in source {
+        put_row(b, cursor, causes, insert, kept.as_slice())?;
     }
     Ok(())
 }
 
-/// Writes code that stores a row's literals by the affinities and puts the row, or ends the run where it is bad.
-fn emit_row(
+/// Writes code that stores the values that are placed for the columns by their affinities and puts them as a row, or gives up where one
+/// cannot be stored.
+fn put_row(
     b: &mut Builder,
     cursor: u32,
+    causes: u32,
     insert: &BoundInsert,
-    row: &[Literal],
+    kept: &[Kept],
 ) -> Result<(), AllocError>
+    requires taken { causes < b.old.next }
     requires counted { b.old.next ≤ b.old.most }
-    ensures puts { OnOk result (Puts no_calls b.old b.new cursor insert.now.table (literals_put insert.now row.now) (row_steps row.now)) }
+    ensures puts { OnOk result (Puts no_calls b.old b.new cursor insert.now.table causes (AreKept causes b.old.next kept.now) (row_course insert.now) (row_steps (length insert.now.columns))) }
     ensures cursors { OnOk result (b.new.cursors ≡ b.old.cursors) }
 {
-    let causes = b.take()?;
-    b.op(Op::Null { to: causes })?;
     let first = b.next_register();
-    emit_columns(b, insert.affinities.as_slice(), row, causes)?;
+    emit_columns(b, insert.columns.as_slice(), kept, causes)?;
     let count = b.next_register() - first;
-    put_row(b, cursor, causes, first, count, &insert.name)?;
-    b.release(causes);
+    refuse_bad(b, causes)?;
+    insert_row(b, cursor, first, count, &insert.name)?;
+    b.release(first);
     Ok(())
 }
 
-/// Writes code that leaves what the columns store of a row's literals in registers that it takes, one after another, and adds their
+/// Writes code that leaves what the columns store of a row's values in registers that it takes, one after another, and adds their
 /// causes to those in the register `causes`.
 fn emit_columns(
     b: &mut Builder,
-    affinities: &[Affinity],
-    row: &[Literal],
+    columns: &[PutColumn],
+    kept: &[Kept],
     causes: u32,
 ) -> Result<(), AllocError>
     requires taken { causes < b.old.next }
     requires counted { b.old.next ≤ b.old.most }
-    ensures stores { OnOk result (Stores no_calls b.old b.new causes (stored_literals affinities.now row.now)) }
+    ensures stores { OnOk result (Stores no_calls b.old b.new causes kept.now columns.now) }
     ensures cursors { OnOk result (b.new.cursors ≡ b.old.cursors) }
 {
-    for (affinity, literal) in affinities.iter().zip(row) {
-        emit_column(b, *affinity, literal, causes)?;
+    for column in columns {
+        emit_column(b, column, kept, causes)?;
     }
     Ok(())
 }
@@ -72,20 +79,20 @@ fn emit_columns(
 /// The same for one column.
 fn emit_column(
     b: &mut Builder,
-    affinity: Affinity,
-    literal: &Literal,
+    column: &PutColumn,
+    kept: &[Kept],
     causes: u32,
 ) -> Result<(), AllocError>
     requires taken { causes < b.old.next }
     requires counted { b.old.next ≤ b.old.most }
-    ensures stores { OnOk result (Stores no_calls b.old b.new causes (turned (store_as affinity) (literal_out literal.now) ∷ [])) }
+    ensures stores { OnOk result (Stores no_calls b.old b.new causes kept.now (column.now ∷ [])) }
     ensures cursors { OnOk result (b.new.cursors ≡ b.old.cursors) }
 {
     let to = b.take()?;
-    emit_literal(b, literal, to)?;
+    load(b, kept_at(kept, column.place), to)?;
     b.op(Op::Affinity {
         register: to,
-        affinity,
+        affinity: column.affinity,
     })?;
     b.op(Op::Merge {
         from: to,
@@ -94,24 +101,54 @@ fn emit_column(
     Ok(())
 }
 
-/// Writes code that ends the run where `causes` is bad, and else draws a rowid and puts registers as a row.
-fn put_row(
+/// What is kept of the value at a place of a row, if there is one.
+fn kept_at<'a, 'b>(kept: &'b [Kept<'a>], place: Option<u32>) -> Option<&'b Kept<'a>>
+    ensures { option_copied result ≡ kept_at kept.now place }
+{
+    match place {
+        None => None,
+        Some(place) => kept.get(place as usize),
+    }
+}
+
+/// Writes code that leaves a value that was kept in the register `to`, and NULL where there is none.
+fn load(b: &mut Builder, kept: Option<&Kept>, to: u32) -> Result<(), AllocError>
+    requires taken { to < b.old.next }
+    requires counted { b.old.next ≤ b.old.most }
+    ensures loads { OnOk result (Loads no_calls b.old b.new to (option_copied kept.entry)) }
+    ensures cursors { OnOk result (b.new.cursors ≡ b.old.cursors) }
+{
+    match kept {
+        None => b.op(Op::Null { to })?,
+        Some(kept) => load_kept(b, kept, to)?,
+    }
+    Ok(())
+}
+
+fn load_kept(b: &mut Builder, kept: &Kept, to: u32) -> Result<(), AllocError>
+    requires taken { to < b.old.next }
+    requires counted { b.old.next ≤ b.old.most }
+    ensures loads { OnOk result (Loads no_calls b.old b.new to (Some kept.now)) }
+    ensures cursors { OnOk result (b.new.cursors ≡ b.old.cursors) }
+{
+    match kept {
+        Kept::Literal(literal) => emit_literal(b, literal, to)?,
+        Kept::Register(from) => b.op(Op::Copy { from: *from, to })?,
+    }
+    Ok(())
+}
+
+/// Writes code that draws a rowid and puts registers as a row.
+fn insert_row(
     b: &mut Builder,
     cursor: u32,
-    causes: u32,
     first: u32,
     count: u32,
     name: &Text,
 ) -> Result<(), AllocError>
-    ensures { OnOk result (b.new ≡ with_row_code b.old cursor causes first count name.now) }
+    ensures { OnOk result (b.new ≡ with_row_inserted b.old cursor first count name.now) }
 {
-    let next = b.label()?;
-    let fail = b.label()?;
     let rowid = b.take()?;
-    b.op(Op::IsBad {
-        register: causes,
-        target: fail,
-    })?;
     b.op(Op::NewRowid {
         cursor,
         to: rowid,
@@ -122,10 +159,5 @@ fn put_row(
         rowid,
         first,
         count,
-    })?;
-    b.op(Op::Goto { target: next })?;
-    b.bind(fail)?;
-    b.op(Op::HaltBad { register: causes })?;
-    b.bind(next)?;
-    Ok(())
+    })
 }

@@ -60,7 +60,7 @@ BehindName n f = (t : Token) → size_of (f t) ≤ 1 + n
 -- what stands between brackets; a query counts with its brackets, a CASE with its two words, and a list behind IN with that word
 abbrev pub Enclosed : (A : Type 0) → Name A → Fact A
 Enclosed A name.parenthesized n e = size_of e ≤ n + 2
-Enclosed A name.row n es = length es ≤ n
+Enclosed A name.row n es = total (map size_of es) ≤ n
 Enclosed A name.arguments n p = total (map size_of p.1) ≤ n
 Enclosed A name.condition n e = size_of e ≤ n
 Enclosed A name.cast n p = size_of p.0 ≤ n

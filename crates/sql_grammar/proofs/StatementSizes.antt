@@ -307,22 +307,14 @@ module _ (inner : (A : Type 0) → Name A → Lang A) (known : (A : Type 0) (n :
 
   -- ---- each name
 
-  expr_not_empty : Keeps SomeToken expr
-  unfolding all_statement_rules
-  expr_not_empty = weighs_something refl
-
   parenthesized_keeps : Keeps (λ n x. size_of x ≤ n + 2) expr
   parenthesized_keeps = let f = expr_keeps inner known in record { by = λ w x d. let h = f.by w x d in omega arith }
-
-  rows_keep : Keeps AsMany exprs
-  unfolding exprs
-  rows_keep = list_keeps inner known expr_not_empty (λ n a h. omega arith) (omega arith) (λ m n a more p q. omega arith)
 
   pub enclosed_within : (A : Type 0) (n : Name A) → Keeps (Enclosed A n) (rules A n)
   enclosed_within A name.parenthesized = weighs_alt (weighs_to (anything inner known) (λ n q h. let s = size_of-Subquery q in omega arith)) parenthesized_keeps
   enclosed_within A name.subquery = anything inner known
   enclosed_within A name.expression = anything inner known
-  enclosed_within A name.row = rows_keep
+  enclosed_within A name.row = exprs_keep inner known
   enclosed_within A name.arguments = weighs_to (maybe_keeps inner known {Q = λ n o. Together n (or_no_arguments o).1} (some_arguments_keep inner known) (omega arith) (λ n a h. h)) (λ n o h. h)
   enclosed_within A name.table_arguments = anything inner known
   enclosed_within A name.condition = after_one inner known (expr_keeps inner known) (λ n a h. omega arith)

@@ -14,3 +14,5 @@ mod Signing
 mod Taking
 mod Widths
 mod WordPieces
+pub mod FirstTokens
+pub mod TokenCuts

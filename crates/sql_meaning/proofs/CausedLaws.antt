@@ -25,7 +25,7 @@ use Rattle.eng_value.specs.declared.value.Value.{Value}
 use Rattle.eng_value.specs.declared.value.Value.TheVariants as value
 use Rattle.eng_key.specs.Values.{value_keys}
 use Rattle.std.proofs.Common.{ℤ}
-use Rattle.sql_meaning.specs.BoundStatements.{BoundStatement, Creates, FromItem, Put, Puts, Queries}
+use Rattle.sql_meaning.specs.BoundStatements.{BoundStatement, Creates, DoesNothing, Drops, FromItem, Put, Puts, Queries, Shows}
 use Rattle.sql_meaning.specs.declared.bound.BoundArm.{BoundArm}
 use Rattle.sql_meaning.specs.declared.bound.BoundExpr.{BoundExpr}
 use Rattle.sql_meaning.specs.declared.bound.BoundMatch.{BoundMatch}
@@ -37,8 +37,8 @@ use Rattle.sql_meaning.specs.declared.column.Column.{Column}
 use Rattle.sql_meaning.specs.declared.column.TableEntry.{TableEntry}
 use Rattle.sql_meaning.specs.Binding.{◌>>=◌}
 use Rattle.sql_meaning.specs.Expression.{Arm, MatchArm, Meaning, arm_of, arm_step, chosen_in, first_known, in_all, literal_out, match_of, match_step, matched_in, parameter_of, value_of, value_step}
-use Rattle.sql_meaning.specs.Statement.{IsNamed, Item, Row, Failed, after_conjunct, all_put, begun, bound_outcome, causes_of, given_of, if_some, item_by, item_of, item_put, item_rows, items_at, items_of, outcome_of, product, put_source, refusal_of, row_put, row_under, rows_put, shown, sifted, source_of, stored, text_bound, text_outcome, with_others}
-use Rattle.sql_meaning.specs.World.{Context, State, environment_at, rows_at, rows_of, table_at}
+use Rattle.sql_meaning.specs.Statement.{IsNamed, Item, Row, Failed, after_conjunct, all_put, begun, bound_outcome, causes_of, given_of, if_some, item_by, item_of, item_put, item_rows, items_at, items_of, outcome_of, product, put_source, refusal_of, row_put, row_under, rows_put, shown, shown_rows, sifted, source_of, stored, text_bound, text_outcome, values_placed, with_others}
+use Rattle.sql_meaning.specs.World.{Context, State, environment_at, rows_at}
 use Rattle.sql_meaning.proofs.CausedOperators.{AreCaused, IsCaused, IsCausedSet, IsCausedTruth, and_of-caused, bad-caused, binary_of-caused, choice_of-caused, comparison_of-caused, function_by-caused, good, like_escaped_of-caused, made-caused, member_of-caused, merged-caused, only-caused, or_else-caused, store_as-caused, truth_in-caused, truth_of-caused, unary_of-caused, union-caused}
 
 -- ---- rows whose causes are causes
@@ -258,7 +258,7 @@ table-caused ignored (r ∷ rows) = (ignoring-caused ignored (table_row r) (all-
 product-caused : (ctx : Context) (items : List FromItem) (rows : List ItemRow) → RowsCaused rows → EachCaused (product ctx items rows)
 product-caused ctx [] rows c = (c, tt)
 product-caused ctx (i ∷ items) rows c =
-    each-flat (λ r. product ctx items (rows ++ r ∷ [])) (item_rows ctx i) (table-caused i.ignored (rows_of ctx.state.world.tables i.table.name))
+    each-flat (λ r. product ctx items (rows ++ r ∷ [])) (item_rows ctx i) (table-caused i.ignored (rows_at ctx.state.world.tables i.table.number))
     (λ r d. product-caused ctx items (rows ++ r ∷ []) (behind-caused rows r c d))
 
 items-told : (ctx : Context) (conjuncts results : List BoundExpr) (all : List (List ItemRow)) → EachCaused all → AreTold (flat_map (λ rows. items_at conjuncts results (environment_at ctx rows)) all)
@@ -296,24 +296,25 @@ stored-caused [] values = tt
 stored-caused (c ∷ columns) [] = tt
 stored-caused (c ∷ columns) (v ∷ values) = (store_as-caused c.affinity v, stored-caused columns values)
 
-under-told : (t : TableEntry) (table : ℕ) (x : Written) (values : List Value) (rowid : Option ℤ) → ToldWrite (row_under t table x values rowid)
-under-told t table x values None = only-caused (cause.Full t.name)
-under-told t table x values (Some rowid) = tt
+under-told : (t : TableEntry) (x : Written) (values : List Value) (rowid : Option ℤ) → ToldWrite (row_under t x values rowid)
+under-told t x values None = only-caused (cause.Full t.name)
+under-told t x values (Some rowid) = tt
 
-item_put-told : (t : TableEntry) (table : ℕ) (x : Written) (i : Item) → ToldItem i → ToldWrite (item_put t table x i)
-item_put-told t table x (Row values) c = under-told t table x values (next_rowid (rows_at x.world table))
-item_put-told t table x (Failed causes) c = c
+item_put-told : (t : TableEntry) (x : Written) (i : Item) → ToldItem i → ToldWrite (item_put t x i)
+item_put-told t x (Row values) c = under-told t x values (next_rowid (rows_at x.world t.number))
+item_put-told t x (Failed causes) c = c
 
 and_then-told : (r : Result Written CauseSet) (g : Written → Result Written CauseSet) → ToldWrite r → ((x : Written) → ToldWrite (g x)) → ToldWrite (r >>= g)
 and_then-told (Ok x) g c h = h x
 and_then-told (Err causes) g c h = c
 
-rows_put-told : (t : TableEntry) (table : ℕ) (x : Written) (source : List (List Value)) → ToldWrite (rows_put t table x source)
-rows_put-told t table x [] = tt
-rows_put-told t table x (row ∷ source) =
-    and_then-told (row_put t table x row) (λ more. rows_put t table more source)
-    (item_put-told t table x (item_of no_causes (stored t.columns row)) (item_of-told no_causes (stored t.columns row) (good value.Null) (stored-caused t.columns row)))
-    (λ more. rows_put-told t table more source)
+rows_put-told : (p : Put) (x : Written) (source : List (List Value)) → ToldWrite (rows_put p x source)
+rows_put-told p x [] = tt
+rows_put-told p x (row ∷ source) =
+    let outs = stored p.table.columns (values_placed p.places row) in
+    and_then-told (row_put p x row) (λ more. rows_put p more source)
+    (item_put-told p.table x (item_of no_causes outs) (item_of-told no_causes outs (good value.Null) (stored-caused p.table.columns (values_placed p.places row))))
+    (λ more. rows_put-told p more source)
 
 all_put-told : (state : State) (r : Result Written CauseSet) → ToldWrite r → ToldRefusal (all_put state r).refusal
 all_put-told state (Ok x) c = tt
@@ -332,21 +333,21 @@ causes_of-told (Failed causes ∷ items) c = with_others-told (named causes) (ca
 put_source-told : (state : State) (p : Put) (causes : Option CauseSet) (source : List (List Value)) → ToldRefusal causes → ToldRefusal (put_source state p causes source).refusal
 put_source-told state p (Some causes) source c = c
 put_source-told state p None source c =
-    all_put-told state (rows_put p.table (table_at state.world p.table.name) (begun state) source) (rows_put-told p.table (table_at state.world p.table.name) (begun state) source)
+    all_put-told state (rows_put p (begun state) source) (rows_put-told p (begun state) source)
 
-literals-caused : (row : List Literal) → AreCaused (map literal_out row)
-literals-caused [] = tt
-literals-caused (l ∷ row) = (literal-caused l, literals-caused row)
-
-source-told : (rows : List (List Literal)) → AreTold (map (λ row. item_of no_causes (map literal_out row)) rows)
-source-told [] = tt
-source-told (row ∷ rows) = (item_of-told no_causes (map literal_out row) (good value.Null) (literals-caused row), source-told rows)
+-- rows of values
+rows-told : (ctx : Context) (rows : List (List BoundExpr)) → AreTold (shown_rows ctx rows)
+rows-told ctx [] = tt
+rows-told ctx (row ∷ rows) = (item_of-told no_causes (map (λ r. value_of r (environment_at ctx [])) row) (good value.Null) (results-caused row (environment_at ctx []) tt), rows-told ctx rows)
 
 -- ---- any statement
 
 outcome_of-told : (ctx : Context) (b : BoundStatement) → ToldRefusal (outcome_of ctx b).refusal
-outcome_of-told ctx (Creates t) = tt
-outcome_of-told ctx (Puts p) = put_source-told ctx.state p (causes_of (source_of p)) (given_of (source_of p)) (causes_of-told (source_of p) (source-told p.rows))
+outcome_of-told ctx (Creates e) = tt
+outcome_of-told ctx (Drops t) = tt
+outcome_of-told ctx (Puts p) = put_source-told ctx.state p (causes_of (source_of ctx p)) (given_of (source_of ctx p)) (causes_of-told (source_of ctx p) (rows-told ctx p.rows))
+outcome_of-told ctx (Shows rows) = refusal-named (refusal_of (shown_rows ctx rows)) (refusal_of-told (shown_rows ctx rows) (rows-told ctx rows))
+outcome_of-told ctx DoesNothing = tt
 outcome_of-told ctx (Queries q) = refusal-named (refusal_of (items_of ctx q)) (refusal_of-told (items_of ctx q) (items-told ctx q.conjuncts q.results (product ctx q.from []) (product-caused ctx q.from [] tt)))
 
 bound_outcome-told : (ctx : Context) (r : Result BoundStatement Cause) → ToldRefusal (bound_outcome ctx r).refusal
@@ -359,4 +360,4 @@ by_name (Some causes) c = (Some c.0, c.1)
 
 -- a refusal has a cause that can be named
 pub text_outcome-named : (ctx : Context) (text : List ℕ) → (why : Option Cause) × IsNamed (text_outcome ctx text).refusal why
-text_outcome-named ctx text = by_name (text_outcome ctx text).refusal (bound_outcome-told ctx (text_bound ctx.state.world.catalog text))
+text_outcome-named ctx text = by_name (text_outcome ctx text).refusal (bound_outcome-told ctx (text_bound ctx.state.world text))

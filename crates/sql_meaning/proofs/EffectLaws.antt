@@ -17,14 +17,13 @@ use Rattle.eng_value.specs.declared.value.Value.{Value}
 use Rattle.sql_meaning.specs.declared.bound.BoundExpr.{BoundExpr}
 use Rattle.sql_meaning.specs.declared.column.TableEntry.{TableEntry}
 use Rattle.sql_meaning.specs.Binding.{◌>>=◌}
+use Rattle.sql_meaning.specs.BoundStatements.{Put}
 use Rattle.sql_meaning.specs.Effects.{AreDrawn, IsFull, IsOneMore, last_rowid_of}
 use Rattle.sql_meaning.specs.Expression.{value_of}
-use Rattle.sql_meaning.specs.Names.{is_same_name}
-use Rattle.sql_meaning.specs.Statement.{Row, after_conjunct, if_some, item_of, items_at, row_put, row_under, rows_put, sifted, stored, with_row}
+use Rattle.sql_meaning.specs.Statement.{Row, after_conjunct, if_some, item_of, items_at, row_put, row_under, rows_put, sifted, stored, values_placed, with_row}
 use Rattle.sql_meaning.specs.Valid.{AreRowsOf, IsRowOf}
-use Rattle.sql_meaning.specs.World.{rows_at, rows_of, with_rows}
-use Rattle.sql_meaning.proofs.NameLaws.{is_same_name-left, is_same_name-refl, is_same_name_comm}
-use Rattle.sql_meaning.proofs.StoringLaws.{AreWide, PutsRow, drawn, one_behind, row_put-one}
+use Rattle.sql_meaning.specs.World.{rows_at}
+use Rattle.sql_meaning.proofs.StoringLaws.{PutsRow, drawn, one_behind, row_put-one}
 
 -- ---- conjuncts
 
@@ -108,15 +107,16 @@ none-full t (x ∷ rows) valid = let last = last_of x rows in none_by t x rows l
 
 -- ---- a row that is put
 
-under_full : (t : TableEntry) (table : ℕ) (x : Written) (values : List Value) (rowid : Option ℤ) → next_rowid (rows_at x.world table) ≡ rowid → ((next_rowid (rows_at x.world table) ≡ None) ↔ IsFull (rows_at x.world table))
-    → ((row_under t table x values rowid ≡ Err (only (Full t.name))) ↔ IsFull (rows_at x.world table)) × (((y : Written) × (row_under t table x values rowid ≡ Ok y)) ⊎ IsFull (rows_at x.world table))
-under_full t table x values None is full = ((λ e. full.0 is, λ f. refl), inr (full.0 is))
-under_full t table x values (Some n) is full =
+under_full : (t : TableEntry) (x : Written) (values : List Value) (rowid : Option ℤ) → next_rowid (rows_at x.world t.number) ≡ rowid → ((next_rowid (rows_at x.world t.number) ≡ None) ↔ IsFull (rows_at x.world t.number))
+    → ((row_under t x values rowid ≡ Err (only (Full t.name))) ↔ IsFull (rows_at x.world t.number)) × (((y : Written) × (row_under t x values rowid ≡ Ok y)) ⊎ IsFull (rows_at x.world t.number))
+under_full t x values None is full = ((λ e. full.0 is, λ f. refl), inr (full.0 is))
+under_full t x values (Some n) is full =
     ((λ e. absurd (cc), λ f. absurd (let bad : Some n ≡ None = sym is ∙ full.1 f in cc)), inl (_, refl))
 
-pub full_exactly : (t : TableEntry) (table : ℕ) (x : Written) (source values : List Value) → AreRowsOf t (rows_at x.world table) → item_of no_causes (stored t.columns source) ≡ Row values
-    → ((row_put t table x source ≡ Err (only (Full t.name))) ↔ IsFull (rows_at x.world table)) × (((y : Written) × (row_put t table x source ≡ Ok y)) ⊎ IsFull (rows_at x.world table))
-full_exactly t table x source values valid is = rw is (under_full t table x values (next_rowid (rows_at x.world table)) refl (none-full t (rows_at x.world table) valid))
+pub full_exactly : (p : Put) (x : Written) (source values : List Value) → AreRowsOf p.table (rows_at x.world p.table.number) → item_of no_causes (stored p.table.columns (values_placed p.places source)) ≡ Row values
+    → ((row_put p x source ≡ Err (only (Full p.table.name))) ↔ IsFull (rows_at x.world p.table.number)) × (((y : Written) × (row_put p x source ≡ Ok y)) ⊎ IsFull (rows_at x.world p.table.number))
+full_exactly p x source values valid is =
+    rw is (under_full p.table x values (next_rowid (rows_at x.world p.table.number)) refl (none-full p.table (rows_at x.world p.table.number) valid))
 
 -- ---- rows that are put
 
@@ -178,30 +178,10 @@ first_put t table x y count (Ok more) others within valid one rest e =
     subst (λ (m : Written). AreRowsOf t (rows_at m.world table)) (sym row.behind) (subst (AreRowsOf t) (sym (rows_at-with_row x table row.row within)) (one_behind t old row.row valid row.next row.held)) in
     put_then t table x y row.row count within valid row.next (subst (λ m. PutsRows t table m y count) row.behind (rest more wide held e))
 
-pub rows_put-all : (t : TableEntry) (table : ℕ) (x y : Written) (source : List (List Value)) → AreWide (length t.columns) source → table < length x.world → AreRowsOf t (rows_at x.world table) → rows_put t table x source ≡ Ok y → PutsRows t table x y (length source)
-rows_put-all t table x y [] wide within valid e = subst (λ m. PutsRows t table x m 0) (let same : x ≡ y = cc in same) (none_put t table x valid)
-rows_put-all t table x y (row ∷ source) wide within valid e =
-    first_put t table x y (length source) (row_put t table x row) (λ more. rows_put t table more source) within valid
-    (λ more is. row_put-one t table x more row wide.0 is) (λ more in_it ok is. rows_put-all t table more y source wide.1 in_it ok is) e
-
--- ---- tables with other rows
-
-rows_with-same_by : (tables : List (List ℕ × List StoredRow)) (r : List ℕ × List StoredRow) (name : List ℕ) (rows : List StoredRow) (b : Bool) → is_same_name r.0 name ≡ b → rows_of (with_rows tables name rows) name ≡ rows
-    → rows_of (if b then (r.0, rows) ∷ tables else r ∷ with_rows tables name rows) name ≡ rows
-rows_with-same_by tables r name rows true is rest = rw is refl
-rows_with-same_by tables r name rows false is rest = rw is rest
-
-pub rows_with-same : (tables : List (List ℕ × List StoredRow)) (name : List ℕ) (rows : List StoredRow) → rows_of (with_rows tables name rows) name ≡ rows
-rows_with-same [] name rows = rw (is_same_name-refl name) refl
-rows_with-same (r ∷ tables) name rows = rows_with-same_by tables r name rows (is_same_name r.0 name) refl (rows_with-same tables name rows)
-
-rows_with-other_by : (tables : List (List ℕ × List StoredRow)) (r : List ℕ × List StoredRow) (name other : List ℕ) (rows : List StoredRow) (b : Bool) → is_same_name r.0 name ≡ b → is_same_name name other ≡ false → rows_of (with_rows tables name rows) other ≡ rows_of tables other
-    → rows_of (if b then (r.0, rows) ∷ tables else r ∷ with_rows tables name rows) other ≡ rows_of (r ∷ tables) other
-rows_with-other_by tables r name other rows true is differs rest =
-    let there : is_same_name r.0 other ≡ false = is_same_name_comm r.0 other ∙ is_same_name-left other r.0 name is ∙ is_same_name_comm other name ∙ differs in
-    rw there refl
-rows_with-other_by tables r name other rows false is differs rest = ap (λ rs. if is_same_name r.0 other then r.1 else rs) rest
-
-pub rows_with-other : (tables : List (List ℕ × List StoredRow)) (name other : List ℕ) (rows : List StoredRow) → is_same_name name other ≡ false → rows_of (with_rows tables name rows) other ≡ rows_of tables other
-rows_with-other [] name other rows differs = rw differs refl
-rows_with-other (r ∷ tables) name other rows differs = rows_with-other_by tables r name other rows (is_same_name r.0 name) refl differs (rows_with-other tables name other rows differs)
+pub rows_put-all : (p : Put) (x y : Written) (source : List (List Value)) → length p.places ≡ length p.table.columns → p.table.number < length x.world → AreRowsOf p.table (rows_at x.world p.table.number) → rows_put p x source ≡ Ok y
+    → PutsRows p.table p.table.number x y (length source)
+rows_put-all p x y [] wide within valid e =
+    subst (λ m. PutsRows p.table p.table.number x m 0) (let same : x ≡ y = cc in same) (none_put p.table p.table.number x valid)
+rows_put-all p x y (row ∷ source) wide within valid e =
+    first_put p.table p.table.number x y (length source) (row_put p x row) (λ more. rows_put p more source) within valid
+    (λ more is. row_put-one p x more row wide is) (λ more in_it ok is. rows_put-all p more y source wide in_it ok is) e

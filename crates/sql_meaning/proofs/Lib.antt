@@ -6,7 +6,7 @@ pub mod CausedLaws
 pub mod RefusalLaws
 pub mod StoringLaws
 pub mod EffectLaws
-pub mod TableNumbers
+pub mod TableLaws
 pub mod ValidLaws
 pub mod DoneLaws
 pub mod TellingLaws

@@ -3,7 +3,7 @@ use Rattle.std.proofs.Common.{◌≡◌, ◌↔◌, ℕ, List, true, refl, sym, 
 use Rattle.std.specs.Str.{str_to_ascii_lowercase}
 use Rattle.std.specs.Cmp.Lexicographic.{bytes_decides}
 use Rattle.std.proofs.lemmas.Bool.Decides.{same_from_decides}
-use Rattle.sql_meaning.specs.Names.{is_same_name}
+use Rattle.eng_entry.specs.Names.{is_same_name}
 
 -- two names name one thing exactly where they are the same in lower case
 pub is_same_name-true : (a b : List ℕ) → (is_same_name a b ≡ true) ↔ (str_to_ascii_lowercase a ≡ str_to_ascii_lowercase b)

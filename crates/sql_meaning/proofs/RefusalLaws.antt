@@ -5,9 +5,9 @@ use Rattle.eng_value.specs.Causes.{CauseSet, named, only}
 use Rattle.eng_value.specs.Written.{Written}
 use Rattle.eng_value.specs.declared.cause.Cause.{Cause}
 use Rattle.eng_value.specs.declared.value.Value.{Value}
-use Rattle.sql_meaning.specs.BoundStatements.{BoundStatement, Creates, Put, Puts, Queries}
+use Rattle.sql_meaning.specs.BoundStatements.{BoundStatement, Creates, DoesNothing, Drops, Put, Puts, Queries, Shows}
 use Rattle.sql_meaning.specs.Statement.{Outcome, all_put, begun, bound_outcome, causes_of, given_of, outcome_of, put_source, refused, rows_put, source_of, text_bound, text_outcome}
-use Rattle.sql_meaning.specs.World.{Context, State, table_at}
+use Rattle.sql_meaning.specs.World.{Context, State}
 
 -- where it is a refusal, it changes nothing
 record Keeps (state : State) (o : Outcome) : Type 0 where
@@ -22,12 +22,15 @@ all_put-keeps state (Err causes) = refused-keeps state (named causes)
 
 put_source-keeps : (state : State) (p : Put) (causes : Option CauseSet) (source : List (List Value)) → Keeps state (put_source state p causes source)
 put_source-keeps state p (Some causes) source = refused-keeps state causes
-put_source-keeps state p None source = all_put-keeps state (rows_put p.table (table_at state.world p.table.name) (begun state) source)
+put_source-keeps state p None source = all_put-keeps state (rows_put p (begun state) source)
 
 outcome_of-keeps : (ctx : Context) (b : BoundStatement) → Keeps ctx.state (outcome_of ctx b)
-outcome_of-keeps ctx (Creates t) = record { kept = λ causes e. absurd (let bad : None ≡ Some causes = e in cc) }
-outcome_of-keeps ctx (Puts p) = put_source-keeps ctx.state p (causes_of (source_of p)) (given_of (source_of p))
-outcome_of-keeps ctx (Queries q) = record { kept = λ causes e. (refl, refl, refl) }
+outcome_of-keeps ctx (Creates e) = record { kept = λ causes is. absurd (let bad : None ≡ Some causes = is in cc) }
+outcome_of-keeps ctx (Drops t) = record { kept = λ causes is. absurd (let bad : None ≡ Some causes = is in cc) }
+outcome_of-keeps ctx (Puts p) = put_source-keeps ctx.state p (causes_of (source_of ctx p)) (given_of (source_of ctx p))
+outcome_of-keeps ctx (Queries q) = record { kept = λ causes is. (refl, refl, refl) }
+outcome_of-keeps ctx (Shows rows) = record { kept = λ causes is. (refl, refl, refl) }
+outcome_of-keeps ctx DoesNothing = record { kept = λ causes is. (refl, refl, refl) }
 
 bound_outcome-keeps : (ctx : Context) (r : Result BoundStatement Cause) → Keeps ctx.state (bound_outcome ctx r)
 bound_outcome-keeps ctx (Ok b) = outcome_of-keeps ctx b
@@ -36,4 +39,4 @@ bound_outcome-keeps ctx (Err why) = refused-keeps ctx.state (only why)
 -- a statement that is refused changes no row, tells no hook of any, and leaves the state as it is
 pub text_outcome-refused : (ctx : Context) (text : List ℕ) (causes : CauseSet) → (text_outcome ctx text).refusal ≡ Some causes
     → ((text_outcome ctx text).next ≡ ctx.state) × ((text_outcome ctx text).changed ≡ 0) × ((text_outcome ctx text).told ≡ [])
-text_outcome-refused ctx text = (bound_outcome-keeps ctx (text_bound ctx.state.world.catalog text)).kept
+text_outcome-refused ctx text = (bound_outcome-keeps ctx (text_bound ctx.state.world text)).kept

@@ -1,6 +1,5 @@
 -- What a column has stored it stores as it is, and the rows that are put are rows of their table.
 use Rattle.std.proofs.Common.{◌≡◌, ℕ, fold, suc, ◌-◌, List, [], ◌∷◌, ◌++◌, Bool, true, false, length, map, Option, Some, None, Ok, Err, ℤ, pos, ◌+ℤ◌, ◌<ℤ◌, int_le, slice_get, if◌then◌else◌, All, refl, sym, ap, ◌∙◌, subst, arith}
-use Rattle.std.specs.Bool.{⊤}
 use Rattle.std.specs.List.{AllZip}
 use Rattle.std.proofs.lemmas.Int.{ints}
 use Rattle.std.proofs.lemmas.List.Elements.{All-cons, All-head, All-nil, All-push, All-tail}
@@ -19,9 +18,11 @@ use Rattle.eng_value.specs.declared.out.Out.{Out}
 use Rattle.eng_value.specs.declared.out.Out.TheVariants.{Good, Bad}
 use Rattle.eng_value.specs.declared.value.Value.{Value}
 use Rattle.eng_value.specs.declared.value.Value.TheVariants as value
+use Rattle.std.proofs.lemmas.List.{length-map}
+use Rattle.sql_meaning.specs.BoundStatements.{Put}
 use Rattle.sql_meaning.specs.declared.column.Column.{Column}
 use Rattle.sql_meaning.specs.declared.column.TableEntry.{TableEntry}
-use Rattle.sql_meaning.specs.Statement.{Item, Row, Failed, good_or_null, item_by, item_of, item_put, row_put, row_under, stored, with_row}
+use Rattle.sql_meaning.specs.Statement.{Item, Row, Failed, good_or_null, item_by, item_of, item_put, row_put, row_under, stored, value_at, values_placed, with_row}
 use Rattle.eng_value.specs.Environments.{no_causes, with_causes}
 use Rattle.sql_meaning.specs.Valid.{AreRowsOf, IsHeldBy, IsRowOf}
 use Rattle.sql_meaning.specs.World.{rows_at}
@@ -133,21 +134,23 @@ pub record PutsRow (t : TableEntry) (table : ℕ) (x y : Written) : Type 0 where
   pub next : next_rowid (rows_at x.world table) ≡ Some row.rowid
   pub held : AllZip IsHeldBy t.columns row.values
 
-one_under : (t : TableEntry) (table : ℕ) (x y : Written) (values : List Value) (rowid : Option ℤ) → next_rowid (rows_at x.world table) ≡ rowid → AllZip IsHeldBy t.columns values → row_under t table x values rowid ≡ Ok y → PutsRow t table x y
-one_under t table x y values None next held e = absurd (cc)
-one_under t table x y values (Some n) next held e =
+one_under : (t : TableEntry) (x y : Written) (values : List Value) (rowid : Option ℤ) → next_rowid (rows_at x.world t.number) ≡ rowid → AllZip IsHeldBy t.columns values → row_under t x values rowid ≡ Ok y → PutsRow t t.number x y
+one_under t x y values None next held e = absurd (cc)
+one_under t x y values (Some n) next held e =
     let r : StoredRow = record { rowid = n; values = values } in
-    let same : with_row x table r ≡ y = cc in
+    let same : with_row x t.number r ≡ y = cc in
     record { row = r; behind = sym same; next = next; held = held }
 
-one_item : (t : TableEntry) (table : ℕ) (x y : Written) (i : Item) → ((ws : List Value) → i ≡ Row ws → AllZip IsHeldBy t.columns ws) → item_put t table x i ≡ Ok y → PutsRow t table x y
-one_item t table x y (Row ws) held e = one_under t table x y ws (next_rowid (rows_at x.world table)) refl (held ws refl) e
-one_item t table x y (Failed causes) held e = absurd (let bad : Err causes ≡ Ok y = e in cc)
+one_item : (t : TableEntry) (x y : Written) (i : Item) → ((ws : List Value) → i ≡ Row ws → AllZip IsHeldBy t.columns ws) → item_put t x i ≡ Ok y → PutsRow t t.number x y
+one_item t x y (Row ws) held e = one_under t x y ws (next_rowid (rows_at x.world t.number)) refl (held ws refl) e
+one_item t x y (Failed causes) held e = absurd (let bad : Err causes ≡ Ok y = e in cc)
 
 -- what is put is one row more
-pub row_put-one : (t : TableEntry) (table : ℕ) (x y : Written) (values : List Value) → length values ≡ length t.columns → row_put t table x values ≡ Ok y → PutsRow t table x y
-row_put-one t table x y values wide e =
-    one_item t table x y (item_of no_causes (stored t.columns values)) (λ ws is. stored-held t.columns values ws wide (item_of-good (stored t.columns values) ws is)) e
+pub row_put-one : (p : Put) (x y : Written) (values : List Value) → length p.places ≡ length p.table.columns → row_put p x values ≡ Ok y → PutsRow p.table p.table.number x y
+row_put-one p x y values wide e =
+    let placed = values_placed p.places values in
+    one_item p.table x y (item_of no_causes (stored p.table.columns placed))
+    (λ ws is. stored-held p.table.columns placed ws (length-map p.places (value_at values) ∙ wide) (item_of-good (stored p.table.columns placed) ws is)) e
 
 -- and they stay rows of their table
 pub one_behind : (t : TableEntry) (rows : List StoredRow) (r : StoredRow) → AreRowsOf t rows → next_rowid rows ≡ Some r.rowid → AllZip IsHeldBy t.columns r.values → AreRowsOf t (rows ++ r ∷ [])
@@ -157,8 +160,3 @@ one_behind t rows r valid next held =
       ascending = all_pairs_push (λ (a b : StoredRow). a.rowid <ℤ b.rowid) rows r valid.ascending (λ k d l. new.above k d l);
       each = All-push (IsRowOf t) rows r valid.each (record { rowid = new.fits; values = held });
     }
-
--- each of these has so many
-abbrev pub AreWide : {X : Type 0} → ℕ → List (List X) → Type 0
-AreWide n [] = ⊤
-AreWide n (row ∷ rows) = (length row ≡ n) × AreWide n rows

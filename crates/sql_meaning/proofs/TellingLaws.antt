@@ -22,4 +22,4 @@ without_hosts names = record { each = all_tell names; authorizer = tt }
 
 pub text_is_told : (state : State) (params : List Value) (text : List ℕ) → TextIsTold (context no_hosts state params) text
 unfolding TextIsTold
-text_is_told state params text = without_hosts (named_by (text_bound state.world.catalog text))
+text_is_told state params text = without_hosts (named_by (text_bound state.world text))

@@ -46,7 +46,7 @@ use Rattle.sql_meaning.specs.declared.builtins.ArgumentCount.{ArgumentCount}
 use Rattle.sql_meaning.specs.declared.builtins.ArgumentCount.TheVariants as count
 use Rattle.sql_meaning.specs.declared.builtins.TheConstants.{BUILTINS}
 use Rattle.sql_meaning.specs.declared.column.Column.{Column}
-use Rattle.sql_meaning.specs.Names.{is_same_name}
+use Rattle.eng_entry.specs.Names.{is_same_name}
 use Rattle.sql_meaning.specs.Spelled.{name_at, literal_at, is_least_magnitude}
 use Rattle.sql_meaning.specs.declared.column.TableEntry.{TableEntry}
 
@@ -64,10 +64,11 @@ in_turn f (a ∷ rest) = f a >>= λ b. in_turn f rest >>= λ bs. Ok (b ∷ bs)
 
 -- ---- what names are looked up in
 
--- the statement's text, and the table of its FROM
+-- the statement's text, the table of its FROM, and the name by which that is called there
 pub record Scope : Type 0 where
   pub text : List ℕ
   pub table : Option TableEntry
+  pub shown : List ℕ
 
 -- ---- bound expressions
 
@@ -159,9 +160,10 @@ column_bound name (Some t) = column_in name t.columns name
 abbrev pub dotted : List ℕ → List ℕ → List ℕ
 dotted table name = table ++ codes "." ++ name
 
-abbrev pub table_column_bound : List ℕ → List ℕ → Option TableEntry → Result Bound Cause
-table_column_bound table name None = unknown_column (dotted table name)
-table_column_bound table name (Some t) = if is_same_name t.name table then column_in (dotted table name) t.columns name else unknown_column (dotted table name)
+-- a table that has another name there is not called by its own
+abbrev pub table_column_bound : List ℕ → List ℕ → List ℕ → Option TableEntry → Result Bound Cause
+table_column_bound table name shown None = unknown_column (dotted table name)
+table_column_bound table name shown (Some t) = if is_same_name shown table then column_in (dotted table name) t.columns name else unknown_column (dotted table name)
 
 abbrev pub parameter_bound : Token → Bound
 parameter_bound t = over [] (e.Parameter (unwrap_or t.parameter 0))
@@ -370,7 +372,7 @@ abbrev pub bind_step : ExprStep Binding ArmBinding → Binding
 bind_step (Expr-F.Literal t) s = Ok (literal_bound s.text t)
 bind_step (Expr-F.Parameter t) s = Ok (parameter_bound t)
 bind_step (Expr-F.Column t) s = column_bound (name_at s.text t) s.table
-bind_step (Expr-F.TableColumn t c) s = table_column_bound (name_at s.text t) (name_at s.text c) s.table
+bind_step (Expr-F.TableColumn t c) s = table_column_bound (name_at s.text t) (name_at s.text c) s.shown s.table
 bind_step (Expr-F.Unary o a) s = a s >>= λ x. Ok (unary_bound o x)
 bind_step (Expr-F.Binary o a b) s = a s >>= λ x. b s >>= λ y. Ok (binary_bound o x y)
 bind_step (Expr-F.Between a b c) s = a s >>= λ x. b s >>= λ y. c s >>= λ z. Ok (between_bound x y z)

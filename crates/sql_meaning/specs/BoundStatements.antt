@@ -1,7 +1,7 @@
 -- Statements whose names are bound.
 use Rattle.std.specs.Prelude.{ℕ, List, Option}
+use Rattle.eng_entry.specs.declared.entry.Entry.{Entry}
 use Rattle.sql_meaning.specs.declared.bound.BoundExpr.{BoundExpr}
-use Rattle.sql_meaning.specs.declared.bound.Literal.{Literal}
 use Rattle.sql_meaning.specs.declared.column.TableEntry.{TableEntry}
 
 -- an item of a FROM: its table, and which of its columns are ignored, so that they read NULL; without a place it is the rowid
@@ -15,13 +15,17 @@ pub record Query : Type 0 where
   pub conjuncts : List BoundExpr
   pub results : List BoundExpr
 
--- rows for a table
+-- rows for a table: for each of its columns the place of the column's value in a row of the source, where it has one, and what the values of each row come of
 pub record Put : Type 0 where
   pub table : TableEntry
-  pub rows : List (List Literal)
+  pub places : List (Option ℕ)
+  pub rows : List (List BoundExpr)
 
--- a table that is created, rows that are put, or a query
+-- an entry that is created, a table that is dropped, rows that are put, a query, rows of values that are shown, or nothing at all
 pub data BoundStatement : Type 0 where
-  Creates : TableEntry → BoundStatement
+  Creates : Entry → BoundStatement
+  Drops : TableEntry → BoundStatement
   Puts : Put → BoundStatement
   Queries : Query → BoundStatement
+  Shows : List (List BoundExpr) → BoundStatement
+  DoesNothing : BoundStatement

@@ -1,16 +1,14 @@
--- Which statements are built: CREATE TABLE with names and types of columns, INSERT of rows of literals, and SELECT of expressions from
--- one table or none. What any other holds does not run yet.
+-- Which statements are built: CREATE TABLE with names and types of columns, DROP TABLE, INSERT of rows of values, VALUES, SELECT of
+-- expressions from one table or none, and PRAGMA. What any other holds does not run yet.
 use Rattle.std.specs.Prelude.{ℕ, nat_eq, Bool, true, false, not, ◌&&◌, ◌||◌, List, [], ◌∷◌, length, Option, Some, None, is_some, codes}
-use Rattle.std.specs.List.{list_all}
+use Rattle.std.specs.List.{list_all, list_any}
 use Rattle.sql_tree.specs.declared.expr.Arguments.{Arguments}
 use Rattle.sql_tree.specs.declared.expr.Arguments.TheVariants as arguments
 use Rattle.sql_tree.specs.Folds.{ExprStep, ArmStep, fold_expr, fold_arm}
-use Rattle.sql_tree.specs.Layers.{ExprLayer, ItemLayer, PartLayer, QueryLayer, ResultLayer, SelectLayer, SourceLayer, of_expr, of_item, of_part, of_query, of_result, of_select, of_source}
+use Rattle.sql_tree.specs.Layers.{ItemLayer, PartLayer, QueryLayer, ResultLayer, SelectLayer, SourceLayer, of_item, of_part, of_query, of_result, of_select, of_source}
 use Rattle.sql_tree.specs.declared.expr.Arm.{Arm}
 use Rattle.sql_tree.specs.declared.expr.Expr.{Expr}
 use Rattle.sql_tree.specs.declared.expr.Expr.TheOpen.{Expr-F, QueryPart-F, ResultColumn-F, Source-F}
-use Rattle.sql_tree.specs.declared.expr.UnaryOp.{UnaryOp}
-use Rattle.sql_tree.specs.declared.expr.UnaryOp.TheVariants as sign
 use Rattle.sql_tree.specs.declared.query.FromItem.{FromItem}
 use Rattle.sql_tree.specs.declared.query.ResultColumn.{ResultColumn}
 use Rattle.sql_tree.specs.declared.statement.ColumnDefinition.{ColumnDefinition}
@@ -24,14 +22,12 @@ use Rattle.sql_tree.specs.declared.statement.Definition.TheVariants as definitio
 use Rattle.sql_tree.specs.declared.statement.Insert.{Insert}
 use Rattle.sql_tree.specs.declared.statement.InsertSource.{InsertSource}
 use Rattle.sql_tree.specs.declared.statement.InsertSource.TheVariants as source
+use Rattle.sql_tree.specs.declared.statement.ObjectKind.{ObjectKind}
+use Rattle.sql_tree.specs.declared.statement.ObjectKind.TheVariants as object
 use Rattle.sql_tree.specs.declared.statement.RowCommand.{RowCommand}
 use Rattle.sql_tree.specs.declared.statement.RowCommand.TheVariants as rows_by
 use Rattle.sql_tree.specs.declared.statement.Statement.{Statement}
 use Rattle.sql_tree.specs.declared.statement.TableDefinition.{TableDefinition}
-use Rattle.sql_tree.specs.declared.token.Token.{Token}
-use Rattle.sql_tree.specs.declared.token.TokenKind.{TokenKind}
-use Rattle.sql_tree.specs.declared.token.TokenKind.TheVariants as kind
-use Rattle.sql_meaning.specs.declared.bound.SignedLiteral.{SignedLiteral}
 use Rattle.sql_meaning.specs.Names.{is_named_in}
 use Rattle.sql_meaning.specs.Spelled.{name_bytes}
 
@@ -83,12 +79,10 @@ is_built_expr = fold_expr built_step built_arm_step
 abbrev pub is_built_arm : Arm → Test
 is_built_arm = fold_arm built_step built_arm_step
 
--- no `table.*` and no name behind AS
 abbrev pub result_is_built : List ℕ → ResultLayer → Bool
 result_is_built text ResultColumn-F.All = true
-result_is_built text (ResultColumn-F.AllOf t) = false
-result_is_built text (ResultColumn-F.Expression x None) = is_built_expr x.expr text
-result_is_built text (ResultColumn-F.Expression x (Some name)) = false
+result_is_built text (ResultColumn-F.AllOf t) = true
+result_is_built text (ResultColumn-F.Expression x name) = is_built_expr x.expr text
 
 abbrev pub is_built_result : List ℕ → ResultColumn → Bool
 is_built_result text r = result_is_built text (of_result r)
@@ -97,40 +91,13 @@ abbrev pub is_built_filter : List ℕ → Option Expr → Bool
 is_built_filter text None = true
 is_built_filter text (Some x) = is_built_expr x text
 
--- ---- literals of INSERT: a number with a sign in front, or any literal without one
-
-abbrev pub signed_number : Bool → Token → TokenKind → Option SignedLiteral
-signed_number minus t kind.Number = Some (record { minus = minus; literal = t })
-signed_number minus t other = None
-
--- behind a sign
-abbrev pub number_of : Bool → ExprLayer → Option SignedLiteral
-number_of minus (Expr-F.Literal t) = signed_number minus t t.kind
-number_of minus other = None
-
-abbrev pub number_behind : UnaryOp → ExprLayer → Option SignedLiteral
-number_behind sign.Negative x = number_of true x
-number_behind sign.Positive x = number_of false x
-number_behind other x = None
-
-abbrev pub literal_of_layer : ExprLayer → Option SignedLiteral
-literal_of_layer (Expr-F.Literal t) = Some (record { minus = false; literal = t })
-literal_of_layer (Expr-F.Unary op x) = number_behind op (of_expr x)
-literal_of_layer other = None
-
-abbrev pub signed_of : Expr → Option SignedLiteral
-signed_of x = literal_of_layer (of_expr x)
-
-abbrev pub is_signed : Expr → Bool
-is_signed x = is_some (signed_of x)
-
 -- ---- CREATE
 
 abbrev pub is_empty : {A : Type 0} → List A → Bool
 is_empty [] = true
 is_empty (x ∷ xs) = false
 
--- a name and a type, without a constraint
+-- of columns by a name and a type, without a constraint
 abbrev pub is_built_column : ColumnDefinition → Bool
 is_built_column c = is_empty c.constraints
 
@@ -142,7 +109,7 @@ is_built_definition (definition.Table t) = is_built_table t
 is_built_definition other = false
 
 abbrev pub is_built_create : Create → Bool
-is_built_create c = not c.if_not_exists && is_built_definition c.definition
+is_built_create c = is_built_definition c.definition
 
 -- ---- queries
 
@@ -150,14 +117,14 @@ is_built_create c = not c.if_not_exists && is_built_definition c.definition
 abbrev pub stands_alone : QueryLayer → Bool
 stands_alone q = is_empty q.with && is_empty q.others && is_empty q.order_by && not (is_some q.limit)
 
--- a table by its name alone
+-- a table by its name, without arguments
 abbrev pub is_built_source : SourceLayer → Bool
 is_built_source (Source-F.Table t None) = true
 is_built_source (Source-F.Table t (Some arguments)) = false
 is_built_source (Source-F.Derived q) = false
 
 abbrev pub is_built_item : ItemLayer → Bool
-is_built_item item = not (is_some item.alias) && is_built_source (of_source item.source)
+is_built_item item = is_built_source (of_source item.source)
 
 -- no item, or one
 abbrev pub is_built_from : List FromItem → Bool
@@ -169,46 +136,64 @@ is_built_from (item ∷ other ∷ items) = false
 abbrev pub is_plain_select : SelectLayer → Bool
 is_plain_select s = not s.distinct && is_empty s.group_by && not (is_some s.having)
 
+abbrev pub has_alias : ResultLayer → Bool
+has_alias (ResultColumn-F.Expression x name) = is_some name
+has_alias other = false
+
+-- a WHERE, in which the name of a result counts
+abbrev pub filters_by_names : SelectLayer → Bool
+filters_by_names s = is_some s.filter && list_any (λ r. has_alias (of_result r)) s.results
+
 abbrev pub is_built_select : List ℕ → SelectLayer → Bool
-is_built_select text s = is_plain_select s && is_built_from s.from && list_all (is_built_result text) s.results && is_built_filter text s.filter
+is_built_select text s =
+    is_plain_select s && not (filters_by_names s) && is_built_from s.from && list_all (is_built_result text) s.results && is_built_filter text s.filter
+
+abbrev pub is_built_row : List ℕ → List Expr → Bool
+is_built_row text row = list_all (λ x. is_built_expr x text) row
 
 abbrev pub is_built_part : List ℕ → PartLayer → Bool
 is_built_part text (QueryPart-F.Select s) = is_built_select text (of_select s)
-is_built_part text (QueryPart-F.Values rows) = false
+is_built_part text (QueryPart-F.Values rows) = list_all (is_built_row text) rows
 
 abbrev pub is_built_query : List ℕ → QueryLayer → Bool
 is_built_query text q = stands_alone q && is_built_part text (of_part q.first)
 
 -- ---- INSERT
 
-abbrev pub are_built_rows : PartLayer → Bool
-are_built_rows (QueryPart-F.Select s) = false
-are_built_rows (QueryPart-F.Values rows) = list_all (list_all is_signed) rows
+abbrev pub are_built_rows : List ℕ → PartLayer → Bool
+are_built_rows text (QueryPart-F.Select s) = false
+are_built_rows text (QueryPart-F.Values rows) = list_all (is_built_row text) rows
 
-abbrev pub is_built_values : QueryLayer → Bool
-is_built_values q = stands_alone q && are_built_rows (of_part q.first)
+abbrev pub is_built_values : List ℕ → QueryLayer → Bool
+is_built_values text q = stands_alone q && are_built_rows text (of_part q.first)
 
-abbrev pub is_built_rows_source : InsertSource → Bool
-is_built_rows_source (source.Query q) = is_built_values (of_query q)
-is_built_rows_source source.Defaults = false
+abbrev pub is_built_rows_source : List ℕ → InsertSource → Bool
+is_built_rows_source text (source.Query q) = is_built_values text (of_query q)
+is_built_rows_source text source.Defaults = true
 
 abbrev pub is_abort : ConflictChoice → Bool
 is_abort choice.Abort = true
 is_abort other = false
 
-abbrev pub is_built_insert : Insert → Bool
-is_built_insert i = is_empty i.columns && is_abort i.choice && is_built_rows_source i.source
+abbrev pub is_built_insert : List ℕ → Insert → Bool
+is_built_insert text i = is_abort i.choice && is_built_rows_source text i.source
 
 -- ---- statements
 
 abbrev pub is_built_rows : List ℕ → RowCommand → Bool
 is_built_rows text (rows_by.Query q) = is_built_query text (of_query q)
-is_built_rows text (rows_by.Insert i) = is_built_insert i
+is_built_rows text (rows_by.Insert i) = is_built_insert text i
 is_built_rows text other = false
+
+abbrev pub is_table : ObjectKind → Bool
+is_table object.Table = true
+is_table other = false
 
 abbrev pub is_built_command : List ℕ → Command → Bool
 is_built_command text (command.Rows r) = is_built_rows text r
 is_built_command text (command.Create c) = is_built_create c
+is_built_command text (command.Remove r) = is_table r.kind
+is_built_command text (command.Pragma p) = true
 is_built_command text other = false
 
 -- all of the statement is built

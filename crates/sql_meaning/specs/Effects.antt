@@ -1,11 +1,15 @@
 -- What statements that are not refused do, in the words of their subject.
-use Rattle.std.specs.Prelude.{◌≡◌, ◌⊎◌, ⊤, ℕ, List, [], ◌∷◌, ◌++◌, false, length, Some, None, ℤ, pos, ◌+ℤ◌, ◌<ℤ◌, All, Any}
+use Rattle.std.specs.Prelude.{◌≡◌, ◌≢◌, ◌⊎◌, ⊤, ℕ, List, [], ◌∷◌, ◌++◌, length, Some, None, ℤ, pos, ◌+ℤ◌, ◌<ℤ◌, All, Any}
+use Rattle.eng_entry.specs.Entries.{with_entry, without_name}
+use Rattle.eng_entry.specs.declared.entry.Entry.{Entry}
+use Rattle.eng_entry.specs.declared.entry.Space.TheVariants as space
+use Rattle.eng_value.specs.Environments.{Lists}
 use Rattle.eng_value.specs.StoredRows.{StoredRow}
 use Rattle.eng_value.specs.declared.limits.TheConstants.{MAX_ROWID}
 use Rattle.sql_meaning.specs.declared.column.TableEntry.{TableEntry}
-use Rattle.sql_meaning.specs.Names.{is_same_name}
+use Rattle.sql_meaning.specs.Declarations.{table_called, table_of}
 use Rattle.sql_meaning.specs.Statement.{Outcome}
-use Rattle.sql_meaning.specs.World.{State, entry_named, rows_of}
+use Rattle.sql_meaning.specs.World.{State, rows_at, tables_in}
 
 -- the rowid is one more than the largest of these rows, and 1 where there is none
 abbrev pub IsOneMore : List StoredRow → ℤ → Type 0
@@ -32,30 +36,47 @@ pub record KeepsRest (old new : State) : Type 0 where
   pub commit_answers : new.commit_answers ≡ old.commit_answers
   pub recursive_triggers : new.recursive_triggers ≡ old.recursive_triggers
 
--- The table of this name has so many rows more, behind the others, which stay in their order; no other table is changed.
-pub record AddsRows (state : State) (name : List ℕ) (given : ℕ) (o : Outcome) : Type 0 where
-  pub table : TableEntry
-  pub found : entry_named state.world.catalog name ≡ Some table
+-- No table has other rows than before, but the one of this number.
+abbrev pub KeepsOthers : Lists → Lists → ℕ → Type 0
+KeepsOthers old new number = (other : ℕ) → other ≢ number → rows_at new other ≡ rows_at old other
+
+-- The table has so many rows more, behind the others, which stay in their order; no other table is changed.
+pub record AddsRows (state : State) (t : TableEntry) (given : ℕ) (o : Outcome) : Type 0 where
+  pub found : table_called (tables_in state) t.name ≡ Some t
   pub catalog : o.next.world.catalog ≡ state.world.catalog
-  pub others : (other : List ℕ) → is_same_name table.name other ≡ false → rows_of o.next.world.tables other ≡ rows_of state.world.tables other
+  pub others : KeepsOthers state.world.tables o.next.world.tables t.number
   pub new : List StoredRow
-  pub behind : rows_of o.next.world.tables table.name ≡ rows_of state.world.tables table.name ++ new
-  pub drawn : AreDrawn (rows_of state.world.tables table.name) new
+  pub behind : rows_at o.next.world.tables t.number ≡ rows_at state.world.tables t.number ++ new
+  pub drawn : AreDrawn (rows_at state.world.tables t.number) new
   pub count : length new ≡ given
   pub rest : KeepsRest state o.next
   pub changed : o.changed ≡ given
   pub changes : o.next.changes ≡ given
   pub last_rowid : o.next.last_rowid ≡ last_rowid_of state.last_rowid new
 
--- The catalog has one entry more, whose name no table had, and which has no row; nothing else is changed.
-pub record AddsTable (state : State) (name : List ℕ) (o : Outcome) : Type 0 where
-  pub table : TableEntry
-  pub named : table.name ≡ name
-  pub free : entry_named state.world.catalog name ≡ None
-  pub catalog : o.next.world.catalog ≡ state.world.catalog ++ table ∷ []
-  pub rows : rows_of o.next.world.tables name ≡ []
-  pub others : (other : List ℕ) → is_same_name name other ≡ false → rows_of o.next.world.tables other ≡ rows_of state.world.tables other
+-- Nothing is changed but tables and the catalog.
+pub record KeepsCounts (state : State) (o : Outcome) : Type 0 where
   pub rest : KeepsRest state o.next
   pub changed : o.changed ≡ 0
   pub changes : o.next.changes ≡ state.changes
   pub last_rowid : o.next.last_rowid ≡ state.last_rowid
+
+-- The catalog has one entry more behind the others, whose name no table had; its table has a number that no table had, and no row.
+pub record AddsTable (state : State) (e : Entry) (o : Outcome) : Type 0 where
+  pub free : table_called (tables_in state) e.name ≡ None
+  pub new : TableEntry
+  pub table : table_of e ≡ Some new
+  pub catalog : o.next.world.catalog ≡ with_entry e state.world.catalog
+  pub number : All (λ (t : TableEntry). t.number ≢ new.number) (tables_in state)
+  pub rows : rows_at o.next.world.tables new.number ≡ []
+  pub others : KeepsOthers state.world.tables o.next.world.tables new.number
+  pub counts : KeepsCounts state o
+
+-- The table's entry and its rows are gone; the other entries stay in their order, and the other tables under their numbers.
+pub record DropsTable (state : State) (t : TableEntry) (o : Outcome) : Type 0 where
+  pub found : table_called (tables_in state) t.name ≡ Some t
+  pub catalog : o.next.world.catalog ≡ without_name space.Names t.name state.world.catalog
+  pub gone : table_called (tables_in o.next) t.name ≡ None
+  pub rows : rows_at o.next.world.tables t.number ≡ []
+  pub others : KeepsOthers state.world.tables o.next.world.tables t.number
+  pub counts : KeepsCounts state o

@@ -1,10 +1,12 @@
 -- in the order in which they are read
+pub use Rattle.eng_entry.specs.Entries
 pub mod Names
 pub mod Spelled
 pub mod BoundStatements
+pub mod Binding
+pub mod Declarations
 pub mod World
 pub mod Valid
-pub mod Binding
 pub mod Built
 pub mod Expression
 pub mod Clauses

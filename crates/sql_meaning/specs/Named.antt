@@ -10,7 +10,7 @@ use Rattle.eng_value.specs.declared.operators.BinaryOperator.TheVariants as bina
 use Rattle.eng_value.specs.declared.operators.Sides.{Sides}
 use Rattle.sql_meaning.specs.declared.bound.BoundExpr.{BoundExpr, fold-BoundExpr}
 use Rattle.sql_meaning.specs.declared.bound.BoundExpr.TheOpen.{BoundExpr-F, BoundArm-F, BoundMatch-F}
-use Rattle.sql_meaning.specs.BoundStatements.{BoundStatement, Creates, Puts, Queries, Query}
+use Rattle.sql_meaning.specs.BoundStatements.{BoundStatement, Creates, DoesNothing, Drops, Puts, Queries, Query, Shows}
 use Rattle.sql_meaning.specs.Statement.{text_bound}
 use Rattle.sql_meaning.specs.World.{Context}
 
@@ -57,15 +57,21 @@ named_match_step arm = in_sides arm.sides ++ arm.operand ++ arm.value
 abbrev pub named_in : BoundExpr → Names
 named_in = fold-BoundExpr Names Names Names named_step named_arm_step named_match_step
 
+abbrev pub named_by_row : List BoundExpr → Names
+named_by_row row = flat_map named_in row
+
 abbrev pub named_by_query : Query → Names
-named_by_query q = flat_map named_in q.conjuncts ++ flat_map named_in q.results
+named_by_query q = named_by_row q.conjuncts ++ named_by_row q.results
 
 abbrev pub named_by : Result BoundStatement Cause → Names
-named_by (Ok (Creates t)) = []
-named_by (Ok (Puts p)) = []
+named_by (Ok (Creates e)) = []
+named_by (Ok (Drops t)) = []
+named_by (Ok (Puts p)) = flat_map named_by_row p.rows
 named_by (Ok (Queries q)) = named_by_query q
+named_by (Ok (Shows rows)) = flat_map named_by_row rows
+named_by (Ok DoesNothing) = []
 named_by (Err why) = []
 
 -- each host that a text names, where it is bound, tells what it means
 unfoldable pub TextIsTold : Context → List ℕ → Type 0
-TextIsTold ctx text = NamesTold ctx.hosts (named_by (text_bound ctx.state.world.catalog text))
+TextIsTold ctx text = NamesTold ctx.hosts (named_by (text_bound ctx.state.world text))

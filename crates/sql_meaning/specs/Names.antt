@@ -1,11 +1,7 @@
--- Names. They do not regard the case of ASCII letters.
+-- Names that mean something of their own.
 use Rattle.std.specs.Prelude.{◌≡◌, ℕ, List, Bool, true, false, codes, refl, take}
 use Rattle.std.specs.List.{list_any}
-use Rattle.std.specs.Str.{str_eq_ignore_ascii_case}
-
--- two names name one thing
-abbrev pub is_same_name : List ℕ → List ℕ → Bool
-is_same_name a b = str_eq_ignore_ascii_case a b
+use Rattle.eng_entry.specs.Names.{is_same_name}
 
 -- one of the names is this one
 abbrev pub is_named_in : List (List ℕ) → List ℕ → Bool
@@ -14,9 +10,6 @@ is_named_in names name = list_any (λ n. is_same_name n name) names
 -- no created thing bears such a name: it begins with `sqlite_`
 abbrev pub is_reserved_name : List ℕ → Bool
 is_reserved_name name = is_same_name (take 7 name) (codes "sqlite_")
-
-names_by_letters : is_same_name (codes "Total_7") (codes "tOTAL_7") ≡ true
-names_by_letters = refl
 
 begins_reserved : is_reserved_name (codes "SQLite_master") ≡ true
 begins_reserved = refl

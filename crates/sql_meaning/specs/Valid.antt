@@ -1,15 +1,18 @@
 -- What is true of each state that a connection holds between two statements.
-use Rattle.std.specs.Prelude.{◌≡◌, ℕ, List, true, false, All, AllPairs}
+use Rattle.std.specs.Prelude.{◌≡◌, ◌≢◌, ◌<◌, ℕ, List, true, false, length, is_some, All, AllPairs}
 use Rattle.std.specs.List.{AllZip}
+use Rattle.eng_entry.specs.Names.{is_same_name}
+use Rattle.eng_entry.specs.declared.entry.Entry.{Entry}
 use Rattle.eng_number.specs.Numbers.{fits_integer}
 use Rattle.eng_value.specs.Casts.{store_as}
+use Rattle.eng_value.specs.Environments.{Lists}
 use Rattle.eng_value.specs.StoredRows.{StoredRow, IsAscending}
 use Rattle.eng_value.specs.declared.out.Out.TheVariants.{Good}
 use Rattle.eng_value.specs.declared.value.Value.{Value}
 use Rattle.sql_meaning.specs.declared.column.Column.{Column}
 use Rattle.sql_meaning.specs.declared.column.TableEntry.{TableEntry}
-use Rattle.sql_meaning.specs.Names.{is_same_name}
-use Rattle.sql_meaning.specs.World.{Savepoint, State, World}
+use Rattle.sql_meaning.specs.Declarations.{table_of, tables_of}
+use Rattle.sql_meaning.specs.World.{Savepoint, State, World, rows_at}
 
 -- the column stores the value as it is
 abbrev pub IsHeldBy : Column → Value → Type 0
@@ -25,14 +28,22 @@ pub record AreRowsOf (t : TableEntry) (rows : List StoredRow) : Type 0 where
   pub ascending : IsAscending rows
   pub each : All (IsRowOf t) rows
 
--- a table of the catalog, and what stands under its name
-abbrev pub IsTable : TableEntry → List ℕ × List StoredRow → Type 0
-IsTable t rows = (rows.0 ≡ t.name) × AreRowsOf t rows.1
+-- a table of the catalog, and what stands under its number
+pub record IsTable (lists : Lists) (t : TableEntry) : Type 0 where
+  pub there : t.number < length lists
+  pub rows : AreRowsOf t (rows_at lists t.number)
 
--- no two tables have one name, and each has one list of rows
+-- no two of them have one name
+abbrev pub HaveOtherNames : List Entry → Type 0
+HaveOtherNames entries = AllPairs (λ (a b : Entry). is_same_name a.name b.name ≡ false) entries
+
+-- no two things of a kind of names have one name, each entry is that of a table, no two tables have one number, and each has its rows
 pub record IsWorld (w : World) : Type 0 where
-  pub names : AllPairs (λ (a b : TableEntry). is_same_name a.name b.name ≡ false) w.catalog
-  pub tables : AllZip IsTable w.catalog w.tables
+  pub names : HaveOtherNames w.catalog.names
+  pub triggers : HaveOtherNames w.catalog.triggers
+  pub declared : All (λ (e : Entry). is_some (table_of e) ≡ true) w.catalog.names
+  pub numbers : AllPairs (λ (a b : TableEntry). a.number ≢ b.number) (tables_of w.catalog)
+  pub tables : All (IsTable w.tables) (tables_of w.catalog)
 
 -- so are the world and those of all marks
 pub record IsValid (s : State) : Type 0 where

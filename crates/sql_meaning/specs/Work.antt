@@ -6,9 +6,9 @@ use Rattle.eng_value.specs.declared.cause.Cause.{Cause}
 use Rattle.eng_value.specs.declared.value.Value.{Value}
 use Rattle.sql_lex.specs.Tokens.{tokens_of}
 use Rattle.sql_meaning.specs.declared.column.TableEntry.{TableEntry}
-use Rattle.sql_meaning.specs.BoundStatements.{BoundStatement, Creates, FromItem, Put, Puts, Queries}
+use Rattle.sql_meaning.specs.BoundStatements.{BoundStatement, Creates, DoesNothing, Drops, FromItem, Put, Puts, Queries, Shows}
 use Rattle.sql_meaning.specs.Statement.{begun, causes_of, given_of, item_rows, row_put, source_of, text_bound}
-use Rattle.sql_meaning.specs.World.{Context, State, table_at}
+use Rattle.sql_meaning.specs.World.{Context, State}
 
 -- ---- size
 
@@ -21,9 +21,12 @@ from_size items = sum (map (λ (i : FromItem). table_size i.table) items)
 
 -- of the tables that a statement opens
 abbrev pub opened_size : BoundStatement → ℕ
-opened_size (Creates t) = 0
+opened_size (Creates e) = 0
+opened_size (Drops t) = 0
 opened_size (Puts p) = table_size p.table
 opened_size (Queries q) = from_size q.from
+opened_size (Shows rows) = 0
+opened_size DoesNothing = 0
 
 -- ---- work
 
@@ -38,20 +41,23 @@ work_behind (Ok x) work = work x
 work_behind (Err causes) work = 0
 
 -- the turns of a write: 1 for each row of its source, in the state that the rows in front of it left; behind one that fails there is none
-abbrev pub turns_work : TableEntry → ℕ → Written → List (List Value) → ℕ
-turns_work t table x [] = 0
-turns_work t table x (row ∷ source) = 1 + work_behind (row_put t table x row) (λ more. turns_work t table more source)
+abbrev pub turns_work : Put → Written → List (List Value) → ℕ
+turns_work p x [] = 0
+turns_work p x (row ∷ source) = 1 + work_behind (row_put p x row) (λ more. turns_work p more source)
 
 -- a bad source has no turn
 abbrev pub source_work : State → Put → Option CauseSet → List (List Value) → ℕ
 source_work state p (Some causes) source = 0
-source_work state p None source = turns_work p.table (table_at state.world p.table.name) (begun state) source
+source_work state p None source = turns_work p (begun state) source
 
 -- no expression holds another query yet, so that a query has the work of its FROM; a write has that of its source, which is 1, and its turns; what is neither query nor write has none
 abbrev pub work_of : Context → BoundStatement → ℕ
-work_of ctx (Creates t) = 0
-work_of ctx (Puts p) = 1 + source_work ctx.state p (causes_of (source_of p)) (given_of (source_of p))
+work_of ctx (Creates e) = 0
+work_of ctx (Drops t) = 0
+work_of ctx (Puts p) = 1 + source_work ctx.state p (causes_of (source_of ctx p)) (given_of (source_of ctx p))
 work_of ctx (Queries q) = from_work ctx q.from
+work_of ctx (Shows rows) = 1
+work_of ctx DoesNothing = 0
 
 -- ---- the bound
 
@@ -62,4 +68,4 @@ bound_within ctx tokens (Err why) = 0
 
 -- the most instructions that a text runs
 abbrev pub instruction_bound : Context → List ℕ → ℕ
-instruction_bound ctx text = bound_within ctx (length (tokens_of text)) (text_bound ctx.state.world.catalog text)
+instruction_bound ctx text = bound_within ctx (length (tokens_of text)) (text_bound ctx.state.world text)

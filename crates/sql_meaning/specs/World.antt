@@ -1,8 +1,8 @@
 -- Tables and what they hold.
-use Rattle.std.specs.Prelude.{ℕ, List, [], ◌∷◌, Bool, false, ℤ, pos, nat_lt, if◌then◌else◌, length, map, slice_index_or, zip}
-use Rattle.std.specs.List.{find, position_or_len}
+use Rattle.std.specs.Prelude.{ℕ, List, [], ◌∷◌, Bool, false, ℤ, pos, nat_lt, length, map, slice_index_or}
 use Rattle.std.specs.Option.{option_map}
 use Rattle.std.specs.declared.option.Option.{Option}
+use Rattle.eng_entry.specs.Entries.{Entries, no_entries}
 use Rattle.eng_value.specs.Environments.{Environment, ItemRow, Lists, Surroundings, environment}
 use Rattle.eng_value.specs.HostMeanings.{HostMeanings, Oracle, nobody}
 use Rattle.eng_value.specs.StoredRows.{StoredRow}
@@ -10,12 +10,12 @@ use Rattle.eng_value.specs.declared.value.Value.{Value}
 use Rattle.eng_value.specs.declared.value.Value.TheVariants.{Integer}
 use Rattle.sql_meaning.specs.declared.column.TableEntry.{TableEntry}
 use Rattle.sql_meaning.specs.BoundStatements.{Query}
-use Rattle.sql_meaning.specs.Names.{is_same_name}
+use Rattle.sql_meaning.specs.Declarations.{table_called, tables_of}
 
--- a world: the catalog, oldest entry first, and a finite map from the tables' names to their rows by ascending rowid
+-- a world: the catalog, and the rows of each table by ascending rowid. Tables go by their numbers: a table has the number under which its rows stand, and under the number of one that was dropped there are none
 pub record World : Type 0 where
-  pub catalog : List TableEntry
-  pub tables : List (List ℕ × List StoredRow)
+  pub catalog : Entries
+  pub tables : Lists
 
 -- names of tables: some, or all that there may be
 pub data TableNames : Type 0 where
@@ -56,37 +56,13 @@ pub record State : Type 0 where
 abbrev pub is_in_transaction : State → Bool
 is_in_transaction state = nat_lt 0 (length state.transaction.marks)
 
--- the entry of a table
-abbrev pub entry_named : List TableEntry → List ℕ → Option TableEntry
-entry_named catalog name = find (λ e. is_same_name e.name name) catalog
-
--- the rows of a table; none where there is no such table
-abbrev pub rows_of : List (List ℕ × List StoredRow) → List ℕ → List StoredRow
-rows_of [] name = []
-rows_of (t ∷ tables) name = if is_same_name t.0 name then t.1 else rows_of tables name
-
--- the map in which this name has these rows
-abbrev pub with_rows : List (List ℕ × List StoredRow) → List ℕ → List StoredRow → List (List ℕ × List StoredRow)
-with_rows [] name rows = (name, rows) ∷ []
-with_rows (t ∷ tables) name rows = if is_same_name t.0 name then (t.0, rows) ∷ tables else t ∷ with_rows tables name rows
-
--- ---- tables by their numbers
-
--- the number of a table: its place among the tables, and their number where it is none of them
-abbrev pub table_at : World → List ℕ → ℕ
-table_at world name = position_or_len (λ (t : List ℕ × List StoredRow). is_same_name t.0 name) world.tables
-
--- the rows of each table, by its number
-abbrev pub lists_of : World → Lists
-lists_of world = map (λ (t : List ℕ × List StoredRow). t.1) world.tables
-
 -- the rows of the table of this number; none where there is no such table
 abbrev pub rows_at : Lists → ℕ → List StoredRow
 rows_at lists table = slice_index_or lists table []
 
--- the world in which the tables have these rows
-abbrev pub with_lists : World → Lists → World
-with_lists world lists = record world { tables = zip (map (λ (t : List ℕ × List StoredRow). t.0) world.tables) lists }
+-- the tables of a state
+abbrev pub tables_in : State → List TableEntry
+tables_in state = tables_of state.world.catalog
 
 -- ---- what a connection shows of its tables
 
@@ -96,7 +72,7 @@ with_rowid r = Integer r.rowid ∷ r.values
 
 -- the rows of the table of this name, each with its rowid in front; none where there is no such table
 abbrev pub table_rows : State → List ℕ → Option (List (List Value))
-table_rows state name = option_map (λ (e : TableEntry). map with_rowid (rows_of state.world.tables e.name)) (entry_named state.world.catalog name)
+table_rows state name = option_map (λ (t : TableEntry). map with_rowid (rows_at state.world.tables t.number)) (table_called (tables_in state) name)
 
 abbrev pub no_transaction : Transaction
 no_transaction = record { marks = []; has_written = false }
@@ -104,7 +80,7 @@ no_transaction = record { marks = []; has_written = false }
 -- no table yet
 abbrev pub new_state : State
 new_state = record {
-  world = record { catalog = []; tables = [] };
+  world = record { catalog = no_entries; tables = [] };
   transaction = no_transaction;
   in_flight = [];
   commit_answers = [];
@@ -127,7 +103,7 @@ abbrev pub context : HostMeanings → State → List Value → Context
 context hosts state params = record { hosts = hosts; ask = nobody; state = state; params = params }
 
 abbrev pub surroundings_of : Context → Surroundings
-surroundings_of ctx = record { params = ctx.params; hosts = ctx.hosts; world = lists_of ctx.state.world; ask = ctx.ask }
+surroundings_of ctx = record { params = ctx.params; hosts = ctx.hosts; world = ctx.state.world.tables; ask = ctx.ask }
 
 -- what an expression of a statement sees at these rows: a statement that stands in no other has no arguments
 abbrev pub environment_at : Context → List ItemRow → Environment

@@ -2,7 +2,6 @@
 use eng_value::{
     Affinity, BinaryOperator, Builtin, Cause, Collation, Sides, Text, UnaryOperator, Value,
 };
-use sql_tree::Token;
 use sqlite_items::{Boxed, Items};
 
 /// What a literal stands for: a value, or why it has none.
@@ -116,23 +115,24 @@ impl Drop for BoundMatch {
     }
 }
 
-/// A literal of INSERT, with a minus in front or without.
+/// What a column of an INSERT's table takes: the affinity by which it stores a value, and the place of its value in a row of the
+/// source. It takes NULL where it has none.
 #[derive(Clone, Copy, PartialEq, Eq)]
-pub struct SignedLiteral {
-    pub minus: bool,
-    pub literal: Token,
+pub struct PutColumn {
+    pub affinity: Affinity,
+    pub place: Option<u32>,
 }
 
-/// Rows of literals for the table in a place of the catalog: its name as declared, and the affinities of its columns.
+/// Rows of values for the table of this number: its name as declared, its columns, and the source.
 #[derive(Drop)]
 pub struct BoundInsert {
     pub table: u32,
     pub name: Text,
-    pub affinities: Items<Affinity>,
-    pub rows: Items<Items<Literal>>,
+    pub columns: Items<PutColumn>,
+    pub rows: Items<Items<BoundExpr>>,
 }
 
-/// A query over the table in a place of the catalog, or over none: what each row has to pass, and what is shown of it.
+/// A query over the table of this number, or over none: what each row has to pass, and what is shown of it.
 #[derive(Drop)]
 pub struct BoundSelect {
     pub table: Option<u32>,

@@ -9,10 +9,12 @@ pub struct Column {
     pub affinity: Affinity,
 }
 
-/// What the catalog keeps of a table: its name and its columns as declared, and how many tokens its CREATE TABLE has.
+/// What an entry of the catalog declares of a table: its name and its columns, the number under which its rows stand, and how many
+/// tokens its CREATE TABLE has.
 #[derive(Drop)]
 pub struct TableEntry {
     pub name: Text,
     pub columns: Items<Column>,
+    pub number: u32,
     pub tokens: usize,
 }

@@ -13,9 +13,7 @@ mod laws;
 mod script;
 mod states;
 
-pub use bound::{
-    BoundArm, BoundExpr, BoundInsert, BoundMatch, BoundSelect, Literal, SignedLiteral,
-};
+pub use bound::{BoundArm, BoundExpr, BoundInsert, BoundMatch, BoundSelect, Literal, PutColumn};
 pub use builtins::{ArgumentCount, BUILTINS};
 pub use column::{Column, TableEntry};
 pub use laws::{

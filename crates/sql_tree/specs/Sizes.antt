@@ -77,7 +77,7 @@ size_of_from [] = 0
 size_of_from (item ∷ items) = 1 + length (item ∷ items)
 
 abbrev pub size_of_row : List Expr → ℕ
-size_of_row row = 1 + length row
+size_of_row row = 1 + total (map size_of row)
 
 abbrev pub select_size : SelectLayer → ℕ
 select_size s = 1 + total (map size_of_result s.results) + size_of_from s.from + size_of_filter s.filter

@@ -1,5 +1,5 @@
 use Rattle.std.proofs.Common.{◌≡◌, [], drop}
-use Rattle.sql_meaning.specs.Statement.{columns_behind}
+use Rattle.sql_meaning.specs.Declarations.{columns_behind}
 use Rattle.bind_stmt.proofs.creating.bind_columns.Given as goal
 
 abbrev pub invariant-loop-definition : goal.invariant-loop-definition

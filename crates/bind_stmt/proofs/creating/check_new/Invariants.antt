@@ -1,5 +1,5 @@
 use Rattle.std.proofs.Common.{◌≡◌, drop}
-use Rattle.sql_meaning.specs.Statement.{column_named}
+use Rattle.sql_meaning.specs.Declarations.{column_named}
 use Rattle.bind_stmt.proofs.creating.check_new.Given as goal
 
 abbrev pub invariant-loop-column : goal.invariant-loop-column

@@ -1,12 +1,15 @@
-use Rattle.std.proofs.Common.{◌≡◌, ◌-◌, [], ◌∷◌, length, ap, sym, ◌∙◌, refl, arith, rules, to_z, of_z, w64}
-use Rattle.std.proofs.lemmas.List.{length-append}
+use Rattle.std.proofs.Common.{◌≡◌, ◌-◌, [], ap, ◌∙◌, refl, arith, rules, to_z, of_z, w64}
+use Rattle.std.proofs.lemmas.Result.{err_from_is_err_and}
 use Rattle.eng_value.specs.HostMeanings.{nobody}
 use Rattle.gen_write.specs.Writes.{create_run, create_steps}
 use Rattle.host_traits.specs.Faults.{Rose}
+use Rattle.eng_entry.specs.Entries.{with_entry, without_name}
+use Rattle.eng_entry.specs.declared.entry.Space.TheVariants as space
+use Rattle.sql_meaning.specs.Statement.{create_outcome}
 use Rattle.vm_code.specs.Machine.{Failed, Finished, setting}
 use Rattle.engine.specs.Held.{state_of}
-use Rattle.engine.specs.Outcomes.{create_outcome_in, surroundings_in}
-use Rattle.engine.proofs.Writing.{popped_option}
+use Rattle.engine.specs.Outcomes.{surroundings_in}
+use Rattle.engine.proofs.Writing.{taken_back}
 use Rattle.engine.proofs.CarryingOut.{carries_Ok, carries_Err, carries_Mem}
 use Rattle.engine.proofs.Starting.{from_copy}
 use Rattle.engine.proofs.Telling.{all_told}
@@ -15,26 +18,13 @@ use Rattle.engine.proofs.database.run_create.Goals as goal
 pub returns-in_default-clause-carried : goal.returns-in_default-clause-carried
 returns-in_default-clause-carried g c =
     let db = c.args.database.now in
-    let old = state_of db.catalog db.tables.world db.changes db.last_rowid in
-    carries_Mem (create_outcome_in db.catalog db.tables.world db.changes db.last_rowid c.args.entry) old c.args.budget (create_steps (surroundings_in g.M.Meanings.hosts [] db.tables.world)) c.args.steps.now (g.R.RowSink.taken c.args.rows.now) (Rose (g.R.RowSink.fault_count c.args.rows.now) (g.R.RowSink.fault_count c.args.rows.now))
-
-pub returns-in-Ok-execute-clause-in_line : goal.returns-in-Ok-execute-clause-in_line
-returns-in-Ok-execute-clause-in_line g c =
-    let db = c.args.database.now in
-    let around = surroundings_in g.M.Meanings.hosts [] db.tables.world in
-    let run = create_run around db.last_rowid in
-    let told = all_told c.args.hosts.now g.M.Meanings.hosts c.in-Ok.program c.requires.told in
-    let same : to_z w64 (of_z w64 db.last_rowid) ≡ db.last_rowid = search rules in
-    let ends = from_copy (setting g.M.Meanings.hosts nobody [] c.in-Ok.program) (create_steps (surroundings_in g.M.Meanings.hosts [] db.tables.world)) c.in-Ok.program db.tables.world run.ending run.shared same (c.in-Ok.ensures.performs around db.last_rowid c.requires.sound) in
-    let a = c.in-Ok-execute.ensures.runs told nobody (create_steps (surroundings_in g.M.Meanings.hosts [] db.tables.world)) run.ending run.shared ends in
-    let tables = ap length a.answer.1 ∙ length-append db.tables.world ([] ∷ []) in
-    let catalog = ap length c.in-Ok-push.ensures.ok ∙ length-append db.catalog (c.args.entry ∷ []) in
-    omega (arith, tables, catalog, c.requires.in_line)
+    let old = state_of db.schema db.tables.world db.changes db.last_rowid in
+    carries_Mem (create_outcome old c.args.new.entry) old c.args.budget (create_steps (surroundings_in g.M.Meanings.hosts [] db.tables.world)) c.args.steps.now (g.R.RowSink.taken c.args.rows.now) (Rose (g.R.RowSink.fault_count c.args.rows.now) (g.R.RowSink.fault_count c.args.rows.now))
 
 pub returns-in-Ok-execute-clause-carried : goal.returns-in-Ok-execute-clause-carried
 returns-in-Ok-execute-clause-carried g c =
     let db = c.args.database.now in
-    let old = state_of db.catalog db.tables.world db.changes db.last_rowid in
+    let old = state_of db.schema db.tables.world db.changes db.last_rowid in
     let around = surroundings_in g.M.Meanings.hosts [] db.tables.world in
     let run = create_run around db.last_rowid in
     let most = create_steps (surroundings_in g.M.Meanings.hosts [] db.tables.world) in
@@ -42,24 +32,18 @@ returns-in-Ok-execute-clause-carried g c =
     let same : to_z w64 (of_z w64 db.last_rowid) ≡ db.last_rowid = search rules in
     let ends = from_copy (setting g.M.Meanings.hosts nobody [] c.in-Ok.program) most c.in-Ok.program db.tables.world run.ending run.shared same (c.in-Ok.ensures.performs around db.last_rowid c.requires.sound) in
     let a = c.in-Ok-execute.ensures.runs told nobody most run.ending run.shared ends in
-    carries_Ok old (create_outcome_in db.catalog db.tables.world db.changes db.last_rowid c.args.entry) run.ending run.shared (record { ended = refl; given = refl; kept = λ causes is. absurd (let bad : Finished ≡ Failed causes = is in cc) }) most most c.args.budget (c.execute.new.steps - c.args.steps.now) c.execute.new.tables.world (g.R.RowSink.taken c.args.rows.now) (g.R.RowSink.taken c.execute.new.rows) (Rose (g.R.RowSink.fault_count c.args.rows.now) (g.R.RowSink.fault_count c.execute.new.rows)) (omega arith) (state_of c.push.new.self c.execute.new.tables.world db.changes db.last_rowid) c.in-Ok-execute.completed c.done.result (rw (a.answer.1, c.in-Ok-push.ensures.ok) refl) c.done.ensures.given c.done.ensures.changed a
+    carries_Ok old (create_outcome old c.args.new.entry) run.ending run.shared (record { ended = refl; given = refl; kept = λ causes is. absurd (let bad : Finished ≡ Failed causes = is in cc) }) most most c.args.budget (c.execute.new.steps - c.args.steps.now) c.execute.new.tables.world (g.R.RowSink.taken c.args.rows.now) (g.R.RowSink.taken c.execute.new.rows) (Rose (g.R.RowSink.fault_count c.args.rows.now) (g.R.RowSink.fault_count c.execute.new.rows)) (omega arith) (state_of c.add.new.self c.execute.new.tables.world db.changes db.last_rowid) c.in-Ok-execute.completed c.done.result (rw (a.answer.1, c.in-Ok-add.ensures.ok) refl) c.done.ensures.given c.done.ensures.changed a
 
-pub returns-in-Err-clause-in_line : goal.returns-in-Err-clause-in_line
-returns-in-Err-clause-in_line g c =
+pub returns-clause-kept : goal.returns-clause-kept
+returns-clause-kept g c =
     let db = c.args.database.now in
-    let back = popped_option db.catalog c.push.new.self c.pop.new.self c.args.entry c.pop.result c.pop.ensures c.in-Ok-push.ensures.ok in
-    ap length c.in-Err.ensures.kept ∙ c.requires.in_line ∙ ap length (sym back)
-
-pub returns-in-Err-clause-kept : goal.returns-in-Err-clause-kept
-returns-in-Err-clause-kept g c =
-    let db = c.args.database.now in
-    let back = popped_option db.catalog c.push.new.self c.pop.new.self c.args.entry c.pop.result c.pop.ensures c.in-Ok-push.ensures.ok in
+    let back = c.remove.ensures ∙ ap (without_name space.Names c.as_str.result.now) c.in-Ok-add.ensures.ok ∙ ap (λ name. without_name space.Names name (with_entry c.args.new.entry db.schema)) (c.as_str.ensures ∙ c.in_ok-name.ensures.cases) ∙ taken_back c.args.new.entry db.schema c.requires.new.kind c.requires.new.free in
     rw (c.in-Err.ensures.kept, back) refl
 
-pub returns-in-Err-clause-carried : goal.returns-in-Err-clause-carried
-returns-in-Err-clause-carried g c =
+pub returns-clause-carried : goal.returns-clause-carried
+returns-clause-carried g c =
     let db = c.args.database.now in
-    let old = state_of db.catalog db.tables.world db.changes db.last_rowid in
+    let old = state_of db.schema db.tables.world db.changes db.last_rowid in
     let around = surroundings_in g.M.Meanings.hosts [] db.tables.world in
     let run = create_run around db.last_rowid in
     let most = create_steps (surroundings_in g.M.Meanings.hosts [] db.tables.world) in
@@ -67,14 +51,21 @@ returns-in-Err-clause-carried g c =
     let same : to_z w64 (of_z w64 db.last_rowid) ≡ db.last_rowid = search rules in
     let ends = from_copy (setting g.M.Meanings.hosts nobody [] c.in-Ok.program) most c.in-Ok.program db.tables.world run.ending run.shared same (c.in-Ok.ensures.performs around db.last_rowid c.requires.sound) in
     let a = c.in-Err.ensures.runs told nobody most run.ending run.shared ends in
-    let back = popped_option db.catalog c.push.new.self c.pop.new.self c.args.entry c.pop.result c.pop.ensures c.in-Ok-push.ensures.ok in
-    carries_Err old (create_outcome_in db.catalog db.tables.world db.changes db.last_rowid c.args.entry) run.ending run.shared (record { ended = refl; given = refl; kept = λ causes is. absurd (let bad : Finished ≡ Failed causes = is in cc) }) most most c.args.budget (c.execute.new.steps - c.args.steps.now) c.execute.new.tables.world (g.R.RowSink.taken c.args.rows.now) (g.R.RowSink.taken c.execute.new.rows) (Rose (g.R.RowSink.fault_count c.args.rows.now) (g.R.RowSink.fault_count c.execute.new.rows)) (omega arith) (state_of c.pop.new.self c.execute.new.tables.world db.changes db.last_rowid) c.in-Err.cause (rw (c.in-Err.ensures.kept, back) refl) a
+    let back = c.remove.ensures ∙ ap (without_name space.Names c.as_str.result.now) c.in-Ok-add.ensures.ok ∙ ap (λ name. without_name space.Names name (with_entry c.args.new.entry db.schema)) (c.as_str.ensures ∙ c.in_ok-name.ensures.cases) ∙ taken_back c.args.new.entry db.schema c.requires.new.kind c.requires.new.free in
+    carries_Err old (create_outcome old c.args.new.entry) run.ending run.shared (record { ended = refl; given = refl; kept = λ causes is. absurd (let bad : Finished ≡ Failed causes = is in cc) }) most most c.args.budget (c.execute.new.steps - c.args.steps.now) c.execute.new.tables.world (g.R.RowSink.taken c.args.rows.now) (g.R.RowSink.taken c.execute.new.rows) (Rose (g.R.RowSink.fault_count c.args.rows.now) (g.R.RowSink.fault_count c.execute.new.rows)) (omega arith) (state_of c.remove.new.self c.execute.new.tables.world db.changes db.last_rowid) c.in-Err.cause (rw (c.in-Err.ensures.kept, back) refl) a
 
-pub returns-in_default-push-clause-carried : goal.returns-in_default-push-clause-carried
-returns-in_default-push-clause-carried g c =
+pub returns-in_default-add-clause-carried : goal.returns-in_default-add-clause-carried
+returns-in_default-add-clause-carried g c =
     let db = c.args.database.now in
-    let old = state_of db.catalog db.tables.world db.changes db.last_rowid in
-    rw c.in_default-push.ensures.err (carries_Mem (create_outcome_in db.catalog db.tables.world db.changes db.last_rowid c.args.entry) old c.args.budget (create_steps (surroundings_in g.M.Meanings.hosts [] db.tables.world)) c.args.steps.now (g.R.RowSink.taken c.args.rows.now) (Rose (g.R.RowSink.fault_count c.args.rows.now) (g.R.RowSink.fault_count c.args.rows.now)))
+    let old = state_of db.schema db.tables.world db.changes db.last_rowid in
+    rw c.in_default-add.ensures.err (carries_Mem (create_outcome old c.args.new.entry) old c.args.budget (create_steps (surroundings_in g.M.Meanings.hosts [] db.tables.world)) c.args.steps.now (g.R.RowSink.taken c.args.rows.now) (Rose (g.R.RowSink.fault_count c.args.rows.now) (g.R.RowSink.fault_count c.args.rows.now)))
 
-pub returns-in_default-push-clause-kept : goal.returns-in_default-push-clause-kept
-returns-in_default-push-clause-kept g c = rw c.in_default-push.ensures.err refl
+pub returns-in_default-add-clause-kept : goal.returns-in_default-add-clause-kept
+returns-in_default-add-clause-kept g c = rw c.in_default-add.ensures.err refl
+
+pub returns-in_err-name-clause-carried : goal.returns-in_err-name-clause-carried
+returns-in_err-name-clause-carried g c =
+    let db = c.args.database.now in
+    let old = state_of db.schema db.tables.world db.changes db.last_rowid in
+    let why = err_from_is_err_and c.from_residual.result c.from_residual.ensures.1 in
+    rw (why.1, why.2) (carries_Mem (create_outcome old c.args.new.entry) old c.args.budget (create_steps (surroundings_in g.M.Meanings.hosts [] db.tables.world)) c.args.steps.now (g.R.RowSink.taken c.args.rows.now) (Rose (g.R.RowSink.fault_count c.args.rows.now) (g.R.RowSink.fault_count c.args.rows.now)))

@@ -1,4 +1,4 @@
-use Rattle.std.proofs.Common.{◌-◌, [], length, ap, sym, ◌∙◌, arith, ◌≡◌, rules, to_z, of_z, w64}
+use Rattle.std.proofs.Common.{◌-◌, ap, sym, ◌∙◌, arith, ◌≡◌, rules, to_z, of_z, w64}
 use Rattle.eng_value.specs.HostMeanings.{nobody}
 use Rattle.gen_write.specs.Writes.{put_run, put_steps}
 use Rattle.host_traits.specs.Faults.{Rose}
@@ -8,57 +8,43 @@ use Rattle.engine.specs.Outcomes.{put_outcome_in, surroundings_in}
 use Rattle.engine.proofs.CarryingOut.{carries_Ok, carries_Err, carries_Mem}
 use Rattle.engine.proofs.Starting.{from_copy}
 use Rattle.engine.proofs.Telling.{all_told}
-use Rattle.engine.proofs.Writing.{left_shows, left_next, left_changed, put_kept}
+use Rattle.engine.proofs.Writing.{left_shows, left_next, left_changed}
 use Rattle.engine.proofs.database.run_insert.Goals as goal
 
 pub returns-in_default-clause-carried : goal.returns-in_default-clause-carried
 returns-in_default-clause-carried g c =
     let db = c.args.database.now in
-    let old = state_of db.catalog db.tables.world db.changes db.last_rowid in
-    carries_Mem (put_outcome_in g.M.Meanings.hosts db.catalog db.tables.world db.changes db.last_rowid c.args.insert.now) old c.args.budget (put_steps c.args.insert.now (surroundings_in g.M.Meanings.hosts [] db.tables.world)) c.args.steps.now (g.R.RowSink.taken c.args.rows.now) (Rose (g.R.RowSink.fault_count c.args.rows.now) (g.R.RowSink.fault_count c.args.rows.now))
-
-pub returns-in-Ok-execute-clause-in_line : goal.returns-in-Ok-execute-clause-in_line
-returns-in-Ok-execute-clause-in_line g c =
-    let db = c.args.database.now in
-    let around = surroundings_in g.M.Meanings.hosts [] db.tables.world in
-    let run = put_run c.args.insert.now around db.last_rowid in
-    let told = all_told c.args.hosts.now g.M.Meanings.hosts c.in-Ok.program c.requires.told in
-    let same : to_z w64 (of_z w64 db.last_rowid) ≡ db.last_rowid = search rules in
-    let ends = from_copy (setting g.M.Meanings.hosts nobody [] c.in-Ok.program) (put_steps c.args.insert.now (surroundings_in g.M.Meanings.hosts [] db.tables.world)) c.in-Ok.program db.tables.world run.ending run.shared same (c.in-Ok.ensures.performs around db.last_rowid c.requires.sound) in
-    let a = c.in-Ok-execute.ensures.runs told nobody (put_steps c.args.insert.now (surroundings_in g.M.Meanings.hosts [] db.tables.world)) run.ending run.shared ends in
-    rw (c.keep.ensures.catalog, c.keep.ensures.tables) (ap length a.answer.1 ∙ put_kept c.args.insert.now around db.last_rowid ∙ c.requires.in_line)
+    let old = state_of db.schema db.tables.world db.changes db.last_rowid in
+    carries_Mem (put_outcome_in g.M.Meanings.hosts db.schema db.tables.world db.changes db.last_rowid c.args.params.now c.args.insert.now) old c.args.budget (put_steps c.args.insert.now (surroundings_in g.M.Meanings.hosts c.args.params.now db.tables.world)) c.args.steps.now (g.R.RowSink.taken c.args.rows.now) (Rose (g.R.RowSink.fault_count c.args.rows.now) (g.R.RowSink.fault_count c.args.rows.now))
 
 pub returns-in-Ok-execute-clause-carried : goal.returns-in-Ok-execute-clause-carried
 returns-in-Ok-execute-clause-carried g c =
     let db = c.args.database.now in
-    let old = state_of db.catalog db.tables.world db.changes db.last_rowid in
-    let around = surroundings_in g.M.Meanings.hosts [] db.tables.world in
+    let old = state_of db.schema db.tables.world db.changes db.last_rowid in
+    let around = surroundings_in g.M.Meanings.hosts c.args.params.now db.tables.world in
     let run = put_run c.args.insert.now around db.last_rowid in
-    let most = put_steps c.args.insert.now (surroundings_in g.M.Meanings.hosts [] db.tables.world) in
+    let most = put_steps c.args.insert.now (surroundings_in g.M.Meanings.hosts c.args.params.now db.tables.world) in
     let told = all_told c.args.hosts.now g.M.Meanings.hosts c.in-Ok.program c.requires.told in
     let same : to_z w64 (of_z w64 db.last_rowid) ≡ db.last_rowid = search rules in
-    let ends = from_copy (setting g.M.Meanings.hosts nobody [] c.in-Ok.program) most c.in-Ok.program db.tables.world run.ending run.shared same (c.in-Ok.ensures.performs around db.last_rowid c.requires.sound) in
+    let ends = from_copy (setting g.M.Meanings.hosts nobody c.args.params.now c.in-Ok.program) most c.in-Ok.program db.tables.world run.ending run.shared same (c.in-Ok.ensures.performs around db.last_rowid c.requires.sound) in
     let a = c.in-Ok-execute.ensures.runs told nobody most run.ending run.shared ends in
-    let next = left_next db.catalog db.tables.world db.changes db.last_rowid run.ending run.shared a.answer.0 in
-    let same = left_changed db.catalog db.tables.world db.changes db.last_rowid run.ending run.shared a.answer.0 in
-    carries_Ok old (put_outcome_in g.M.Meanings.hosts db.catalog db.tables.world db.changes db.last_rowid c.args.insert.now) run.ending run.shared (left_shows db.catalog db.tables.world db.changes db.last_rowid run.ending run.shared) most most c.args.budget (c.execute.new.steps - c.args.steps.now) c.execute.new.tables.world (g.R.RowSink.taken c.args.rows.now) (g.R.RowSink.taken c.execute.new.rows) (Rose (g.R.RowSink.fault_count c.args.rows.now) (g.R.RowSink.fault_count c.execute.new.rows)) (omega arith) (state_of c.keep.new.self.catalog c.keep.new.self.tables.world c.keep.new.self.changes c.keep.new.self.last_rowid) c.in-Ok-execute.completed c.done.result (rw (c.keep.ensures.catalog, c.keep.ensures.tables, c.keep.ensures.changes, c.keep.ensures.last_rowid, a.answer.1, a.answer.4, a.answer.5) (sym next)) c.done.ensures.given (c.done.ensures.changed ∙ a.answer.4 ∙ sym same) a
-
-pub returns-in-Err-clause-in_line : goal.returns-in-Err-clause-in_line
-returns-in-Err-clause-in_line g c = ap length c.in-Err.ensures.kept ∙ c.requires.in_line
+    let next = left_next db.schema db.tables.world db.changes db.last_rowid run.ending run.shared a.answer.0 in
+    let same = left_changed db.schema db.tables.world db.changes db.last_rowid run.ending run.shared a.answer.0 in
+    carries_Ok old (put_outcome_in g.M.Meanings.hosts db.schema db.tables.world db.changes db.last_rowid c.args.params.now c.args.insert.now) run.ending run.shared (left_shows db.schema db.tables.world db.changes db.last_rowid run.ending run.shared) most most c.args.budget (c.execute.new.steps - c.args.steps.now) c.execute.new.tables.world (g.R.RowSink.taken c.args.rows.now) (g.R.RowSink.taken c.execute.new.rows) (Rose (g.R.RowSink.fault_count c.args.rows.now) (g.R.RowSink.fault_count c.execute.new.rows)) (omega arith) (state_of c.keep.new.self.schema c.keep.new.self.tables.world c.keep.new.self.changes c.keep.new.self.last_rowid) c.in-Ok-execute.completed c.done.result (rw (c.keep.ensures.schema, c.keep.ensures.tables, c.keep.ensures.changes, c.keep.ensures.last_rowid, a.answer.1, a.answer.4, a.answer.5) (sym next)) c.done.ensures.given (c.done.ensures.changed ∙ a.answer.4 ∙ sym same) a
 
 pub returns-in-Err-clause-kept : goal.returns-in-Err-clause-kept
 returns-in-Err-clause-kept g c =
-    let db = c.args.database.now in ap (λ w. state_of db.catalog w db.changes db.last_rowid) c.in-Err.ensures.kept
+    let db = c.args.database.now in ap (λ w. state_of db.schema w db.changes db.last_rowid) c.in-Err.ensures.kept
 
 pub returns-in-Err-clause-carried : goal.returns-in-Err-clause-carried
 returns-in-Err-clause-carried g c =
     let db = c.args.database.now in
-    let old = state_of db.catalog db.tables.world db.changes db.last_rowid in
-    let around = surroundings_in g.M.Meanings.hosts [] db.tables.world in
+    let old = state_of db.schema db.tables.world db.changes db.last_rowid in
+    let around = surroundings_in g.M.Meanings.hosts c.args.params.now db.tables.world in
     let run = put_run c.args.insert.now around db.last_rowid in
-    let most = put_steps c.args.insert.now (surroundings_in g.M.Meanings.hosts [] db.tables.world) in
+    let most = put_steps c.args.insert.now (surroundings_in g.M.Meanings.hosts c.args.params.now db.tables.world) in
     let told = all_told c.args.hosts.now g.M.Meanings.hosts c.in-Ok.program c.requires.told in
     let same : to_z w64 (of_z w64 db.last_rowid) ≡ db.last_rowid = search rules in
-    let ends = from_copy (setting g.M.Meanings.hosts nobody [] c.in-Ok.program) most c.in-Ok.program db.tables.world run.ending run.shared same (c.in-Ok.ensures.performs around db.last_rowid c.requires.sound) in
+    let ends = from_copy (setting g.M.Meanings.hosts nobody c.args.params.now c.in-Ok.program) most c.in-Ok.program db.tables.world run.ending run.shared same (c.in-Ok.ensures.performs around db.last_rowid c.requires.sound) in
     let a = c.in-Err.ensures.runs told nobody most run.ending run.shared ends in
-    carries_Err old (put_outcome_in g.M.Meanings.hosts db.catalog db.tables.world db.changes db.last_rowid c.args.insert.now) run.ending run.shared (left_shows db.catalog db.tables.world db.changes db.last_rowid run.ending run.shared) most most c.args.budget (c.execute.new.steps - c.args.steps.now) c.execute.new.tables.world (g.R.RowSink.taken c.args.rows.now) (g.R.RowSink.taken c.execute.new.rows) (Rose (g.R.RowSink.fault_count c.args.rows.now) (g.R.RowSink.fault_count c.execute.new.rows)) (omega arith) (state_of db.catalog c.execute.new.tables.world db.changes db.last_rowid) c.in-Err.cause (ap (λ w. state_of db.catalog w db.changes db.last_rowid) c.in-Err.ensures.kept) a
+    carries_Err old (put_outcome_in g.M.Meanings.hosts db.schema db.tables.world db.changes db.last_rowid c.args.params.now c.args.insert.now) run.ending run.shared (left_shows db.schema db.tables.world db.changes db.last_rowid run.ending run.shared) most most c.args.budget (c.execute.new.steps - c.args.steps.now) c.execute.new.tables.world (g.R.RowSink.taken c.args.rows.now) (g.R.RowSink.taken c.execute.new.rows) (Rose (g.R.RowSink.fault_count c.args.rows.now) (g.R.RowSink.fault_count c.execute.new.rows)) (omega arith) (state_of db.schema c.execute.new.tables.world db.changes db.last_rowid) c.in-Err.cause (ap (λ w. state_of db.schema w db.changes db.last_rowid) c.in-Err.ensures.kept) a

@@ -1,4 +1,4 @@
-use Rattle.std.proofs.Common.{◌-◌, length, ap, ◌∙◌, refl, arith, ◌≡◌, rules, to_z, of_z, w64}
+use Rattle.std.proofs.Common.{◌-◌, ap, refl, arith, ◌≡◌, rules, to_z, of_z, w64}
 use Rattle.eng_value.specs.HostMeanings.{nobody}
 use Rattle.gen_query.specs.Queries.{items_in, query_run, query_steps}
 use Rattle.host_traits.specs.Faults.{Rose}
@@ -14,24 +14,13 @@ use Rattle.engine.proofs.database.run_select.Goals as goal
 pub returns-in_default-clause-carried : goal.returns-in_default-clause-carried
 returns-in_default-clause-carried g c =
     let db = c.args.database.now in
-    let old = state_of db.catalog db.tables.world db.changes db.last_rowid in
-    carries_Mem (query_outcome_in g.M.Meanings.hosts db.catalog db.tables.world db.changes db.last_rowid c.args.params.now c.args.select.now) old c.args.budget (query_steps c.args.select.now (surroundings_in g.M.Meanings.hosts c.args.params.now db.tables.world)) c.args.steps.now (g.R.RowSink.taken c.args.rows.now) (Rose (g.R.RowSink.fault_count c.args.rows.now) (g.R.RowSink.fault_count c.args.rows.now))
-
-pub returns-in-Ok-execute-clause-in_line : goal.returns-in-Ok-execute-clause-in_line
-returns-in-Ok-execute-clause-in_line g c =
-    let db = c.args.database.now in
-    let around = surroundings_in g.M.Meanings.hosts c.args.params.now db.tables.world in
-    let run = query_run c.args.select.now around db.last_rowid in
-    let told = all_told c.args.hosts.now g.M.Meanings.hosts c.in-Ok.program c.requires.told in
-    let same : to_z w64 (of_z w64 db.last_rowid) ≡ db.last_rowid = search rules in
-    let ends = from_copy (setting g.M.Meanings.hosts nobody c.args.params.now c.in-Ok.program) (query_steps c.args.select.now (surroundings_in g.M.Meanings.hosts c.args.params.now db.tables.world)) c.in-Ok.program db.tables.world run.ending run.shared same (c.in-Ok.ensures.performs around db.last_rowid c.requires.sound) in
-    let a = c.in-Ok-execute.ensures.runs told nobody (query_steps c.args.select.now (surroundings_in g.M.Meanings.hosts c.args.params.now db.tables.world)) run.ending run.shared ends in
-    ap length a.answer.1 ∙ c.requires.in_line
+    let old = state_of db.schema db.tables.world db.changes db.last_rowid in
+    carries_Mem (query_outcome_in g.M.Meanings.hosts db.schema db.tables.world db.changes db.last_rowid c.args.params.now c.args.select.now) old c.args.budget (query_steps c.args.select.now (surroundings_in g.M.Meanings.hosts c.args.params.now db.tables.world)) c.args.steps.now (g.R.RowSink.taken c.args.rows.now) (Rose (g.R.RowSink.fault_count c.args.rows.now) (g.R.RowSink.fault_count c.args.rows.now))
 
 pub returns-in-Ok-execute-clause-carried : goal.returns-in-Ok-execute-clause-carried
 returns-in-Ok-execute-clause-carried g c =
     let db = c.args.database.now in
-    let old = state_of db.catalog db.tables.world db.changes db.last_rowid in
+    let old = state_of db.schema db.tables.world db.changes db.last_rowid in
     let around = surroundings_in g.M.Meanings.hosts c.args.params.now db.tables.world in
     let run = query_run c.args.select.now around db.last_rowid in
     let most = query_steps c.args.select.now (surroundings_in g.M.Meanings.hosts c.args.params.now db.tables.world) in
@@ -39,19 +28,16 @@ returns-in-Ok-execute-clause-carried g c =
     let same : to_z w64 (of_z w64 db.last_rowid) ≡ db.last_rowid = search rules in
     let ends = from_copy (setting g.M.Meanings.hosts nobody c.args.params.now c.in-Ok.program) most c.in-Ok.program db.tables.world run.ending run.shared same (c.in-Ok.ensures.performs around db.last_rowid c.requires.sound) in
     let a = c.in-Ok-execute.ensures.runs told nobody most run.ending run.shared ends in
-    carries_Ok old (query_outcome_in g.M.Meanings.hosts db.catalog db.tables.world db.changes db.last_rowid c.args.params.now c.args.select.now) run.ending run.shared (record { ended = query_ended g.M.Meanings.hosts db.catalog db.tables.world db.changes db.last_rowid c.requires.in_line c.args.params.now (items_in c.args.select.now around); given = refl; kept = λ causes is. refl }) most most c.args.budget (c.execute.new.steps - c.args.steps.now) c.execute.new.tables.world (g.R.RowSink.taken c.args.rows.now) (g.R.RowSink.taken c.execute.new.rows) (Rose (g.R.RowSink.fault_count c.args.rows.now) (g.R.RowSink.fault_count c.execute.new.rows)) (omega arith) (state_of db.catalog c.execute.new.tables.world db.changes db.last_rowid) c.in-Ok-execute.completed c.done.result (ap (λ w. state_of db.catalog w db.changes db.last_rowid) a.answer.1) c.done.ensures.given c.done.ensures.changed a
-
-pub returns-in-Err-clause-in_line : goal.returns-in-Err-clause-in_line
-returns-in-Err-clause-in_line g c = ap length c.in-Err.ensures.kept ∙ c.requires.in_line
+    carries_Ok old (query_outcome_in g.M.Meanings.hosts db.schema db.tables.world db.changes db.last_rowid c.args.params.now c.args.select.now) run.ending run.shared (record { ended = query_ended old (items_in c.args.select.now around); given = refl; kept = λ causes is. refl }) most most c.args.budget (c.execute.new.steps - c.args.steps.now) c.execute.new.tables.world (g.R.RowSink.taken c.args.rows.now) (g.R.RowSink.taken c.execute.new.rows) (Rose (g.R.RowSink.fault_count c.args.rows.now) (g.R.RowSink.fault_count c.execute.new.rows)) (omega arith) (state_of db.schema c.execute.new.tables.world db.changes db.last_rowid) c.in-Ok-execute.completed c.done.result (ap (λ w. state_of db.schema w db.changes db.last_rowid) a.answer.1) c.done.ensures.given c.done.ensures.changed a
 
 pub returns-in-Err-clause-kept : goal.returns-in-Err-clause-kept
 returns-in-Err-clause-kept g c =
-    let db = c.args.database.now in ap (λ w. state_of db.catalog w db.changes db.last_rowid) c.in-Err.ensures.kept
+    let db = c.args.database.now in ap (λ w. state_of db.schema w db.changes db.last_rowid) c.in-Err.ensures.kept
 
 pub returns-in-Err-clause-carried : goal.returns-in-Err-clause-carried
 returns-in-Err-clause-carried g c =
     let db = c.args.database.now in
-    let old = state_of db.catalog db.tables.world db.changes db.last_rowid in
+    let old = state_of db.schema db.tables.world db.changes db.last_rowid in
     let around = surroundings_in g.M.Meanings.hosts c.args.params.now db.tables.world in
     let run = query_run c.args.select.now around db.last_rowid in
     let most = query_steps c.args.select.now (surroundings_in g.M.Meanings.hosts c.args.params.now db.tables.world) in
@@ -59,4 +45,4 @@ returns-in-Err-clause-carried g c =
     let same : to_z w64 (of_z w64 db.last_rowid) ≡ db.last_rowid = search rules in
     let ends = from_copy (setting g.M.Meanings.hosts nobody c.args.params.now c.in-Ok.program) most c.in-Ok.program db.tables.world run.ending run.shared same (c.in-Ok.ensures.performs around db.last_rowid c.requires.sound) in
     let a = c.in-Err.ensures.runs told nobody most run.ending run.shared ends in
-    carries_Err old (query_outcome_in g.M.Meanings.hosts db.catalog db.tables.world db.changes db.last_rowid c.args.params.now c.args.select.now) run.ending run.shared (record { ended = query_ended g.M.Meanings.hosts db.catalog db.tables.world db.changes db.last_rowid c.requires.in_line c.args.params.now (items_in c.args.select.now around); given = refl; kept = λ causes is. refl }) most most c.args.budget (c.execute.new.steps - c.args.steps.now) c.execute.new.tables.world (g.R.RowSink.taken c.args.rows.now) (g.R.RowSink.taken c.execute.new.rows) (Rose (g.R.RowSink.fault_count c.args.rows.now) (g.R.RowSink.fault_count c.execute.new.rows)) (omega arith) (state_of db.catalog c.execute.new.tables.world db.changes db.last_rowid) c.in-Err.cause (ap (λ w. state_of db.catalog w db.changes db.last_rowid) c.in-Err.ensures.kept) a
+    carries_Err old (query_outcome_in g.M.Meanings.hosts db.schema db.tables.world db.changes db.last_rowid c.args.params.now c.args.select.now) run.ending run.shared (record { ended = query_ended old (items_in c.args.select.now around); given = refl; kept = λ causes is. refl }) most most c.args.budget (c.execute.new.steps - c.args.steps.now) c.execute.new.tables.world (g.R.RowSink.taken c.args.rows.now) (g.R.RowSink.taken c.execute.new.rows) (Rose (g.R.RowSink.fault_count c.args.rows.now) (g.R.RowSink.fault_count c.execute.new.rows)) (omega arith) (state_of db.schema c.execute.new.tables.world db.changes db.last_rowid) c.in-Err.cause (ap (λ w. state_of db.schema w db.changes db.last_rowid) c.in-Err.ensures.kept) a

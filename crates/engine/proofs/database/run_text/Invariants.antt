@@ -1,5 +1,5 @@
 use Rattle.vm_core.specs.Meant.{meant}
 use Rattle.engine.proofs.database.run_text.Given as goal
 
-abbrev pub ghosts-run_bound : goal.ghosts-run_bound
-ghosts-run_bound g a = record { hosts = meant a.hosts.now }
+abbrev pub ghosts-run_ready : goal.ghosts-run_ready
+ghosts-run_ready g a = record { hosts = meant a.hosts.now }

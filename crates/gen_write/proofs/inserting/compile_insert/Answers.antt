@@ -1,21 +1,28 @@
-use Rattle.std.proofs.Common.{◌≡◌, ◌+◌, ◌*◌, find, length, sum_by, Some, None, sym, ap, ◌∙◌}
-use Rattle.std.proofs.lemmas.Result.{IfOk-weaker}
-use Rattle.std.specs.Option.{option_copied}
-use Rattle.gen_write.specs.Stretches.{holds_bad, refused_run, stored_run}
-use Rattle.gen_write.specs.Writes.{put_run, put_steps, row_steps}
-use Rattle.gen_write.proofs.Whole.{refusal-puts, rows-put}
-use Rattle.vm_code.specs.Machine.{Performs}
+use Rattle.std.proofs.Common.{◌≡◌, ◌+◌, [], ap, ◌∙◌, arith}
+use Rattle.gen_write.proofs.Whole.{insert-balanced, insert-performs}
+use Rattle.vm_code.specs.Draft.{Draft, begun}
 use Rattle.gen_write.proofs.inserting.compile_insert.Goals as goal
 
-pub returns-in-Some-clause-performs : goal.returns-in-Some-clause-performs
-returns-in-Some-clause-performs c =
-    let insert = c.args.insert.now in
-    let row = c.in-Some.row.now in
-    let found : find holds_bad insert.rows ≡ Some row = sym (rw c.as_slice.ensures at c.first_bad.ensures) ∙ ap option_copied c.in-Some.is in
-    IfOk-weaker c.compile_refusal.result (λ p. Performs p (refused_run row) (λ x. 2 * length row + 2)) (λ p. Performs p (put_run insert) (put_steps insert)) (λ p x. refusal-puts insert row p found x) (rw c.as_slice-in-Some.ensures at c.compile_refusal.ensures.performs)
+pub returns-clause-performs : goal.returns-clause-performs
+returns-clause-performs c =
+    let b0 : c.new-b.result ≡ begun [] = c.new-b.ensures ∙ ap begun c.new.ensures in
+    let causes_is : c.in_ok-causes.causes ≡ 0 = c.in_ok-causes.ensures.0 ∙ ap (λ (d : Draft). d.next) b0 in
+    let keeps = rw (c.in_ok-op.ensures, c.in_ok-causes.ensures.1, b0, causes_is, c.as_slice.ensures) at c.in_ok-source.ensures.keeps in
+    let none = rw (c.in_ok-op.ensures, c.in_ok-causes.ensures.1, b0) at c.in_ok-source.ensures.cursors in
+    let cursor_is : c.in_ok-cursor.cursor ≡ 0 = c.in_ok-cursor.ensures.0 ∙ none in
+    let puts = rw (c.in_ok-op-2.ensures, c.in_ok-cursor.ensures.1, cursor_is, causes_is, c.as_slice-2.ensures) at c.in_ok-put_rows.ensures.puts in
+    let wide : c.put_rows.new.b.cursors ≡ c.keep_rows.new.b.cursors + 1 = rw (c.in_ok-op-2.ensures, c.in_ok-cursor.ensures.1) at c.in_ok-put_rows.ensures.cursors in
+    let program = rw (c.in_ok-op-4.ensures, c.in_ok-op-3.ensures, cursor_is) at c.finish_program.ensures in
+    insert-performs c.args.insert.now c.in_ok-source.source c.keep_rows.new.b c.put_rows.new.b keeps none puts (omega (arith, wide, none)) c.finish_program.result program
 
-pub returns-in-None-clause-performs : goal.returns-in-None-clause-performs
-returns-in-None-clause-performs c =
-    let insert = c.args.insert.now in
-    let found : find holds_bad insert.rows ≡ None = sym (rw c.as_slice.ensures at c.first_bad.ensures) ∙ ap option_copied c.in-None.is in
-    IfOk-weaker c.compile_rows.result (λ p. Performs p (stored_run insert) (λ x. sum_by row_steps insert.rows + 3)) (λ p. Performs p (put_run insert) (put_steps insert)) (λ p x. rows-put insert p found x) c.compile_rows.ensures.performs
+pub returns-clause-balanced : goal.returns-clause-balanced
+returns-clause-balanced c =
+    let b0 : c.new-b.result ≡ begun [] = c.new-b.ensures ∙ ap begun c.new.ensures in
+    let causes_is : c.in_ok-causes.causes ≡ 0 = c.in_ok-causes.ensures.0 ∙ ap (λ (d : Draft). d.next) b0 in
+    let keeps = rw (c.in_ok-op.ensures, c.in_ok-causes.ensures.1, b0, causes_is, c.as_slice.ensures) at c.in_ok-source.ensures.keeps in
+    let none = rw (c.in_ok-op.ensures, c.in_ok-causes.ensures.1, b0) at c.in_ok-source.ensures.cursors in
+    let cursor_is : c.in_ok-cursor.cursor ≡ 0 = c.in_ok-cursor.ensures.0 ∙ none in
+    let puts = rw (c.in_ok-op-2.ensures, c.in_ok-cursor.ensures.1, cursor_is, causes_is, c.as_slice-2.ensures) at c.in_ok-put_rows.ensures.puts in
+    let wide : c.put_rows.new.b.cursors ≡ c.keep_rows.new.b.cursors + 1 = rw (c.in_ok-op-2.ensures, c.in_ok-cursor.ensures.1) at c.in_ok-put_rows.ensures.cursors in
+    let program = rw (c.in_ok-op-4.ensures, c.in_ok-op-3.ensures, cursor_is) at c.finish_program.ensures in
+    insert-balanced c.args.insert.now c.in_ok-source.source c.keep_rows.new.b c.put_rows.new.b keeps none puts (omega (arith, wide, none)) c.finish_program.result program

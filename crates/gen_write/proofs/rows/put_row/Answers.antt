@@ -1,10 +1,7 @@
-use Rattle.std.proofs.Common.{length, ap, ◌∙◌}
-use Rattle.gen_write.proofs.RowCode.{behind_open}
-use Rattle.vm_code.specs.Draft.{Draft, with_label}
+use Rattle.gen_write.proofs.RowCode.{row-puts}
 use Rattle.gen_write.proofs.rows.put_row.Goals as goal
 
-pub bind-requires-2 : goal.bind-requires-2
-bind-requires-2 c =
-    let labels = λ (d : Draft). d.labels in
-    let made = ap labels c.in_ok-op-4.ensures ∙ ap labels c.in_ok-op-3.ensures ∙ ap labels c.in_ok-op-2.ensures ∙ ap labels c.in_ok-op.ensures ∙ ap labels c.in_ok-rowid.ensures.1 ∙ ap labels c.in_ok-fail.ensures.1 ∙ ap (λ (d : Draft). (with_label d).labels) c.in_ok-next.ensures.1 in
-    behind_open c.args.b.now c.op-4.new.self c.op-5.new.self c.in_ok-fail.fail c.in_ok-next.next c.in_ok-next.ensures.0 (c.in_ok-fail.ensures.0 ∙ ap (λ (d : Draft). length d.labels) c.in_ok-next.ensures.1) made (ap labels c.in_ok-op-5.ensures ∙ ap labels c.in_ok-bind.ensures)
+pub returns-clause-puts : goal.returns-clause-puts
+returns-clause-puts c =
+    let stores = rw c.as_slice.ensures at c.in_ok-emit_columns.ensures.stores in
+    rw (c.release.ensures, c.in_ok-insert_row.ensures, c.in_ok-refuse_bad.ensures, c.next_register.ensures, c.next_register-first.ensures) (row-puts c.args.b.now c.emit_columns.new.b c.args.cursor c.args.causes c.args.insert.now c.args.kept.now c.requires.taken stores)

@@ -1,4 +1,4 @@
-use Rattle.sql_meaning.proofs.DoneLaws.{creates, inserts, selects}
+use Rattle.sql_meaning.proofs.DoneLaws.{creates, drops, inserts, selects, shows}
 use Rattle.sql_meaning.proofs.states.statements_do_what_they_say.Goals as goal
 
 pub returns-clause-inserts : goal.returns-clause-inserts
@@ -9,3 +9,9 @@ returns-clause-creates c = creates
 
 pub returns-clause-selects : goal.returns-clause-selects
 returns-clause-selects c = selects
+
+pub returns-clause-drops : goal.returns-clause-drops
+returns-clause-drops c = drops
+
+pub returns-clause-shows : goal.returns-clause-shows
+returns-clause-shows c = shows

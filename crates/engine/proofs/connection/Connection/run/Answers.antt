@@ -57,10 +57,9 @@ pub invariant_of-self : goal.invariant_of-self
 invariant_of-self g c =
     let hosts = meant c.args.hosts.now in
     let db = c.self.inside.database in
-    let old = state_of db.catalog db.tables.world db.changes db.last_rowid in
+    let old = state_of db.schema db.tables.world db.changes db.last_rowid in
     let told = text_is_told old c.args.params.now c.args.sql.now in
     record {
-      in_line = c.run_text.ensures.in_line;
       unmarked = c.run_text.ensures.marks ∙ c.self.invariant.unmarked;
       valid = carries_valid _ old _ _ _ _ _ _ _ _ c.self.invariant.valid (text_outcome-valid (context hosts old c.args.params.now) c.args.sql.now c.self.invariant.valid) (c.run_text.ensures.carried told);
     }
@@ -69,6 +68,6 @@ pub returns-clause-valid : goal.returns-clause-valid
 returns-clause-valid g c =
     let hosts = meant c.args.hosts.now in
     let db = c.self.inside.database in
-    let old = state_of db.catalog db.tables.world db.changes db.last_rowid in
+    let old = state_of db.schema db.tables.world db.changes db.last_rowid in
     let told = text_is_told old c.args.params.now c.args.sql.now in
     carries_valid _ old _ _ _ _ _ _ _ _ c.self.invariant.valid (text_outcome-valid (context hosts old c.args.params.now) c.args.sql.now c.self.invariant.valid) (c.run_text.ensures.carried told)

@@ -1,0 +1,17 @@
+-- What is declared of tables, where an entry comes into the catalog and goes.
+use Rattle.std.proofs.Common.{◌≡◌, ◌++◌, ℕ, List, [], ◌∷◌, Some, sym, ap, ◌∙◌}
+use Rattle.std.specs.List.{filter}
+use Rattle.eng_entry.specs.Entries.{Entries, with_entry, without_name}
+use Rattle.eng_entry.specs.declared.entry.Entry.{Entry}
+use Rattle.eng_entry.specs.declared.entry.EntryKind.TheVariants as entry_kind
+use Rattle.eng_entry.specs.declared.entry.Space.TheVariants as space
+use Rattle.sql_meaning.proofs.TableLaws.{among-others, among-push, is_other, with_entry-names}
+use Rattle.sql_meaning.specs.Declarations.{table_of, tables_of}
+use Rattle.sql_meaning.specs.declared.column.TableEntry.{TableEntry}
+
+pub tables_with : (tables : List TableEntry) (c : Entries) (e : Entry) (t : TableEntry) → tables ≡ tables_of c → e.kind ≡ entry_kind.Table → table_of e ≡ Some t → tables ++ t ∷ [] ≡ tables_of (with_entry e c)
+tables_with tables c e t are kind declared =
+    ap (λ ts. ts ++ t ∷ []) are ∙ sym (among-push c.names e t declared) ∙ ap tables_of (sym (with_entry-names e c kind))
+
+pub tables_without : (tables : List TableEntry) (c : Entries) (name : List ℕ) → tables ≡ tables_of c → filter (is_other name) tables ≡ tables_of (without_name space.Names name c)
+tables_without tables c name are = ap (filter (is_other name)) are ∙ sym (among-others name c.names)
