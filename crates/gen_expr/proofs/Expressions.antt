@@ -9,6 +9,7 @@ use Rattle.eng_value.specs.Collations.{keys_of}
 use Rattle.eng_value.specs.Comparisons.{comparison_of, like_escaped_of}
 use Rattle.eng_value.specs.Environments.{Environment}
 use Rattle.eng_value.specs.HostMeanings.{HostMeanings}
+use Rattle.eng_value.specs.Truths.{truth_of}
 use Rattle.eng_value.specs.declared.builtin.Builtin.{Builtin}
 use Rattle.eng_value.specs.declared.collation.Collation.{Collation}
 use Rattle.eng_value.specs.declared.compare_op.CompareOp.TheVariants as compare
@@ -26,6 +27,7 @@ use Rattle.gen_expr.specs.Steps.{steps_of, arm_steps_of, match_steps_of, test_st
 use Rattle.gen_expr.proofs.Deciding.{first_in-last, chosen_in-first, matched_in-first, first_known-first}
 use Rattle.gen_expr.proofs.Forms.{arm_decides, begun_turns, between_leaves, decided_leaves, known_decides, of_one, of_three, of_two, or_equal_turns}
 use Rattle.gen_expr.proofs.StepLaws.{steps_of-Literal, steps_of-Column, steps_of-Parameter, steps_of-Unary, steps_of-Binary, steps_of-LikeEscaped, steps_of-Between, steps_of-In, steps_of-Coalesce, steps_of-Choose, steps_of-Match, steps_of-Call, sum_by-last}
+use Rattle.gen_expr.proofs.Truths.{comparison_truth}
 use Rattle.gen_expr.proofs.Stretches.{decides_as, decides_then, leaves_held, leaves_turns, turns_as, turns_by, turns_decided, turns_leaves, turns_then}
 use Rattle.sql_meaning.specs.Clauses.{value_of-Literal, value_of-Column, value_of-Parameter, value_of-Unary, value_of-Binary, value_of-LikeEscaped, value_of-Between, value_of-In, value_of-Coalesce, value_of-Choose, value_of-Match, value_of-Call}
 use Rattle.sql_meaning.specs.Expression.{value_of, arm_of, match_of, literal_out, column_of_item, parameter_of, first_known, chosen_in, matched_in, in_all}
@@ -125,10 +127,14 @@ both_joined a b d o p q first to x y first_is l r lt =
 pub decided_within : (a b : Draft) (o : BinaryOperator) (to : ℕ) (x y : BoundExpr) → test_steps o ≡ 2 → Joins a b to o x y (steps_of x + steps_of y + 3) → Joins a b to o x y (steps_of x + steps_of y + 1 + test_steps o)
 decided_within a b o to x y is l = joins_as o x y (steps_of x + steps_of y + 1 + test_steps o) (omega (arith, is)) l
 
-pub decided_joined : (a b t c d z : Draft) (o : BinaryOperator) (wanted : Bool) (q : Operand) (to end first : ℕ) (x y : BoundExpr) → IsDecidedBy o wanted → Emits a b to x → end ≡ length b.labels → t ≡ with_left_tested b wanted to → first ≡ t.next → OffersOne t c q y → d ≡ released (with_op c (op.Binary o (operand.Register to) q to)) first → z ≡ bound d end → to < a.next → a.next ≤ a.most → Joins a z to o x y (steps_of x + steps_of y + 3)
+-- the truth of an expression is left
+abbrev pub EmitsTruth : Draft → Draft → ℕ → BoundExpr → Type 0
+EmitsTruth a b to x = Leaves no_calls a b to (λ env. truth_of (value_of x env)) (λ env. steps_of x + 1)
+
+pub decided_joined : (a b t c d z : Draft) (o : BinaryOperator) (wanted : Bool) (q : Operand) (to end first : ℕ) (x y : BoundExpr) → IsDecidedBy o wanted → EmitsTruth a b to x → end ≡ length b.labels → t ≡ with_left_tested b wanted to → first ≡ t.next → OffersOne t c q y → d ≡ released (with_op c (op.Binary o (operand.Register to) q to)) first → z ≡ bound d end → to < a.next → a.next ≤ a.most → Joins a z to o x y (steps_of x + steps_of y + 3)
 decided_joined a b t c d z o wanted q to end first x y decided l end_is t_is first_is r d_is z_is lt counted =
     subst (λ (k : Draft). Joins a k to o x y (steps_of x + steps_of y + 3)) (sym (z_is ∙ ap (λ (k : Draft). bound k end) d_is))
-    (decided_leaves a b c o wanted q to end first (steps_of x) (steps_of y) (value_of x) (value_of y) decided l end_is (first_is ∙ ap (λ (k : Draft). k.next) t_is) (subst (λ (k : Draft). OffersOne k c q y) t_is r) lt counted)
+    (joins_as o x y (steps_of x + steps_of y + 3) (omega arith) (decided_leaves a b c o wanted q to end first (steps_of x + 1) (steps_of y) (value_of x) (value_of y) decided l end_is (first_is ∙ ap (λ (k : Draft). k.next) t_is) (subst (λ (k : Draft). OffersOne k c q y) t_is r) lt counted))
 
 -- three operands
 abbrev pub OffersThree : Draft → Draft → Operands → BoundExpr → BoundExpr → BoundExpr → Type 0
@@ -218,14 +224,14 @@ of_coalesce a b to es l = leaves_as (value_of (e.Coalesce es)) (steps_of (e.Coal
 
 -- ---- CASE with conditions
 
-pub choice_more : (a b c v : Draft) (to next end i : ℕ) (arms : List BoundArm) (arm : BoundArm) (condition shown : BoundExpr) → i < length arms → arm ≡ get_or arms i arm → arm_of arm ≡ record { condition = value_of condition; value = value_of shown } → arm_steps_of arm ≡ steps_of condition + steps_of shown + 4 → Decides a b to to end (λ env y. first_in (λ o. decided_arm env (arm_of o)) (take i arms)) (sum_by arm_steps_of (take i arms)) → Emits b c to condition → next ≡ length c.labels → Emits (with_arm_tested c to end) v to shown → to < b.next → b.next ≤ b.most → Decides a (with_arm_left v end next) to to end (λ env y. first_in (λ o. decided_arm env (arm_of o)) (take (i + 1) arms)) (sum_by arm_steps_of (take (i + 1) arms))
+pub choice_more : (a b c v : Draft) (to next end i : ℕ) (arms : List BoundArm) (arm : BoundArm) (condition shown : BoundExpr) → i < length arms → arm ≡ get_or arms i arm → arm_of arm ≡ record { condition = value_of condition; value = value_of shown } → arm_steps_of arm ≡ steps_of condition + steps_of shown + 4 → Decides a b to to end (λ env y. first_in (λ o. decided_arm env (arm_of o)) (take i arms)) (sum_by arm_steps_of (take i arms)) → EmitsTruth b c to condition → next ≡ length c.labels → Emits (with_arm_tested c to end) v to shown → to < b.next → b.next ≤ b.most → Decides a (with_arm_left v end next) to to end (λ env y. first_in (λ o. decided_arm env (arm_of o)) (take (i + 1) arms)) (sum_by arm_steps_of (take (i + 1) arms))
 choice_more a b c v to next end i arms arm condition shown lt is arm_is steps_is t l next_is lv to_lt counted =
     let more = more_of arms i arm lt is in
     let steps : sum_by arm_steps_of (take i arms) + arm_steps_of arm ≡ sum_by arm_steps_of (take (i + 1) arms) = sym (sum_by-last arm_steps_of (take i arms) arm) ∙ ap (sum_by arm_steps_of) more in
     decides_as (λ env y. first_in (λ o. decided_arm env (arm_of o)) (take (i + 1) arms)) (sum_by arm_steps_of (take (i + 1) arms))
     (λ env y. ap (λ d. first_of (first_in (λ o. decided_arm env (arm_of o)) (take i arms)) (decided_arm env d)) (sym arm_is) ∙ sym (first_in-last (λ o. decided_arm env (arm_of o)) (take i arms) arm) ∙ ap (first_in (λ o. decided_arm env (arm_of o))) more)
     (omega (arith, steps, steps_is))
-    (decides_then t (arm_decides b c v to to next end (steps_of condition) (steps_of shown) (λ env y. value_of condition env) (value_of shown) next_is (turns_leaves to l) lv to_lt counted) (λ env r q same. refl))
+    (decides_then t (arm_decides b c v to to next end (steps_of condition + 1) (steps_of shown) (λ env y. value_of condition env) (value_of shown) next_is (turns_leaves to l) lv to_lt counted) (λ env r q same. refl))
 
 pub choice_leaves : (a b c : Draft) (to end : ℕ) (arms : List BoundArm) (otherwise : BoundExpr) → end ≡ length a.labels → Decides (with_label a) b to to end (λ env y. first_in (λ o. decided_arm env (arm_of o)) arms) (sum_by arm_steps_of arms) → Emits b c to otherwise → Leaves no_calls a (bound c end) to (λ env. chosen_in env (map arm_of arms) (value_of otherwise env)) (λ env. sum_by arm_steps_of arms + steps_of otherwise)
 choice_leaves a b c to end arms otherwise end_is t l =
@@ -244,10 +250,11 @@ match_more a b c v other held first to next end i arms arm sides wanted shown lt
     let steps : sum_by match_steps_of (take i arms) + match_steps_of arm ≡ sum_by match_steps_of (take (i + 1) arms) = sym (sum_by-last match_steps_of (take i arms) arm) ∙ ap (sum_by match_steps_of) more in
     let compare_op = op.Binary (binary.Compare compare.Eq sides) (operand.Register held) other to in
     let compared = turns_by b c compare_op (other ∷ []) held first to (steps_of wanted) (λ env. value_of wanted env ∷ []) (λ hosts y. of_one (comparison_of (keys_of hosts) compare.Eq sides y)) (refl, refl) first_is l (omega (arith, t.next)) (omega (arith, t.next)) (λ m at s. refl) in
+    let truth = turns_as (λ env y z. truth_of (comparison_of (keys_of env.hosts) compare.Eq sides y (value_of wanted env))) (steps_of wanted + 1) (λ env y z. sym (comparison_truth (keys_of env.hosts) compare.Eq sides y (value_of wanted env))) (omega arith) compared in
     decides_as (λ env y. first_in (λ o. decided_match env y (match_of o)) (take (i + 1) arms)) (sum_by match_steps_of (take (i + 1) arms))
     (λ env y. ap (λ d. first_of (first_in (λ o. decided_match env y (match_of o)) (take i arms)) (decided_match env y d)) (sym arm_is) ∙ sym (first_in-last (λ o. decided_match env y (match_of o)) (take i arms) arm) ∙ ap (first_in (λ o. decided_match env y (match_of o))) more)
     (omega (arith, steps, steps_is))
-    (decides_then t (arm_decides b (released (with_op c compare_op) first) v held to next end (steps_of wanted + 1) (steps_of shown) (λ env y. comparison_of (keys_of env.hosts) compare.Eq sides y (value_of wanted env)) (value_of shown) next_is compared lv (omega (arith, t.next)) (omega (arith, t.next, t.grows.most)))
+    (decides_then t (arm_decides b (released (with_op c compare_op) first) v held to next end (steps_of wanted + 1) (steps_of shown) (λ env y. comparison_of (keys_of env.hosts) compare.Eq sides y (value_of wanted env)) (value_of shown) next_is truth lv (omega (arith, t.next)) (omega (arith, t.next, t.grows.most)))
     (λ env r q same. ap (λ y. decided_match env y (record { sides = sides; operand = value_of wanted; value = value_of shown })) (same held (omega (arith, t.next)) ne)))
 
 pub match_leaves : (a b d c : Draft) (held to end : ℕ) (arms : List BoundMatch) (x otherwise : BoundExpr) → held ≡ a.next → Emits (taken a) b held x → end ≡ length b.labels → Decides (with_label b) d held to end (λ env y. first_in (λ o. decided_match env y (match_of o)) arms) (sum_by match_steps_of arms) → Emits d c to otherwise → to < a.next → Leaves no_calls a (given_back (bound c end)) to (λ env. matched_in env (value_of x env) (map match_of arms) (value_of otherwise env)) (λ env. steps_of x + sum_by match_steps_of arms + steps_of otherwise)

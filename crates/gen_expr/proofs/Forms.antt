@@ -10,7 +10,6 @@ use Rattle.eng_value.specs.declared.compare_op.CompareOp.TheVariants as compare
 use Rattle.eng_value.specs.declared.operators.BinaryOperator.{BinaryOperator}
 use Rattle.eng_value.specs.declared.operators.BinaryOperator.TheVariants as binary
 use Rattle.eng_value.specs.declared.operators.Sides.{Sides}
-use Rattle.eng_value.specs.declared.operators.UnaryOperator.TheVariants as unary
 use Rattle.eng_value.specs.declared.out.Out.{Out}
 use Rattle.eng_value.specs.declared.out.Out.TheVariants.{Good, Bad}
 use Rattle.eng_value.specs.declared.value.Value.TheVariants.{Null, Integer}
@@ -95,21 +94,18 @@ uses_none : (wanted : Bool) (register target : ℕ) → used_by (jump_on wanted 
 uses_none true register target = refl
 uses_none false register target = refl
 
-pub decided_leaves : (a b c : Draft) (operator : BinaryOperator) (wanted : Bool) (right : Operand) (to end first i n : ℕ) (f g : Environment → Out) → IsDecidedBy operator wanted → Leaves no_calls a b to (λ env. f env) (λ env. i) → end ≡ length b.labels → first ≡ b.next → Offers no_calls (with_left_tested b wanted to) c (right ∷ []) (λ env. g env ∷ []) (λ env. n) → to < a.next → a.next ≤ a.most → Leaves no_calls a (bound (released (with_op c (op.Binary operator (operand.Register to) right to)) first) end) to (λ env. binary_of (keys_of env.hosts) operator (f env) (g env)) (λ env. i + n + 3)
+pub decided_leaves : (a b c : Draft) (operator : BinaryOperator) (wanted : Bool) (right : Operand) (to end first i n : ℕ) (f g : Environment → Out) → IsDecidedBy operator wanted → Leaves no_calls a b to (λ env. truth_of (f env)) (λ env. i) → end ≡ length b.labels → first ≡ b.next → Offers no_calls (with_left_tested b wanted to) c (right ∷ []) (λ env. g env ∷ []) (λ env. n) → to < a.next → a.next ≤ a.most → Leaves no_calls a (bound (released (with_op c (op.Binary operator (operand.Register to) right to)) first) end) to (λ env. binary_of (keys_of env.hosts) operator (f env) (g env)) (λ env. i + n + 2)
 decided_leaves a b c operator wanted right to end first i n f g decided l end_is first_is x lt counted =
     let all : Environment → Out = λ env. binary_of (keys_of env.hosts) operator (f env) (g env) in
     leaves_of to all as_begun grown (first_is ∙ l.next) steady (λ h. refl) (λ m called.
     let done : Claim = λ h0 h. But a.next to h0 h × (read h.regs to ≡ all (environment_of m h0)) in
     let labels : Labels = with_claim end done no_labels in
-    let c1 : Claim = λ h0 h. But a.next to h0 h × (read h.regs to ≡ f (environment_of m h0)) in
     let c2 : Claim = λ h0 h. But a.next to h0 h × (read h.regs to ≡ truth_of (f (environment_of m h0))) in
     let c3 : Claim = λ h0 h. c2 h0 h × Reads m h c.next (right ∷ []) (g (environment_of m h0) ∷ []) in
-    let left : Triple m a b (λ w. i) labels no_last as_begun c1 = t_leaves m tt labels no_last as_begun c1 l (λ h0 h pre. ap (environment_of m) pre) (λ h0 h regs pre long is same.
-    (but_regs regs same (begun_but a.next to h0 h pre), is ∙ ap (λ (z : Here). f (environment_of m z)) pre)) in
-    let label = t_draft m labels no_last c1 (g_label b) refl in
-    let truth : Triple m d1 d2 (λ w. 1) labels no_last c1 c2 = t_put m d1 truth_op to (λ h. truth_of (read h.regs to)) labels no_last c1 c2 (omega (arith, l.grows.most)) (λ at s. refl) (λ h0 h regs pre long is same.
-    (but_regs regs (λ k below ne. same k ne) pre.0, is ∙ ap truth_of pre.1)) in
-    let tested : Triple m d2 d3 (λ w. 1) labels no_last c2 c2 = t_test m d2 test_op (length b.labels) (λ h. has_truth wanted (read h.regs to)) labels no_last c2 c2 (jumps_on m wanted to (length b.labels))
+    let left : Triple m a b (λ w. i) labels no_last as_begun c2 = t_leaves m tt labels no_last as_begun c2 l (λ h0 h pre. ap (environment_of m) pre) (λ h0 h regs pre long is same.
+    (but_regs regs same (begun_but a.next to h0 h pre), is ∙ ap (λ (z : Here). truth_of (f (environment_of m z))) pre)) in
+    let label = t_draft m labels no_last c2 (g_label b) refl in
+    let tested : Triple m d1 d3 (λ w. 1) labels no_last c2 c2 = t_test m d1 test_op (length b.labels) (λ h. has_truth wanted (read h.regs to)) labels no_last c2 c2 (jumps_on m wanted to (length b.labels))
     (λ h0 h pre is. inl (sym end_is, (pre.0, pre.1 ∙ (decided (keys_of m.hosts) (f (environment_of m h0)) (g (environment_of m h0))).1 (ap (has_truth wanted) (sym pre.1) ∙ is))))
     (λ h0 h pre is. pre) in
     let offered : Triple m d3 c (λ w. n) labels no_last c2 c3 = t_offers m labels no_last c2 c3 x (λ h0 h regs pre reads same.
@@ -117,12 +113,9 @@ decided_leaves a b c operator wanted right to end first i n f g decided l end_is
     let last : Triple m c d4 (λ w. 1) labels no_last c3 done = t_put m c last_op to (λ h. binary_of (keys_of m.hosts) operator (read h.regs to) (operand_in m h.regs h.inputs h.scene h.shared right)) labels no_last c3 done (omega (arith, l.next, x.next, x.counted)) (λ at s. refl) (λ h0 h regs pre long is same.
     (but_regs regs (λ k below ne. same k ne) pre.0.0, is ∙ ap (λ v. binary_of (keys_of m.hosts) operator v (operand_in m h.regs h.inputs h.scene h.shared right)) pre.0.1 ∙ ap (of_one (binary_of (keys_of m.hosts) operator (truth_of (f (environment_of m h0))))) (pre.1 h.regs (λ k below. refl)) ∙ (decided (keys_of m.hosts) (f (environment_of m h0)) (g (environment_of m h0))).0)) in
     let free = t_draft m labels no_last done (g_released d4 first) refl in
-    let whole = t_bind {g = no_labels} end done is_open (λ h0 h pre. pre) (t_seq (t_seq (t_seq (t_seq (t_seq (t_seq left label) truth) tested) offered) last) free) in
-    t_more (λ w. i + n + 3) (λ w. omega arith) whole)
+    let whole = t_bind {g = no_labels} end done is_open (λ h0 h pre. pre) (t_seq (t_seq (t_seq (t_seq (t_seq left label) tested) offered) last) free) in
+    t_more (λ w. i + n + 2) (λ w. omega arith) whole)
   where
-    truth_op : Op
-    truth_op = op.Unary unary.Truth (operand.Register to) to
-
     test_op : Op
     test_op = jump_on wanted to (length b.labels)
 
@@ -132,11 +125,8 @@ decided_leaves a b c operator wanted right to end first i n f g decided l end_is
     d1 : Draft
     d1 = with_label b
 
-    d2 : Draft
-    d2 = with_op d1 truth_op
-
     d3 : Draft
-    d3 = with_op d2 test_op
+    d3 = with_op d1 test_op
 
     d4 : Draft
     d4 = with_op c last_op
@@ -148,7 +138,7 @@ decided_leaves a b c operator wanted right to end first i n f g decided l end_is
     is_open = x.grows.open_labels end (subst (λ k. slice_get (with_label b).labels k ≡ Some None) (sym end_is) (open_new b))
 
     behind : Grows d1 d5
-    behind = grows_then (g_op d1 truth_op) (grows_then (g_op d2 test_op) (grows_then x.grows (grows_then (g_op c last_op) (g_released d4 first))))
+    behind = grows_then (g_op d1 test_op) (grows_then x.grows (grows_then (g_op c last_op) (g_released d4 first)))
 
     grown : Grows a (bound d5 end)
     grown = grows_then l.grows (g_bound d5 end (grows_then (g_label b) behind) (omega (arith, end_is)) is_open)
@@ -157,7 +147,7 @@ decided_leaves a b c operator wanted right to end first i n f g decided l end_is
     inside = end ∷ []
 
     steady : Steady [] [] a (bound d5 end)
-    steady = st_then l.grows l.steady (st_label end end_is behind (st_then (g_op d1 truth_op) (st_op [] inside d1 truth_op (refl, refl)) (st_then (g_op d2 test_op) (st_fork [] inside d2 test_op (length b.labels) (forks_on wanted to (length b.labels)) (uses_none wanted to (length b.labels)) (inl end_is)) (st_then x.grows (st_inner [] inside x.steady) (st_then (g_op c last_op) (st_op [] inside c last_op (refl, refl)) (st_released [] inside d4 first))))))
+    steady = st_then l.grows l.steady (st_label end end_is behind (st_then (g_op d1 test_op) (st_fork [] inside d1 test_op (length b.labels) (forks_on wanted to (length b.labels)) (uses_none wanted to (length b.labels)) (inl end_is)) (st_then x.grows (st_inner [] inside x.steady) (st_then (g_op c last_op) (st_op [] inside c last_op (refl, refl)) (st_released [] inside d4 first)))))
 
 -- ---- IN: none is equal so far, and one operand more that may be
 
@@ -205,12 +195,11 @@ or_equal_turns a b d sides other held first to i n f g first_is t l lt held_lt n
 
 -- ---- CASE: one arm
 
-pub arm_decides : (a t v : Draft) (held to next end i n : ℕ) (c : Environment → Out → Out) (g : Environment → Out) → next ≡ length t.labels → Turns a t held to (λ env x y. c env x) i → Leaves no_calls (with_arm_tested t to end) v to (λ env. g env) (λ env. n) → to < a.next → a.next ≤ a.most → Decides a (with_arm_left v end next) held to end (λ env x. decided_by (truth_in (truth_of (c env x))) (g env)) (i + n + 4)
+pub arm_decides : (a t v : Draft) (held to next end i n : ℕ) (c : Environment → Out → Out) (g : Environment → Out) → next ≡ length t.labels → Turns a t held to (λ env x y. truth_of (c env x)) i → Leaves no_calls (with_arm_tested t to end) v to (λ env. g env) (λ env. n) → to < a.next → a.next ≤ a.most → Decides a (with_arm_left v end next) held to end (λ env x. decided_by (truth_in (truth_of (c env x))) (g env)) (i + n + 3)
 arm_decides a t v held to next end i n c g next_is x l lt counted =
     let all : Environment → Out → Option Out = λ env y. decided_by (truth_in (truth_of (c env y))) (g env) in
     let d1 = with_label t in
-    let d2 = with_op d1 (op.Unary unary.Truth (operand.Register to) to) in
-    let d3 = with_op d2 (op.IsBad to end) in
+    let d3 = with_op d1 (op.IsBad to end) in
     let d4 = with_op d3 (op.IfNot to (length t.labels) true) in
     decides_of held to end all grown (l.next ∙ x.next) steady (λ m.
     let won : Claim = Won m a.next held to all in
@@ -218,16 +207,13 @@ arm_decides a t v held to next end i n c g next_is x l lt counted =
     let g1 : Labels = with_claim end won no_labels in
     let g2 : Labels = with_claim next done g1 in
     let cond_at : Here → Out = λ h0. c (environment_of m h0) (read h0.regs held) in
-    let c1 : Claim = Turned m a.next held to (λ env y z. c env y) in
     let c2 : Claim = λ h0 h. But a.next to h0 h × (read h.regs to ≡ truth_of (cond_at h0)) in
     let c3 : Claim = λ h0 h. But a.next to h0 h × (read h.regs to ≡ truth_of (cond_at h0)) × (is_bad (truth_of (cond_at h0)) ≡ false) in
     let c4 : Claim = λ h0 h. But a.next to h0 h × (all (environment_of m h0) (read h0.regs held) ≡ Some (g (environment_of m h0))) in
-    let first : Triple m a t (λ w. i) g2 no_last as_begun c1 = t_turns m g2 no_last as_begun c1 x (λ h0 h regs pre is same.
-    (but_regs regs same (begun_but a.next to h0 h pre), is ∙ ap (λ (z : Here). c (environment_of m z) (read z.regs held)) pre)) in
-    let label = t_draft m g2 no_last c1 (g_label t) refl in
-    let truth : Triple m d1 d2 (λ w. 1) g2 no_last c1 c2 = t_put m d1 (op.Unary unary.Truth (operand.Register to) to) to (λ h. truth_of (read h.regs to)) g2 no_last c1 c2 (omega (arith, x.grows.most)) (λ at s. refl) (λ h0 h regs pre long is same.
-    (but_regs regs (λ k below ne. same k ne) pre.0, is ∙ ap truth_of pre.1)) in
-    let bad : Triple m d2 d3 (λ w. 1) g2 no_last c2 c3 = t_test m d2 (op.IsBad to end) end (λ h. is_bad (read h.regs to)) g2 no_last c2 c3 (λ at s. refl)
+    let first : Triple m a t (λ w. i) g2 no_last as_begun c2 = t_turns m g2 no_last as_begun c2 x (λ h0 h regs pre is same.
+    (but_regs regs same (begun_but a.next to h0 h pre), is ∙ ap (λ (z : Here). truth_of (c (environment_of m z) (read z.regs held))) pre)) in
+    let label = t_draft m g2 no_last c2 (g_label t) refl in
+    let bad : Triple m d1 d3 (λ w. 1) g2 no_last c2 c3 = t_test m d1 (op.IsBad to end) end (λ h. is_bad (read h.regs to)) g2 no_last c2 c3 (λ at s. refl)
     (λ h0 h pre is. inr (inl (refl, (pre.0, decided_bad (truth_of (cond_at h0)) (g (environment_of m h0)) (ap is_bad (sym pre.1) ∙ is) ∙ ap Some (sym pre.1)))))
     (λ h0 h pre is. (pre.0, pre.1, ap is_bad (sym pre.1) ∙ is)) in
     let rejected : Triple m d3 d4 (λ w. 1) g2 no_last c3 c4 = t_test m d3 (op.IfNot to (length t.labels) true) (length t.labels) (λ h. is_rejected true (read h.regs to)) g2 no_last c3 c4 (λ at s. refl)
@@ -236,8 +222,8 @@ arm_decides a t v held to next end i n c g next_is x l lt counted =
     let value : Triple m d4 v (λ w. n) g2 no_last c4 won = t_leaves m tt g2 no_last c4 won l (λ h0 h pre. but_env m pre.0) (λ h0 h regs pre long is same.
     (but_regs regs (λ k below ne. same k (omega (arith, x.next)) ne) pre.0, pre.1 ∙ ap Some (sym (is ∙ ap g (but_env m pre.0))))) in
     let leave = t_goto m v end g2 no_last won (λ h0 h pre. inr (inl (refl, pre))) in
-    let whole = t_bind {g = g1} next done is_open (λ h0 h pre. absurd pre) (t_seq (t_seq (t_seq (t_seq (t_seq (t_seq first label) truth) bad) rejected) value) leave) in
-    t_more (λ w. i + n + 4) (λ w. omega arith) whole)
+    let whole = t_bind {g = g1} next done is_open (λ h0 h pre. absurd pre) (t_seq (t_seq (t_seq (t_seq (t_seq first label) bad) rejected) value) leave) in
+    t_more (λ w. i + n + 3) (λ w. omega arith) whole)
   where
     opened : slice_get (with_arm_tested t to end).labels next ≡ Some None
     opened = subst (λ k. slice_get (with_label t).labels k ≡ Some None) (sym next_is) (open_new t)
@@ -246,7 +232,7 @@ arm_decides a t v held to next end i n c g next_is x l lt counted =
     is_open = l.grows.open_labels next opened
 
     tested : Grows t (with_arm_tested t to end)
-    tested = grows_then (g_label t) (grows_then (g_op (with_label t) (op.Unary unary.Truth (operand.Register to) to)) (grows_then (g_op _ (op.IsBad to end)) (g_op _ (op.IfNot to (length t.labels) true))))
+    tested = grows_then (g_label t) (grows_then (g_op _ (op.IsBad to end)) (g_op _ (op.IfNot to (length t.labels) true)))
 
     inside : List ℕ
     inside = next ∷ end ∷ []
@@ -256,7 +242,7 @@ arm_decides a t v held to next end i n c g next_is x l lt counted =
     at_next = inl next_is
 
     steady : Steady [] (end ∷ []) a (with_arm_left v end next)
-    steady = st_then x.grows (st_inner [] (end ∷ []) x.steady) (st_made next next_is (place-bound (with_op v (op.Goto end)) next is_open) (st_then (g_op (with_label t) (op.Unary unary.Truth (operand.Register to) to)) (st_op [] inside (with_label t) (op.Unary unary.Truth (operand.Register to) to) (refl, refl)) (st_then (g_op _ (op.IsBad to end)) (st_fork [] inside _ (op.IsBad to end) end refl refl (inr (inl refl))) (st_then (g_op _ (op.IfNot to (length t.labels) true)) (st_fork [] inside _ (op.IfNot to (length t.labels) true) (length t.labels) refl refl at_next) (st_then l.grows (st_inner [] inside l.steady) (st_goto [] inside v end next (inr (inl refl)) (inl refl)))))))
+    steady = st_then x.grows (st_inner [] (end ∷ []) x.steady) (st_made next next_is (place-bound (with_op v (op.Goto end)) next is_open) (st_then (g_op _ (op.IsBad to end)) (st_fork [] inside _ (op.IsBad to end) end refl refl (inr (inl refl))) (st_then (g_op _ (op.IfNot to (length t.labels) true)) (st_fork [] inside _ (op.IfNot to (length t.labels) true) (length t.labels) refl refl at_next) (st_then l.grows (st_inner [] inside l.steady) (st_goto [] inside v end next (inr (inl refl)) (inl refl))))))
 
     grown : Grows a (with_arm_left v end next)
     grown = grows_then x.grows (g_bound (with_op v (op.Goto end)) next (grows_then tested (grows_then l.grows (g_op v (op.Goto end)))) (omega (arith, next_is)) is_open)

@@ -1,3 +1,4 @@
+pub mod Truths
 pub mod Deciding
 pub mod Forms
 pub mod Stretches

@@ -10,7 +10,6 @@ use Rattle.eng_value.specs.declared.compare_op.CompareOp.TheVariants as compare
 use Rattle.eng_value.specs.declared.operators.BinaryOperator.{BinaryOperator}
 use Rattle.eng_value.specs.declared.operators.BinaryOperator.TheVariants as binary
 use Rattle.eng_value.specs.declared.operators.Sides.{Sides}
-use Rattle.eng_value.specs.declared.operators.UnaryOperator.TheVariants as unary
 use Rattle.eng_value.specs.declared.out.Out.{Out}
 use Rattle.eng_value.specs.declared.out.Out.TheVariants.{Good, Bad}
 use Rattle.eng_value.specs.declared.truth.Truth.{Truth}
@@ -48,7 +47,7 @@ abbrev pub with_known_left : Draft → ℕ → ℕ → Draft
 with_known_left d to end = bound (with_op (with_op (with_label d) (op.IsNull to (length d.labels))) (op.Goto end)) (length d.labels)
 
 abbrev pub with_arm_tested : Draft → ℕ → ℕ → Draft
-with_arm_tested d to end = with_op (with_op (with_op (with_label d) (op.Unary unary.Truth (operand.Register to) to)) (op.IsBad to end)) (op.IfNot to (length d.labels) true)
+with_arm_tested d to end = with_op (with_op (with_label d) (op.IsBad to end)) (op.IfNot to (length d.labels) true)
 
 abbrev pub with_arm_left : Draft → ℕ → ℕ → Draft
 with_arm_left d end next = bound (with_op d (op.Goto end)) next
@@ -71,7 +70,7 @@ jump_on true register target = op.If register target false
 jump_on false register target = op.IfNot register target false
 
 abbrev pub with_left_tested : Draft → Bool → ℕ → Draft
-with_left_tested d wanted to = with_op (with_op (with_label d) (op.Unary unary.Truth (operand.Register to) to)) (jump_on wanted to (length d.labels))
+with_left_tested d wanted to = with_op (with_label d) (jump_on wanted to (length d.labels))
 
 -- ---- code that leaves a value by what registers hold
 

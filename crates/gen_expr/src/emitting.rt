@@ -2,17 +2,19 @@
 ghost use Rattle.std.specs.Prelude.{◌≡◌, ◌+◌, ◌<◌, ◌≤◌, [], ◌∷◌, OnOk, IfOk, map, sum_by};
 ghost use Rattle.eng_value.specs.Applied.{binary_of, member_of};
 ghost use Rattle.eng_value.specs.Collations.{keys_of};
+ghost use Rattle.eng_value.specs.Truths.{truth_of};
 ghost use Rattle.gen_expr.specs.Parts.{IsDecidedBy};
 ghost use Rattle.gen_expr.specs.Steps.{arm_steps_of, match_steps_of, steps_of, test_steps};
 ghost use Rattle.sql_meaning.specs.Expression.{arm_of, chosen_in, first_known, in_all, match_of, matched_in, value_of};
 ghost use Rattle.vm_code.specs.Frames.{Leaves, Offers, no_calls};
 
+use crate::giving::gives_truth;
 use crate::literals::{constant, emit_literal};
 use crate::parts::{
     Operands, begin_member, between, binary, call, deciding, leave_arm, like_escaped, or_equal,
     read_column, read_parameter, test_arm, test_left, unary, unless_null,
 };
-use eng_value::{BinaryOperator, CompareOp, Sides};
+use eng_value::{BinaryOperator, CompareOp, Sides, UnaryOperator};
 use sql_meaning::{BoundArm, BoundExpr, BoundMatch};
 use sqlite_items::Items;
 use std::alloc::{AllocError, Global};
@@ -66,6 +68,27 @@ pub fn emit(alloc: Global, b: &mut Builder, e: &BoundExpr, to: u32) -> Result<()
     Ok(())
 }
 
+/// Writes code that leaves the truth of an expression in the register `to`, as `emit` leaves its value. What gives truths already needs
+/// no instruction more.
+#[cycle(emitting)]
+pub fn emit_truth(alloc: Global, b: &mut Builder, e: &BoundExpr, to: u32) -> Result<(), AllocError>
+    requires taken { to < b.old.next }
+    requires counted { b.old.next ≤ b.old.most }
+    ensures leaves { OnOk result (Leaves no_calls b.old b.new to (λ env. truth_of (value_of e.now env)) (λ _. steps_of e.now + 1)) }
+    ensures units { OnOk result (b.new.units ≡ b.old.units) }
+    ensures cursors { OnOk result (b.new.cursors ≡ b.old.cursors) }
+{
+    emit(alloc, b, e, to)?;
+    if gives_truth(e) {
+        return Ok(());
+    }
+    b.op(Op::Unary {
+        operator: UnaryOperator::Truth,
+        operand: Operand::Register(to),
+        to,
+    })
+}
+
 // What an operator makes of two expressions.
 #[cycle(emitting)]
 fn emit_binary(
@@ -109,7 +132,7 @@ fn emit_decided(
     ensures units { OnOk result (b.new.units ≡ b.old.units) }
     ensures cursors { OnOk result (b.new.cursors ≡ b.old.cursors) }
 {
-    emit(alloc, b, left, to)?;
+    emit_truth(alloc, b, left, to)?;
     let end = test_left(b, wanted, to)?;
     let first = b.next_register();
     let right = operand(alloc, b, right)?;
@@ -253,7 +276,7 @@ fn emit_choice(
 {
     let end = b.label()?;
     for arm in arms {
-        emit(alloc, b, &arm.condition, to)?;
+        emit_truth(alloc, b, &arm.condition, to)?;
         let next = test_arm(b, to, end)?;
         emit(alloc, b, &arm.value, to)?;
         leave_arm(b, end, next)?;

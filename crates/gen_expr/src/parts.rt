@@ -123,16 +123,11 @@ fn is_leaf(e: &BoundExpr) -> bool
     }
 }
 
-/// Makes the value in the register `to` its truth, and goes to a label that it gives where that is the one that is wanted.
+/// Goes to a label that it gives where the truth in the register `to` is the one that is wanted.
 pub(crate) fn test_left(b: &mut Builder, wanted: bool, to: u32) -> Result<usize, AllocError>
     ensures { IfOk result (λ end. (end ≡ length b.old.labels) × (b.new ≡ with_left_tested b.old wanted to)) }
 {
     let end = b.label()?;
-    b.op(Op::Unary {
-        operator: UnaryOperator::Truth,
-        operand: Operand::Register(to),
-        to,
-    })?;
     b.op(jump_on(wanted, to, end))?;
     Ok(end)
 }
@@ -283,17 +278,12 @@ pub(crate) fn unless_null(b: &mut Builder, to: u32, end: usize) -> Result<(), Al
     b.bind(next)
 }
 
-/// Tests the condition of an arm: goes on where it is true, to the label `end` with the causes where it is bad, and else to a
+/// Tests the truth of an arm's condition: goes on where it is true, to the label `end` with the causes where it is bad, and else to a
 /// label that it gives.
 pub(crate) fn test_arm(b: &mut Builder, to: u32, end: usize) -> Result<usize, AllocError>
     ensures { IfOk result (λ next. (next ≡ length b.old.labels) × (b.new ≡ with_arm_tested b.old to end)) }
 {
     let next = b.label()?;
-    b.op(Op::Unary {
-        operator: UnaryOperator::Truth,
-        operand: Operand::Register(to),
-        to,
-    })?;
     b.op(Op::IsBad {
         register: to,
         target: end,

@@ -1,4 +1,3 @@
-mod Truths
 mod Conjuncts
 mod Gathering
 mod Listing

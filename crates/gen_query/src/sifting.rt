@@ -1,21 +1,16 @@
 // The conjuncts of a WHERE.
 ghost use Rattle.std.specs.Prelude.{◌≡◌, ◌+◌, ◌<◌, ◌≤◌, true, OnOk};
-ghost use Rattle.eng_value.specs.Applied.{binary_of, unary_of};
-ghost use Rattle.eng_value.specs.Collations.{Keys};
 ghost use Rattle.eng_value.specs.Environments.{no_causes};
 ghost use Rattle.eng_value.specs.Truths.{truth_in, truth_of};
-ghost use Rattle.eng_value.specs.declared.out.Out.{Out};
 ghost use Rattle.gen_expr.specs.Steps.{steps_of};
 ghost use Rattle.gen_query.specs.Queries.{conjuncts_steps};
-ghost use Rattle.gen_query.specs.Truths.{GivesTruth, IsTruth};
 ghost use Rattle.sql_meaning.specs.Expression.{value_of};
 ghost use Rattle.sql_meaning.specs.Statement.{after_conjunct, sifted};
 ghost use Rattle.vm_code.specs.Draft.{given_back, with_op};
 ghost use Rattle.vm_code.specs.Frames.{Leaves, Sifts, no_calls};
 ghost use Rattle.vm_code.specs.declared.op.Op.TheVariants as op;
 
-use eng_value::{BinaryOperator, UnaryOperator};
-use gen_expr::emit;
+use gen_expr::emit_truth;
 use sql_meaning::BoundExpr;
 use std::alloc::{AllocError, Global};
 use vm_code::{Builder, Op, Operand};
@@ -107,67 +102,4 @@ fn add_causes(b: &mut Builder, truth: u32, causes: u32) -> Result<(), AllocError
     })?;
     b.give_back();
     Ok(())
-}
-
-/// Writes code that leaves the truth of an expression in the register `to`. What gives truths already needs no instruction more.
-fn emit_truth(alloc: Global, b: &mut Builder, e: &BoundExpr, to: u32) -> Result<(), AllocError>
-    requires taken { to < b.old.next }
-    requires counted { b.old.next ≤ b.old.most }
-    ensures leaves { OnOk result (Leaves no_calls b.old b.new to (λ env. truth_of (value_of e.now env)) (λ _. steps_of e.now + 1)) }
-    ensures cursors { OnOk result (b.new.cursors ≡ b.old.cursors) }
-{
-    emit(alloc, b, e, to)?;
-    if gives_truth(e) {
-        return Ok(());
-    }
-    b.op(Op::Unary {
-        operator: UnaryOperator::Truth,
-        operand: Operand::Register(to),
-        to,
-    })?;
-    Ok(())
-}
-
-/// Whether an expression is known by its form to give truths.
-#[tactic(auto, using(crate::proofs::Truths::and_truth, crate::proofs::Truths::like_escaped_truth, crate::proofs::Truths::member_truth))]
-fn gives_truth(e: &BoundExpr) -> bool
-    ensures { result ≡ true → GivesTruth e.now }
-{
-    match e {
-        BoundExpr::Unary(operator, _) => unary_gives_truth(*operator),
-        BoundExpr::Binary(operator, _, _) => binary_gives_truth(*operator),
-        BoundExpr::LikeEscaped(_, _, _) => true,
-        BoundExpr::Between(_, _, _, _, _) => true,
-        BoundExpr::In(_, _, _) => true,
-        _ => false,
-    }
-}
-
-#[tactic(auto, using(crate::proofs::Truths::truth_truth, crate::proofs::Truths::not_truth, crate::proofs::Truths::is_null_truth, crate::proofs::Truths::not_null_truth, crate::proofs::Truths::is_truth_truth))]
-fn unary_gives_truth(operator: UnaryOperator) -> bool
-    ensures { result ≡ true → (a : Out) → IsTruth (unary_of operator a) }
-{
-    match operator {
-        UnaryOperator::Truth => true,
-        UnaryOperator::Not => true,
-        UnaryOperator::IsNull => true,
-        UnaryOperator::NotNull => true,
-        UnaryOperator::IsTruth(_) => true,
-        _ => false,
-    }
-}
-
-#[tactic(auto, using(crate::proofs::Truths::and_truth, crate::proofs::Truths::or_truth, crate::proofs::Truths::comparison_truth, crate::proofs::Truths::is_truth, crate::proofs::Truths::like_truth, crate::proofs::Truths::glob_truth))]
-fn binary_gives_truth(operator: BinaryOperator) -> bool
-    ensures { result ≡ true → (keys : Keys) (a b : Out) → IsTruth (binary_of keys operator a b) }
-{
-    match operator {
-        BinaryOperator::And => true,
-        BinaryOperator::Or => true,
-        BinaryOperator::Compare(_, _) => true,
-        BinaryOperator::Is(_) => true,
-        BinaryOperator::Like => true,
-        BinaryOperator::Glob => true,
-        _ => false,
-    }
 }

@@ -1,7 +1,14 @@
-use Rattle.std.proofs.Common.{◌≡◌, ◌∙◌, length, refl, ap, arith}
+use Rattle.std.proofs.Common.{◌≡◌, ◌∙◌, ◌+◌, length, refl, sym, ap, arith}
 use Rattle.std.specs.Prelude.{slice_get}
 use Rattle.std.proofs.lemmas.Result.{on_ok_weaker}
+use Rattle.eng_value.specs.Truths.{truth_of}
+use Rattle.eng_value.specs.declared.operators.UnaryOperator.TheVariants as unary
+use Rattle.gen_expr.specs.Steps.{steps_of}
+use Rattle.sql_meaning.specs.Expression.{value_of}
+use Rattle.vm_code.specs.Frames.{no_calls}
 use Rattle.vm_code.specs.declared.op.Op.TheVariants as op
+use Rattle.vm_code.specs.declared.operand.Operand.TheVariants as operand
+use Rattle.vm_code.proofs.Values.{leaves_one, leaves_same}
 use Rattle.vm_code.specs.Draft.{Draft, bound, released, with_op}
 use Rattle.gen_expr.proofs.Expressions.{of_literal, of_column, of_parameter, literal_offered, column_offered, parameter_offered, register_offered, of_unary, of_binary, both_joined, decided_joined, decided_within, three_offered, of_like_escaped, of_between, none_offered, all_more, of_call, member_more, of_in, known_more, of_coalesce, choice_more, of_choose, match_more, of_match}
 use Rattle.gen_expr.proofs.Assembly.{beside_of, beside_on, turns_at, decides_at, emits_from, all_offered, label_open, tested_open, arm_parts, arm_steps, match_parts, match_steps, member_all, known_all, choice_all, match_all}
@@ -62,6 +69,17 @@ emit-returns-in_ok-call-in-Call-clause-leaves t c =
     rw (c.in-Call.is, ← c.as_slice-in-Call.ensures, c.in_ok-call-in-Call.ensures)
     (of_call c.args.b.now c.all_operands.new.b c.in-Call.function c.in-Call.collation c.in_ok-args-in-Call.args c.next_register-first.result c.args.to _ c.next_register-first.ensures c.in_ok-args-in-Call.ensures.offers c.requires.taken)
 
+-- ---- truths
+
+pub emit_truth-returns-then-gives_truth-clause-leaves : goal.emit_truth-returns-then-gives_truth-clause-leaves
+emit_truth-returns-then-gives_truth-clause-leaves t c =
+    leaves_same (λ env. truth_of (value_of c.args.e.now env)) (λ env. steps_of c.args.e.now + 1) (λ env. sym (c.if-gives_truth.ensures refl env)) (λ env. omega arith) c.in_ok-emit.ensures.leaves
+
+pub emit_truth-returns-clause-leaves : goal.emit_truth-returns-clause-leaves
+emit_truth-returns-clause-leaves t c =
+    let leaves = c.in_ok-emit.ensures.leaves in
+    on_ok_weaker {P = c.op.new.self ≡ with_op c.emit.new.b (op.Unary unary.Truth (operand.Register c.args.to) c.args.to)} c.op.result (λ is. rw is (leaves_one no_calls c.args.b.now c.emit.new.b (op.Unary unary.Truth (operand.Register c.args.to) c.args.to) c.args.to (λ env. value_of c.args.e.now env) truth_of (λ env. steps_of c.args.e.now) (refl, refl) leaves c.requires.taken c.requires.counted (λ m at s. refl))) c.op.ensures
+
 -- ---- operators on two expressions
 
 pub emit_binary-returns-in-Some-clause-leaves : goal.emit_binary-returns-in-Some-clause-leaves
@@ -74,7 +92,7 @@ emit_binary-returns-clause-leaves t c =
 
 pub emit_decided-returns-clause-leaves : goal.emit_decided-returns-clause-leaves
 emit_decided-returns-clause-leaves t c =
-    on_ok_weaker {P = c.bind.new.self ≡ bound c.binary.new.b c.in_ok-end.end} c.bind.result (λ is. decided_joined c.args.b.now c.emit.new.b c.test_left.new.b c.operand.new.b c.binary.new.b c.bind.new.self c.args.operator c.args.wanted c.in_ok-right.right c.args.to c.in_ok-end.end c.next_register-first.result c.args.left.now c.args.right.now c.requires.decided c.in_ok-emit.ensures.leaves c.in_ok-end.ensures.0 c.in_ok-end.ensures.1 c.next_register-first.ensures c.in_ok-right.ensures.offers c.in_ok-binary.ensures is c.requires.taken c.requires.counted) c.bind.ensures
+    on_ok_weaker {P = c.bind.new.self ≡ bound c.binary.new.b c.in_ok-end.end} c.bind.result (λ is. decided_joined c.args.b.now c.emit_truth.new.b c.test_left.new.b c.operand.new.b c.binary.new.b c.bind.new.self c.args.operator c.args.wanted c.in_ok-right.right c.args.to c.in_ok-end.end c.next_register-first.result c.args.left.now c.args.right.now c.requires.decided c.in_ok-emit_truth.ensures.leaves c.in_ok-end.ensures.0 c.in_ok-end.ensures.1 c.next_register-first.ensures c.in_ok-right.ensures.offers c.in_ok-binary.ensures is c.requires.taken c.requires.counted) c.bind.ensures
 
 -- ---- operands
 
@@ -170,11 +188,11 @@ emit_known-returns-clause-leaves t c =
 
 pub emit_choice-leave_arm-requires : goal.emit_choice-leave_arm-requires
 emit_choice-leave_arm-requires t c =
-    c.in_ok-emit-2.ensures.leaves.grows.open_labels c.in_ok-next.next (tested_open c.emit.new.b c.test_arm.new.b c.args.to c.in_ok-end.end c.in_ok-next.next c.in_ok-next.ensures.0 c.in_ok-next.ensures.1)
+    c.in_ok-emit.ensures.leaves.grows.open_labels c.in_ok-next.next (tested_open c.emit_truth.new.b c.test_arm.new.b c.args.to c.in_ok-end.end c.in_ok-next.next c.in_ok-next.ensures.0 c.in_ok-next.ensures.1)
 
 pub emit_choice-bind-requires : goal.emit_choice-bind-requires
 emit_choice-bind-requires t c =
-    c.in_ok-emit-3.ensures.leaves.grows.open_labels c.in_ok-end.end (c.loop-arm.invariant.decides.grows.open_labels c.in_ok-end.end (label_open c.args.b.now c.label.new.self c.in_ok-end.end c.in_ok-end.ensures.0 c.in_ok-end.ensures.1))
+    c.in_ok-emit-2.ensures.leaves.grows.open_labels c.in_ok-end.end (c.loop-arm.invariant.decides.grows.open_labels c.in_ok-end.end (label_open c.args.b.now c.label.new.self c.in_ok-end.end c.in_ok-end.ensures.0 c.in_ok-end.ensures.1))
 
 pub emit_choice-loop-arm-init : goal.emit_choice-loop-arm-init
 emit_choice-loop-arm-init t c =
@@ -185,19 +203,19 @@ emit_choice-loop-arm-preserved t c =
     let arm = c.arm-item.result in
     let next = ap (λ (d : Draft). d.next) c.in_ok-end.ensures.1 in
     let most = ap (λ (d : Draft). d.most) c.in_ok-end.ensures.1 in
-    let value = emits_from (out-BoundArm arm).value _ c.in_ok-next.ensures.1 c.in_ok-emit-2.ensures.leaves in
-    let more = decides_at c.leave_arm.new.b c.in_ok-leave_arm.ensures (choice_more c.label.new.self c.loop-arm.b c.emit.new.b c.emit-in-loop-arm.new.b c.args.to c.in_ok-next.next c.in_ok-end.end c.loop-arm.arm-index c.args.arms.now arm (out-BoundArm arm).condition (out-BoundArm arm).value c.loop-arm-test.true c.arm-item.is (arm_parts arm) (arm_steps arm) c.loop-arm.invariant.decides c.in_ok-emit.ensures.leaves c.in_ok-next.ensures.0 value (omega (arith, next, c.loop-arm.invariant.next)) (omega (arith, next, most, c.loop-arm.invariant.next, c.loop-arm.invariant.most))) in
+    let value = emits_from (out-BoundArm arm).value _ c.in_ok-next.ensures.1 c.in_ok-emit.ensures.leaves in
+    let more = decides_at c.leave_arm.new.b c.in_ok-leave_arm.ensures (choice_more c.label.new.self c.loop-arm.b c.emit_truth.new.b c.emit.new.b c.args.to c.in_ok-next.next c.in_ok-end.end c.loop-arm.arm-index c.args.arms.now arm (out-BoundArm arm).condition (out-BoundArm arm).value c.loop-arm-test.true c.arm-item.is (arm_parts arm) (arm_steps arm) c.loop-arm.invariant.decides c.in_ok-emit_truth.ensures.leaves c.in_ok-next.ensures.0 value (omega (arith, next, c.loop-arm.invariant.next)) (omega (arith, next, most, c.loop-arm.invariant.next, c.loop-arm.invariant.most))) in
     record {
       decides = more;
       next = more.next;
       most = more.grows.most;
-      units = ap (λ (d : Draft). d.units) c.in_ok-leave_arm.ensures ∙ c.in_ok-emit-2.ensures.units ∙ ap (λ (d : Draft). d.units) c.in_ok-next.ensures.1 ∙ c.in_ok-emit.ensures.units ∙ c.loop-arm.invariant.units;
-      cursors = ap (λ (d : Draft). d.cursors) c.in_ok-leave_arm.ensures ∙ c.in_ok-emit-2.ensures.cursors ∙ ap (λ (d : Draft). d.cursors) c.in_ok-next.ensures.1 ∙ c.in_ok-emit.ensures.cursors ∙ c.loop-arm.invariant.cursors;
+      units = ap (λ (d : Draft). d.units) c.in_ok-leave_arm.ensures ∙ c.in_ok-emit.ensures.units ∙ ap (λ (d : Draft). d.units) c.in_ok-next.ensures.1 ∙ c.in_ok-emit_truth.ensures.units ∙ c.loop-arm.invariant.units;
+      cursors = ap (λ (d : Draft). d.cursors) c.in_ok-leave_arm.ensures ∙ c.in_ok-emit.ensures.cursors ∙ ap (λ (d : Draft). d.cursors) c.in_ok-next.ensures.1 ∙ c.in_ok-emit_truth.ensures.cursors ∙ c.loop-arm.invariant.cursors;
     }
 
 pub emit_choice-returns-clause-leaves : goal.emit_choice-returns-clause-leaves
 emit_choice-returns-clause-leaves t c =
-    choice_all c.args.b.now c.label.new.self c.loop-arm.b c.emit-2.new.b c.bind.new.self c.args.to c.in_ok-end.end c.loop-arm.arm-index c.args.arms.now c.args.otherwise.now c.in_ok-end.ensures.0 c.in_ok-end.ensures.1 c.loop-arm-test.false c.loop-arm.invariant.decides c.in_ok-emit-3.ensures.leaves c.in_ok-bind.ensures
+    choice_all c.args.b.now c.label.new.self c.loop-arm.b c.emit-2.new.b c.bind.new.self c.args.to c.in_ok-end.end c.loop-arm.arm-index c.args.arms.now c.args.otherwise.now c.in_ok-end.ensures.0 c.in_ok-end.ensures.1 c.loop-arm-test.false c.loop-arm.invariant.decides c.in_ok-emit-2.ensures.leaves c.in_ok-bind.ensures
 
 -- ---- CASE with an operand
 

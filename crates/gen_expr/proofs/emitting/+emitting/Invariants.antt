@@ -54,9 +54,12 @@ invariant-emit_match-loop-arm l = record {
   cursors : l.b.cursors ≡ l.initial.b.cursors;
 }
 
--- what is emitted gets smaller: four times the depth, one more for an operand, two more where a function goes over parts of an expression, and three more where that is handed on
+-- what is emitted gets smaller: four times the depth, one more for an operand and a truth, two more where a function goes over parts of an expression, and three more where that is handed on
 abbrev pub decreases-emit : goal.decreases-emit
 decreases-emit l = 4 * goal.size-emit l
+
+abbrev pub decreases-emit_truth : goal.decreases-emit_truth
+decreases-emit_truth l = 4 * goal.size-emit_truth l + 1
 
 abbrev pub decreases-emit_binary : goal.decreases-emit_binary
 decreases-emit_binary l = 4 * max (the_size l.left.now) (the_size l.right.now) + 3

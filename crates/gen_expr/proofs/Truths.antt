@@ -17,7 +17,7 @@ use Rattle.eng_value.specs.declared.truth.Truth.{Truth}
 use Rattle.eng_value.specs.declared.truth.Truth.TheVariants.{True, False, Unknown, Failed}
 use Rattle.eng_value.specs.declared.value.Value.{Value}
 use Rattle.eng_value.specs.declared.value.Value.TheVariants.{Null, Integer, Text, Blob}
-use Rattle.gen_query.specs.Truths.{GivesTruth, IsTruth}
+use Rattle.gen_expr.specs.Truths.{GivesTruth, IsTruth}
 use Rattle.sql_meaning.specs.Clauses.{value_of-Between, value_of-In, value_of-LikeEscaped}
 use Rattle.sql_meaning.specs.Expression.{in_all, value_of}
 use Rattle.sql_meaning.specs.declared.bound.BoundExpr.{BoundExpr}

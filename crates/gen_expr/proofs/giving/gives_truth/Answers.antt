@@ -1,5 +1,5 @@
-use Rattle.gen_query.proofs.Truths.{between_gives, in_gives, like_escaped_gives}
-use Rattle.gen_query.proofs.sifting.gives_truth.Goals as goal
+use Rattle.gen_expr.proofs.Truths.{between_gives, in_gives, like_escaped_gives}
+use Rattle.gen_expr.proofs.giving.gives_truth.Goals as goal
 
 pub returns-in-LikeEscaped : goal.returns-in-LikeEscaped
 returns-in-LikeEscaped c e = rw c.in-LikeEscaped.is (like_escaped_gives c.in-LikeEscaped.field-0 c.in-LikeEscaped.field-1 c.in-LikeEscaped.field-2)
