@@ -7,6 +7,7 @@ pub mod CarryingOut
 pub mod Writing
 pub mod Puts
 pub mod Bridges
+pub mod Leaving
 pub mod Texts
 pub mod Schemas
 pub mod Bodies

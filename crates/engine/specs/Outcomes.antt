@@ -1,19 +1,19 @@
 -- What statements come to that are ready to run, and in how many instructions at most.
-use Rattle.std.specs.Prelude.{ℕ, List, [], ℤ, slice_set}
+use Rattle.std.specs.Prelude.{⊤, ℕ, List, [], ℤ, slice_set}
 use Rattle.eng_entry.specs.Entries.{Entries, without_name}
 use Rattle.eng_entry.specs.declared.entry.Space.TheVariants as space
 use Rattle.eng_value.specs.Environments.{Surroundings}
 use Rattle.eng_value.specs.HostMeanings.{HostMeanings, nobody}
 use Rattle.eng_value.specs.declared.value.Value.{Value}
-use Rattle.gen_query.specs.Queries.{items_in, query_steps, values_steps}
-use Rattle.gen_write.specs.Writes.{create_steps, drop_steps, nothing_steps, put_run, put_steps}
+use Rattle.gen_query.specs.Queries.{items_in, query_run, query_steps, values_run, values_steps}
+use Rattle.gen_write.specs.Writes.{create_run, create_steps, drop_run, drop_steps, nothing_run, nothing_steps, put_run, put_steps}
 use Rattle.sql_meaning.specs.declared.bound.BoundExpr.{BoundExpr}
 use Rattle.sql_meaning.specs.declared.bound.BoundInsert.{BoundInsert}
 use Rattle.sql_meaning.specs.declared.bound.BoundSelect.{BoundSelect}
 use Rattle.sql_meaning.specs.Statement.{Outcome, create_outcome, done, nothing, query_outcome, refused, shown_rows}
-use Rattle.sql_meaning.specs.World.{context}
+use Rattle.sql_meaning.specs.World.{State, context}
 use Rattle.bind_stmt.specs.declared.dropping.DroppedTable.{DroppedTable}
-use Rattle.vm_code.specs.Machine.{World as Lists, Shared, Ending, Finished, Failed, world_of}
+use Rattle.vm_code.specs.Machine.{World as Lists, Run, Shared, Ending, Finished, Failed, world_of}
 use Rattle.engine.specs.declared.preparing.Ready.{Ready}
 use Rattle.engine.specs.declared.preparing.Ready.TheVariants as ready
 use Rattle.engine.specs.Held.{state_of}
@@ -62,3 +62,31 @@ steps_in x (ready.Insert b) = put_steps b x
 steps_in x (ready.Select q) = query_steps q x
 steps_in x (ready.Values rows) = values_steps rows x
 steps_in x ready.Nothing = nothing_steps x
+
+-- ---- the run of a statement's program, and what is left behind it
+
+abbrev pub run_in : Ready → Surroundings → ℤ → Run
+run_in (ready.Create n) x last = create_run x last
+run_in (ready.Drop d) x last = drop_run d.table x last
+run_in (ready.Insert b) x last = put_run b x last
+run_in (ready.Select q) x last = query_run q x last
+run_in (ready.Values rows) x last = values_run rows x last
+run_in ready.Nothing x last = nothing_run x last
+
+-- any but one that creates
+abbrev pub IsOther : Ready → Type 0
+IsOther (ready.Create n) = ⊥
+IsOther r = ⊤
+
+-- where a run that came to its end changed so many rows and put the last one under this rowid
+abbrev pub state_after : Ready → Entries → Lists → ℕ → ℤ → ℕ → ℤ → State
+state_after (ready.Create n) entries lists changes last changed rowid = state_of entries lists changes last
+state_after (ready.Drop d) entries lists changes last changed rowid = state_of (without_name space.Names d.name entries) lists changes last
+state_after (ready.Insert b) entries lists changes last changed rowid = state_of entries lists changed rowid
+state_after (ready.Select q) entries lists changes last changed rowid = state_of entries lists changes last
+state_after (ready.Values rows) entries lists changes last changed rowid = state_of entries lists changes last
+state_after ready.Nothing entries lists changes last changed rowid = state_of entries lists changes last
+
+abbrev pub changed_by : Ready → ℕ → ℕ
+changed_by (ready.Insert b) changed = changed
+changed_by r changed = 0

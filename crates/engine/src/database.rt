@@ -1,17 +1,16 @@
 // What a connection holds, and how a statement changes it.
-ghost use Rattle.std.specs.Prelude.{◌≡◌, ◌≤◌, ◌+◌, ◌-◌, [], length, pos, OnErr};
+ghost use Rattle.std.specs.Prelude.{◌≡◌, ◌≤◌, ◌+◌, ◌-◌, [], length, pos, IfOk, OnErr};
 ghost use Rattle.engine.specs.Causes.{WhereTold};
 ghost use Rattle.engine.specs.Connected.{CarriesOut};
 ghost use Rattle.eng_entry.specs.Entries.{no_entries};
 ghost use Rattle.engine.specs.Held.{state_of, world_in};
-ghost use Rattle.sql_meaning.specs.Statement.{create_outcome, nothing};
+ghost use Rattle.sql_meaning.specs.Statement.{create_outcome};
 ghost use Rattle.sql_meaning.specs.Valid.{IsWorld};
-ghost use Rattle.engine.specs.Outcomes.{drop_outcome_in, outcome_in, put_outcome_in, query_outcome_in, steps_in, surroundings_in, values_outcome_in};
+ghost use Rattle.engine.specs.Outcomes.{IsOther, changed_by, outcome_in, run_in, state_after, steps_in, surroundings_in};
 ghost use Rattle.engine.specs.Prepared.{IsNew, MayRun};
-ghost use Rattle.gen_query.specs.Queries.{query_steps, values_steps};
-ghost use Rattle.gen_write.specs.Writes.{create_steps, drop_steps, nothing_steps, put_steps};
+ghost use Rattle.gen_write.specs.Writes.{create_steps};
 ghost use Rattle.host_traits.specs.Faults.{Rose};
-ghost use Rattle.vm_code.specs.Machine.{IsSound};
+ghost use Rattle.vm_code.specs.Machine.{IsSound, Performs};
 ghost use Rattle.vm_core.specs.Meant.{meant};
 
 use crate::answers::Done;
@@ -20,14 +19,12 @@ use crate::preparing::{NewEntry, Ready, prepare};
 use crate::row_sink::RowSink;
 use crate::running::Completed;
 use crate::schema::Schema;
-use bind_stmt::DroppedTable;
 use eng_value::{Cause, Meanings, Steps, Value};
 use gen_write::{compile_create, compile_drop, compile_insert, compile_nothing};
-use sql_meaning::{BoundExpr, BoundInsert, BoundSelect};
-use sqlite_items::Items;
-use std::alloc::Global;
+use std::alloc::{AllocError, Global};
 use std::marker::Brand;
 use std::sync::ledger::Ledger;
+use vm_code::Program;
 use vm_core::Hosts;
 use vm_tables::Tables;
 
@@ -56,15 +53,27 @@ impl Database {
         }
     }
 
-    /// Keeps how many rows a write changed, and the rowid of the last row that was put.
-    fn keep(&mut self, completed: &Completed)
-        ensures schema { self.new.schema ≡ self.old.schema }
-        ensures tables { self.new.tables ≡ self.old.tables }
-        ensures changes { self.new.changes ≡ completed.now.changed }
-        ensures last_rowid { self.new.last_rowid ≡ completed.now.last_rowid }
+    /// Keeps what a statement leaves whose program ran to its end: a table that is dropped loses its entry, and an INSERT tells how many
+    /// rows it put and under which rowid the last one.
+    fn finish(&mut self, ready: &Ready, completed: &Completed) -> Done
+        ensures state { state_of self.new.schema self.new.tables.world self.new.changes self.new.last_rowid
+            ≡ state_after ready.now self.old.schema self.old.tables.world self.old.changes self.old.last_rowid completed.now.changed completed.now.last_rowid }
+        ensures marks { self.new.tables.marks ≡ self.old.tables.marks }
+        ensures given { result.given ≡ completed.now.given }
+        ensures changed { result.changed ≡ changed_by ready.now completed.now.changed }
     {
-        self.changes = completed.changed;
-        self.last_rowid = completed.last_rowid;
+        match ready {
+            Ready::Drop(dropped) => {
+                self.schema.remove(dropped.name.as_str());
+                done(completed, 0)
+            }
+            Ready::Insert(_) => {
+                self.changes = completed.changed;
+                self.last_rowid = completed.last_rowid;
+                done(completed, completed.changed)
+            }
+            _ => done(completed, 0),
+        }
     }
 }
 
@@ -138,28 +147,9 @@ fn run_ready<M: Meanings, R: RowSink, L: Ledger>(
         Ready::Create(new) => {
             run_create::<M, R, L>(alloc, database, hosts, budget, new, rows, steps)
         }
-        Ready::Drop(dropped) => {
-            run_drop::<M, R, L>(alloc, database, hosts, budget, &dropped, rows, steps)
+        other => {
+            run_other::<M, R, L>(alloc, database, hosts, budget, &other, params, rows, steps)
         }
-        Ready::Insert(insert) => {
-            run_insert::<M, R, L>(alloc, database, hosts, budget, &insert, params, rows, steps)
-        }
-        Ready::Select(select) => {
-            run_select::<M, R, L>(alloc, database, hosts, budget, &select, params, rows, steps)
-        }
-        Ready::Values(values) => {
-            run_values::<M, R, L>(
-                alloc,
-                database,
-                hosts,
-                budget,
-                values.as_slice(),
-                params,
-                rows,
-                steps,
-            )
-        }
-        Ready::Nothing => run_nothing::<M, R, L>(alloc, database, hosts, budget, rows, steps),
     }
 }
 
@@ -218,74 +208,26 @@ fn run_create<M: Meanings, R: RowSink, L: Ledger>(
     }
 }
 
-/// Runs a DROP TABLE: the table's rows go, and then its entry.
-fn run_drop<M: Meanings, R: RowSink, L: Ledger>(
+/// Runs any other statement, and then keeps of it what is no row of a table.
+fn run_other<M: Meanings, R: RowSink, L: Ledger>(
     alloc: Global,
     database: &mut Database,
     hosts: &mut Hosts,
     budget: u64,
-    dropped: &DroppedTable,
-    rows: &mut R,
-    steps: &mut Steps<L>,
-) -> Result<Done, Cause>
-    requires sound { IsSound database.old.tables.world }
-    requires told { meant hosts.old ≡ M.hosts }
-    ensures marks { database.new.tables.marks ≡ database.old.tables.marks }
-    ensures carried { CarriesOut
-        (drop_outcome_in database.old.schema database.old.tables.world database.old.changes database.old.last_rowid dropped.now)
-        (state_of database.old.schema database.old.tables.world database.old.changes database.old.last_rowid)
-        (state_of database.new.schema database.new.tables.world database.new.changes database.new.last_rowid)
-        budget (drop_steps (surroundings_in M.hosts [] database.old.tables.world)) (steps.new - steps.old) (R.taken rows.old) (R.taken rows.new)
-        (Rose (R.fault_count rows.old) (R.fault_count rows.new)) result }
-    ensures kept { OnErr result
-        (state_of database.new.schema database.new.tables.world database.new.changes database.new.last_rowid
-        ≡ state_of database.old.schema database.old.tables.world database.old.changes database.old.last_rowid) }
-    ensures ticks { steps.old ≤ steps.new }
-    ensures within { steps.new ≤ steps.old + budget }
-    ensures faults { R.fault_count rows.old ≤ R.fault_count rows.new }
-    ensures told { meant hosts.new ≡ M.hosts }
-{
-    let Ok(program) = compile_drop(alloc, dropped.table) else {
-        return Err(Cause::Mem);
-    };
-    match execute::<M, R, L>(
-        alloc,
-        program,
-        &[],
-        database.last_rowid,
-        &mut database.tables,
-        hosts,
-        budget,
-        rows,
-        steps,
-    ) {
-        Ok(completed) => {
-            database.schema.remove(dropped.name.as_str());
-            Ok(done(&completed, 0))
-        }
-        Err(cause) => Err(cause),
-    }
-}
-
-/// Runs an INSERT, and keeps how many rows it put and the last rowid.
-fn run_insert<M: Meanings, R: RowSink, L: Ledger>(
-    alloc: Global,
-    database: &mut Database,
-    hosts: &mut Hosts,
-    budget: u64,
-    insert: &BoundInsert,
+    ready: &Ready,
     params: &[Value],
     rows: &mut R,
     steps: &mut Steps<L>,
 ) -> Result<Done, Cause>
+    requires other { IsOther ready.now }
     requires sound { IsSound database.old.tables.world }
     requires told { meant hosts.old ≡ M.hosts }
     ensures marks { database.new.tables.marks ≡ database.old.tables.marks }
     ensures carried { CarriesOut
-        (put_outcome_in M.hosts database.old.schema database.old.tables.world database.old.changes database.old.last_rowid params.now insert.now)
+        (outcome_in M.hosts database.old.schema database.old.tables.world database.old.changes database.old.last_rowid params.now ready.now)
         (state_of database.old.schema database.old.tables.world database.old.changes database.old.last_rowid)
         (state_of database.new.schema database.new.tables.world database.new.changes database.new.last_rowid)
-        budget (put_steps insert.now (surroundings_in M.hosts params.now database.old.tables.world)) (steps.new - steps.old) (R.taken rows.old) (R.taken rows.new)
+        budget (steps_in (surroundings_in M.hosts params.now database.old.tables.world) ready.now) (steps.new - steps.old) (R.taken rows.old) (R.taken rows.new)
         (Rose (R.fault_count rows.old) (R.fault_count rows.new)) result }
     ensures kept { OnErr result
         (state_of database.new.schema database.new.tables.world database.new.changes database.new.last_rowid
@@ -295,7 +237,7 @@ fn run_insert<M: Meanings, R: RowSink, L: Ledger>(
     ensures faults { R.fault_count rows.old ≤ R.fault_count rows.new }
     ensures told { meant hosts.new ≡ M.hosts }
 {
-    let Ok(program) = compile_insert(alloc, insert) else {
+    let Ok(program) = compiled(alloc, ready) else {
         return Err(Cause::Mem);
     };
     match execute::<M, R, L>(
@@ -309,150 +251,22 @@ fn run_insert<M: Meanings, R: RowSink, L: Ledger>(
         rows,
         steps,
     ) {
-        Ok(completed) => {
-            database.keep(&completed);
-            Ok(done(&completed, completed.changed))
-        }
+        Ok(completed) => Ok(database.finish(ready, &completed)),
         Err(cause) => Err(cause),
     }
 }
 
-/// Runs a SELECT. The tables stay.
-fn run_select<M: Meanings, R: RowSink, L: Ledger>(
-    alloc: Global,
-    database: &mut Database,
-    hosts: &mut Hosts,
-    budget: u64,
-    select: &BoundSelect,
-    params: &[Value],
-    rows: &mut R,
-    steps: &mut Steps<L>,
-) -> Result<Done, Cause>
-    requires sound { IsSound database.old.tables.world }
-    requires told { meant hosts.old ≡ M.hosts }
-    ensures marks { database.new.tables.marks ≡ database.old.tables.marks }
-    ensures carried { CarriesOut
-        (query_outcome_in M.hosts database.old.schema database.old.tables.world database.old.changes database.old.last_rowid params.now select.now)
-        (state_of database.old.schema database.old.tables.world database.old.changes database.old.last_rowid)
-        (state_of database.new.schema database.new.tables.world database.new.changes database.new.last_rowid)
-        budget (query_steps select.now (surroundings_in M.hosts params.now database.old.tables.world)) (steps.new - steps.old) (R.taken rows.old) (R.taken rows.new)
-        (Rose (R.fault_count rows.old) (R.fault_count rows.new)) result }
-    ensures kept { OnErr result
-        (state_of database.new.schema database.new.tables.world database.new.changes database.new.last_rowid
-        ≡ state_of database.old.schema database.old.tables.world database.old.changes database.old.last_rowid) }
-    ensures ticks { steps.old ≤ steps.new }
-    ensures within { steps.new ≤ steps.old + budget }
-    ensures faults { R.fault_count rows.old ≤ R.fault_count rows.new }
-    ensures told { meant hosts.new ≡ M.hosts }
+/// The program of a statement.
+fn compiled(alloc: Global, ready: &Ready) -> Result<Program, AllocError>
+    ensures { IfOk result (λ p. Performs p (run_in ready.now) (λ x. steps_in x ready.now)) }
 {
-    let Ok(program) = gen_query::compile(alloc, select) else {
-        return Err(Cause::Mem);
-    };
-    match execute::<M, R, L>(
-        alloc,
-        program,
-        params,
-        database.last_rowid,
-        &mut database.tables,
-        hosts,
-        budget,
-        rows,
-        steps,
-    ) {
-        Ok(completed) => Ok(done(&completed, 0)),
-        Err(cause) => Err(cause),
-    }
-}
-
-/// Shows the rows of a VALUES. The tables stay.
-fn run_values<M: Meanings, R: RowSink, L: Ledger>(
-    alloc: Global,
-    database: &mut Database,
-    hosts: &mut Hosts,
-    budget: u64,
-    values: &[Items<BoundExpr>],
-    params: &[Value],
-    rows: &mut R,
-    steps: &mut Steps<L>,
-) -> Result<Done, Cause>
-    requires sound { IsSound database.old.tables.world }
-    requires told { meant hosts.old ≡ M.hosts }
-    ensures marks { database.new.tables.marks ≡ database.old.tables.marks }
-    ensures carried { CarriesOut
-        (values_outcome_in M.hosts database.old.schema database.old.tables.world database.old.changes database.old.last_rowid params.now values.now)
-        (state_of database.old.schema database.old.tables.world database.old.changes database.old.last_rowid)
-        (state_of database.new.schema database.new.tables.world database.new.changes database.new.last_rowid)
-        budget (values_steps values.now (surroundings_in M.hosts params.now database.old.tables.world)) (steps.new - steps.old) (R.taken rows.old) (R.taken rows.new)
-        (Rose (R.fault_count rows.old) (R.fault_count rows.new)) result }
-    ensures kept { OnErr result
-        (state_of database.new.schema database.new.tables.world database.new.changes database.new.last_rowid
-        ≡ state_of database.old.schema database.old.tables.world database.old.changes database.old.last_rowid) }
-    ensures ticks { steps.old ≤ steps.new }
-    ensures within { steps.new ≤ steps.old + budget }
-    ensures faults { R.fault_count rows.old ≤ R.fault_count rows.new }
-    ensures told { meant hosts.new ≡ M.hosts }
-{
-    let Ok(program) = gen_query::compile_values(alloc, values) else {
-        return Err(Cause::Mem);
-    };
-    match execute::<M, R, L>(
-        alloc,
-        program,
-        params,
-        database.last_rowid,
-        &mut database.tables,
-        hosts,
-        budget,
-        rows,
-        steps,
-    ) {
-        Ok(completed) => Ok(done(&completed, 0)),
-        Err(cause) => Err(cause),
-    }
-}
-
-/// Runs a statement that does nothing.
-fn run_nothing<M: Meanings, R: RowSink, L: Ledger>(
-    alloc: Global,
-    database: &mut Database,
-    hosts: &mut Hosts,
-    budget: u64,
-    rows: &mut R,
-    steps: &mut Steps<L>,
-) -> Result<Done, Cause>
-    requires sound { IsSound database.old.tables.world }
-    requires told { meant hosts.old ≡ M.hosts }
-    ensures marks { database.new.tables.marks ≡ database.old.tables.marks }
-    ensures carried { CarriesOut
-        (nothing (state_of database.old.schema database.old.tables.world database.old.changes database.old.last_rowid))
-        (state_of database.old.schema database.old.tables.world database.old.changes database.old.last_rowid)
-        (state_of database.new.schema database.new.tables.world database.new.changes database.new.last_rowid)
-        budget (nothing_steps (surroundings_in M.hosts [] database.old.tables.world)) (steps.new - steps.old) (R.taken rows.old) (R.taken rows.new)
-        (Rose (R.fault_count rows.old) (R.fault_count rows.new)) result }
-    ensures kept { OnErr result
-        (state_of database.new.schema database.new.tables.world database.new.changes database.new.last_rowid
-        ≡ state_of database.old.schema database.old.tables.world database.old.changes database.old.last_rowid) }
-    ensures ticks { steps.old ≤ steps.new }
-    ensures within { steps.new ≤ steps.old + budget }
-    ensures faults { R.fault_count rows.old ≤ R.fault_count rows.new }
-    ensures told { meant hosts.new ≡ M.hosts }
-{
-    let Ok(program) = compile_nothing(alloc) else {
-        return Err(Cause::Mem);
-    };
-    match execute::<M, R, L>(
-        alloc,
-        program,
-        &[],
-        database.last_rowid,
-        &mut database.tables,
-        hosts,
-        budget,
-        rows,
-        steps,
-    ) {
-        Ok(completed) => Ok(done(&completed, 0)),
-        Err(cause) => Err(cause),
+    match ready {
+        Ready::Create(_) => compile_create(alloc),
+        Ready::Drop(dropped) => compile_drop(alloc, dropped.table),
+        Ready::Insert(insert) => compile_insert(alloc, insert),
+        Ready::Select(select) => gen_query::compile(alloc, select),
+        Ready::Values(values) => gen_query::compile_values(alloc, values.as_slice()),
+        Ready::Nothing => compile_nothing(alloc),
     }
 }
 
