@@ -1,5 +1,5 @@
 -- What columns store, in registers one after another, and their causes in one register.
-use Rattle.std.proofs.Common.{◌≡◌, ◌≢◌, ℕ, zero, suc, ◌+◌, ◌*◌, ◌≤◌, ◌<◌, List, [], ◌∷◌, ◌++◌, length, map, fold, get_or, take, Some, None, refl, sym, ap, ◌∙◌, subst, arith, length-append}
+use Rattle.std.proofs.Common.{◌≡◌, ◌≢◌, ℕ, zero, suc, ◌+◌, ◌*◌, ◌≤◌, ◌<◌, List, [], ◌∷◌, ◌++◌, length, map, fold, get_or, take, true, Some, None, refl, sym, ap, ◌∙◌, subst, arith, length-append}
 use Rattle.std.specs.Prelude.{slice_get, slice_index_or, slice_set}
 use Rattle.std.specs.declared.option.Option.{Option}
 use Rattle.std.proofs.Math.ListN.{length-set}
@@ -7,19 +7,22 @@ use Rattle.std.proofs.lemmas.List.{get_or-set_same, get_or-set_other, length-map
 use Rattle.std.proofs.lemmas.List.Sums.{fold-append}
 use Rattle.eng_value.specs.Applied.{merged}
 use Rattle.eng_value.specs.Casts.{store_as}
-use Rattle.eng_value.specs.Environments.{with_causes}
+use Rattle.eng_value.specs.Environments.{no_causes, with_causes}
 use Rattle.eng_value.specs.Outs.{turned}
+use Rattle.eng_value.specs.declared.affinity.Affinity.{Affinity}
+use Rattle.eng_value.specs.declared.affinity.Affinity.TheVariants as affinity
 use Rattle.eng_value.specs.declared.out.Out.{Out}
 use Rattle.eng_value.specs.declared.out.Out.TheVariants.{Good}
 use Rattle.eng_value.specs.declared.value.Value.{Value}
-use Rattle.eng_value.specs.declared.value.Value.TheVariants.{Null}
-use Rattle.gen_write.specs.Stretches.{AreKept, Loads, SameBut, Stores, kept_at, kept_out, out_loaded}
+use Rattle.eng_value.specs.declared.value.Value.TheVariants.{Null, Integer, Text, Blob}
+use Rattle.gen_write.specs.Stretches.{AreHeld, AreKept, HoldsKept, HoldsLiteral, Loads, SameBut, Stores, kept_at, kept_out, out_loaded, placed_for, stays}
 use Rattle.gen_write.specs.Writes.{stored_as}
 use Rattle.gen_write.specs.declared.source.Kept.{Kept}
 use Rattle.gen_write.specs.declared.source.Kept.TheVariants as kept
 use Rattle.sql_meaning.specs.Expression.{literal_out}
 use Rattle.sql_meaning.specs.Statement.{value_at}
 use Rattle.sql_meaning.specs.declared.bound.Literal.{Literal}
+use Rattle.sql_meaning.specs.declared.bound.Literal.TheVariants as literal
 use Rattle.sql_meaning.specs.declared.bound.PutColumn.{PutColumn}
 use Rattle.vm_code.specs.declared.op.Op.{Op}
 use Rattle.vm_code.specs.declared.op.Op.TheVariants as op
@@ -203,6 +206,82 @@ stores_column {calls} {a} {z} c row to causes to_is below counted x =
             keeps = λ k lt ne. get_or-set_other q causes k v _ ne ∙ get_or-set_other l.regs to k turned_out _ (omega (arith, to_is, lt)) ∙ l.keeps k (omega arith) (omega (arith, to_is, lt));
           };
     }
+
+-- one that stores the value as it is
+pub stores_held : {calls : Calls} {a z : Draft} (c : PutColumn) (row : List Kept) (to causes : ℕ) → to ≡ a.next → causes < a.next → a.next ≤ a.most → AreHeld row (c ∷ []) → Loads calls (taken a) z to (kept_at row c.place) → Stores calls a z causes row (c ∷ [])
+stores_held {calls} {a} {z} c row to causes to_is below counted held x = record {
+  grows = grows_then (g_taken a) x.grows;
+  next = omega (arith, x.next);
+  counted = omega (arith, x.next, x.grows.most);
+  steady = st_then (g_taken a) (st_taken [] [] a) x.steady;
+  stores = λ m called u at h s room start values kept_now.
+      let value = value_at values c.place in
+      let l = x.loads m called u at h s (ready_less room (omega arith) (omega arith)) start in
+      let same = kept_now s.regs (λ k lt ne. refl) in
+      let loaded : read l.regs to ≡ Good value = l.has ∙ loaded_is row values s.regs c.place same in
+      let outs : stored_as (c ∷ []) values ≡ Good value ∷ [] = held s.regs values same in
+      let apart : causes ≢ to = omega (arith, to_is, below) in
+      record {
+        regs = l.regs;
+        way = leads_more m 3 (omega arith) l.way;
+        long = l.long;
+        has = subst (λ os. outs_from l.regs a.next (length os) ≡ os) (sym outs) (ap (λ o. o ∷ []) (ap (read l.regs) (sym to_is) ∙ loaded));
+        gathers = l.keeps causes (omega arith) apart ∙ ap (fold with_causes (read s.regs causes)) (sym outs);
+        keeps = λ k lt ne. l.keeps k (omega arith) (omega (arith, to_is, lt));
+      };
+}
+
+-- ---- what is held
+
+stays_is : (a : Affinity) (v : Value) → stays a v ≡ true → store_as a v ≡ Good v
+unfolding store_as
+stays_is affinity.Integer Null e = refl
+stays_is affinity.Integer (Integer n) e = refl
+stays_is affinity.Integer (Text t) e = absurd (cc)
+stays_is affinity.Integer (Blob t) e = refl
+stays_is affinity.Numeric Null e = refl
+stays_is affinity.Numeric (Integer n) e = refl
+stays_is affinity.Numeric (Text t) e = absurd (cc)
+stays_is affinity.Numeric (Blob t) e = refl
+stays_is affinity.Real v e = absurd (cc)
+stays_is affinity.Text Null e = refl
+stays_is affinity.Text (Integer n) e = absurd (cc)
+stays_is affinity.Text (Text t) e = refl
+stays_is affinity.Text (Blob t) e = refl
+stays_is affinity.Blob v e = refl
+stays_is affinity.None v e = refl
+
+held_place : (a : Affinity) (k : Option Kept) (v : Value) (q : List Out) → HoldsKept a k → out_loaded q k ≡ Good v → store_as a v ≡ Good v
+held_place a None v q h e = let is : Null ≡ v = cc in subst (λ w. store_as a w ≡ Good w) is (stays_is a Null h)
+held_place a (Some (kept.Literal l)) v q h e = by l.now h e
+  where
+    by : (l : Literal) → HoldsLiteral a l → literal_out l ≡ Good v → store_as a v ≡ Good v
+    by (literal.Value w) h e = let is : w ≡ v = cc in subst (λ w. store_as a w ≡ Good w) is (stays_is a w h)
+    by (literal.Bad why) h e = absurd h
+held_place a (Some (kept.Register r)) v q h e = absurd h
+
+pub held_one : (c : PutColumn) (row : List Kept) → HoldsKept c.affinity (kept_at row c.place) → AreHeld row (c ∷ [])
+held_one c row h q values same =
+    ap (λ o. o ∷ []) (held_place c.affinity (kept_at row c.place) (value_at values c.place) q h (loaded_is row values q c.place same))
+
+pub held_none : (row : List Kept) → AreHeld row []
+held_none row q values same = refl
+
+pub held_then : (row : List Kept) (xs ys : List PutColumn) → AreHeld row xs → AreHeld row ys → AreHeld row (xs ++ ys)
+held_then row xs ys x y q values same =
+    map-append (λ (c : PutColumn). store_as c.affinity (value_at values c.place)) xs ys
+    ∙ ap (λ os. os ++ stored_as ys values) (x q values same)
+    ∙ ap (λ os. map Good (placed_for xs values) ++ os) (y q values same)
+    ∙ sym (ap (map Good) (map-append (λ (c : PutColumn). value_at values c.place) xs ys) ∙ map-append Good (placed_for xs values) (placed_for ys values))
+
+-- a column more of a list
+pub held_next : (row : List Kept) (all : List PutColumn) (i : ℕ) (d : PutColumn) → i < length all → AreHeld row (take i all) → AreHeld row (get_or all i d ∷ []) → AreHeld row (take (i + 1) all)
+held_next row all i d lt x y = subst (AreHeld row) (sym (take_more all i d lt)) (held_then row (take i all) (get_or all i d ∷ []) x y)
+
+-- where all are there are no causes
+pub held_calm : (values : List Value) → fold with_causes no_causes (map Good values) ≡ no_causes
+held_calm [] = refl
+held_calm (v ∷ values) = held_calm values
 
 -- code that stores columns, inside another stretch
 pub t_stores : (m : Setting) {calls : Calls} {a b : Draft} {causes : ℕ} {row : List Kept} {columns : List PutColumn} (called : calls m) (values : List Value) (g : Labels) (e : Last) (p q : Claim) → Stores calls a b causes row columns → ((h0 h : Here) → p h0 h → AreKept causes a.next row values h.regs) → ((h0 h : Here) (regs : List Out) → p h0 h → length regs ≡ length h.regs → outs_from regs a.next (length (stored_as columns values)) ≡ stored_as columns values → read regs causes ≡ fold with_causes (read h.regs causes) (stored_as columns values) → SameBut causes a.next h.regs regs → q h0 (with_regs h regs)) → Triple m a b (λ h0. 3 * length columns) g e p q

@@ -1,5 +1,5 @@
 -- The code of a row puts it.
-use Rattle.std.proofs.Common.{◌≡◌, ◌≢◌, ℕ, ◌+◌, ◌-◌, ◌*◌, ◌≤◌, ◌<◌, List, [], ◌∷◌, false, length, map, fold, ℤ, pos, Some, None, Contains, refl, sym, ap, ◌∙◌, arith, inl, inr, ◌⊎◌}
+use Rattle.std.proofs.Common.{◌≡◌, ◌≢◌, ℕ, ◌+◌, ◌-◌, ◌*◌, ◌≤◌, ◌<◌, Bool, List, [], ◌∷◌, true, false, length, map, fold, ℤ, pos, Some, None, Contains, refl, sym, ap, ◌∙◌, subst, arith, inl, inr, ◌⊎◌}
 use Rattle.std.specs.Prelude.{slice_set, unwrap_or}
 use Rattle.std.specs.declared.option.Option.{Option}
 use Rattle.std.proofs.Math.ListN.{length-set}
@@ -12,11 +12,11 @@ use Rattle.eng_value.specs.declared.out.Out.{Out}
 use Rattle.eng_value.specs.declared.out.Out.TheVariants.{Good, Bad}
 use Rattle.eng_value.specs.declared.value.Value.{Value}
 use Rattle.eng_value.specs.declared.value.Value.TheVariants.{Integer, Null}
-use Rattle.gen_write.specs.Stretches.{AreKept, Puts, Stores, row_course, with_bad_refused, with_row_inserted}
+use Rattle.gen_write.specs.Stretches.{AreHeld, AreKept, Puts, Stores, placed_for, row_course, with_bad_refused, with_row_inserted, with_row_tested}
 use Rattle.gen_write.specs.Writes.{Course, failed, finished, row_put, row_steps, row_under, stored_as, with_row_put}
 use Rattle.gen_write.specs.declared.source.Kept.{Kept}
 use Rattle.gen_write.proofs.Causing.{calm-good, item-bad, item-good}
-use Rattle.gen_write.proofs.Columns.{stored-long, t_stores}
+use Rattle.gen_write.proofs.Columns.{held_calm, stored-long, t_stores}
 use Rattle.gen_write.proofs.Refusals.{grows_refused, steady_refused, t_refused}
 use Rattle.gen_write.proofs.RowRuns.{HasFailed, HasRun, puts_of}
 use Rattle.sql_meaning.specs.Statement as meaning
@@ -28,8 +28,8 @@ use Rattle.vm_code.specs.Machine as machine
 use Rattle.vm_code.specs.Machine.{Open, Setting, Shared, State, On, GivesUp, act, cursor_at, cursor_rows, drawn, inserted, integer_in, integer_of, is_bad, leaving_of, outs_from, put, read, rows_of, values_from, world_of}
 use Rattle.vm_code.specs.Frames.{placed, Calls, Grows, Here, here, there, with_regs}
 use Rattle.vm_code.specs.Claims.{Claim, Last, Triple}
-use Rattle.vm_code.proofs.Drafts.{g_op, g_released, g_taken, grows_then}
-use Rattle.vm_code.proofs.Tracks.{st_inner, st_released, st_taken, st_then, st_use}
+use Rattle.vm_code.proofs.Drafts.{g_op, g_released, g_taken, grows_none, grows_then}
+use Rattle.vm_code.proofs.Tracks.{st_inner, st_none, st_released, st_taken, st_then, st_use}
 use Rattle.vm_code.proofs.Registers.{outs_same, values_outs}
 use Rattle.vm_code.proofs.Triples.{no_labels, t_seq, t_use, t_more, t_draft, t_op, t_op_if, t_end, t_either}
 use Rattle.vm_code.proofs.Effects.{But, but_none, but_regs}
@@ -40,7 +40,7 @@ good_or_null-same [] = refl
 good_or_null-same (Good v ∷ outs) = ap (λ l. v ∷ l) (good_or_null-same outs)
 good_or_null-same (Bad c ∷ outs) = ap (λ l. Null ∷ l) (good_or_null-same outs)
 
-module _ {calls : Calls} (a y : Draft) (cursor causes : ℕ) (insert : BoundInsert) (row : List Kept) (below : causes < a.next) (sy : Stores calls a y causes row insert.columns) where
+module _ {calls : Calls} (a y refused : Draft) (cursor causes : ℕ) (insert : BoundInsert) (row : List Kept) (below : causes < a.next) (sy : Stores calls a y causes row insert.columns) (grows_tested : Grows y refused) (same_next : refused.next ≡ y.next) (steady_tested : (uses : List ℕ) → Steady uses [] y refused) where
   abbrev first : ℕ
   first = a.next
 
@@ -48,16 +48,13 @@ module _ {calls : Calls} (a y : Draft) (cursor causes : ℕ) (insert : BoundInse
   count = y.next - first
 
   abbrev rowid : ℕ
-  rowid = y.next
+  rowid = refused.next
 
   abbrev table : ℕ
   table = insert.table
 
   abbrev name : List ℕ
   name = insert.name
-
-  abbrev refused : Draft
-  refused = with_bad_refused y causes
 
   abbrev taking : Draft
   taking = taken refused
@@ -77,7 +74,7 @@ module _ {calls : Calls} (a y : Draft) (cursor causes : ℕ) (insert : BoundInse
 
   grows_row : Grows a row_code
   grows_row =
-      grows_then sy.grows (grows_then (grows_refused y causes) (grows_then grows_putting (g_released putting first)))
+      grows_then sy.grows (grows_then grows_tested (grows_then grows_putting (g_released putting first)))
 
   -- the cursor of the table
   abbrev uses : List ℕ
@@ -92,7 +89,7 @@ module _ {calls : Calls} (a y : Draft) (cursor causes : ℕ) (insert : BoundInse
 
   steady_row : Steady uses [] a row_code
   steady_row =
-      st_then sy.grows (st_inner uses [] sy.steady) (st_then (grows_refused y causes) (steady_refused y causes uses) (st_then grows_putting steady_putting (st_released uses [] putting first)))
+      st_then sy.grows (st_inner uses [] sy.steady) (st_then grows_tested (steady_tested uses) (st_then grows_putting steady_putting (st_released uses [] putting first)))
 
   module _ (kept_values : List Value) where
     abbrev outs : List Out
@@ -154,10 +151,24 @@ module _ {calls : Calls} (a y : Draft) (cursor causes : ℕ) (insert : BoundInse
       stores called = t_stores m called kept_values no_labels last begun stored sy (λ h0 h pre. pre.2) (λ h0 h regs pre long is gathers same.
           (same_start h0 h regs same pre.0, ap (outs_from regs first) count_is ∙ is, gathers ∙ ap (λ o. fold with_causes o outs) pre.1))
 
-      tests : Triple m y refused (λ h0. 3) no_labels last stored good
+      tests : Triple m y (with_bad_refused y causes) (λ h0. 3) no_labels last stored good
       tests = t_refused y causes m last stored good (λ h0 h pre e. (pre, ap is_bad (sym pre.2) ∙ e)) (λ h0 h pre e.
           let bad = item-bad outs all (ap is_bad (sym pre.2) ∙ e) in
           (bad.0, ap leaving_of (pre.2 ∙ bad.1), ap (λ i. row_put table name h0.shared i finished) bad.2 ∙ ap (failed bad.0) (sym pre.0.0.shared)))
+
+      abbrev Front : Draft → Type 0
+      Front z = Triple m a z (λ h0. 3 * length insert.columns + 3) no_labels last begun good
+
+      front_tested : refused ≡ with_bad_refused y causes → calls m → Front refused
+      front_tested is called = subst Front (sym is) (t_seq (stores called) tests)
+
+      front_held : refused ≡ y → calls m → AreHeld row insert.columns → Front refused
+      front_held is called held =
+          subst Front (sym is) (t_more (λ h0. 3 * length insert.columns + 3) (λ h0. omega arith) (t_stores m called kept_values no_labels last begun good sy (λ h0 h pre. pre.2) (λ h0 h regs pre long is gathers same.
+          let known = held h.regs kept_values (pre.2 h.regs (λ k lt ne. refl)) in (
+            (same_start h0 h regs same pre.0, ap (outs_from regs first) count_is ∙ is, gathers ∙ ap (λ o. fold with_causes o outs) pre.1),
+            ap is_bad (ap (fold with_causes no_causes) known ∙ held_calm (placed_for insert.columns kept_values)),
+          ))))
 
       -- what is drawn
       draws_from : (h0 h : Here) → good h0 h → next_rowid (cursor_rows (world_of h.shared) (cursor_at h.scene.cursors cursor)) ≡ drawn_now h0
@@ -185,11 +196,11 @@ module _ {calls : Calls} (a y : Draft) (cursor causes : ℕ) (insert : BoundInse
               let is = draws_from h0 h pre.0 ∙ pre.1.1 in
               let regs = slice_set h.regs rowid (rowid_out h) in
               let other : (k : ℕ) → k ≢ rowid → read regs k ≡ read h.regs k = λ k ne. get_or-set_other h.regs rowid k (rowid_out h) _ ne in
-              let apart : causes ≢ rowid = omega (arith, sy.next, below) in (
+              let apart : causes ≢ rowid = omega (arith, sy.next, same_next, below) in (
                 (
                   (
-                    same_start h0 h regs (λ k lt ne. other k (omega (arith, lt, sy.next))) pre.0.0.0,
-                    outs_same regs h.regs count first (λ k le lt. other k (omega (arith, lt, sy.next))) ∙ pre.0.0.1,
+                    same_start h0 h regs (λ k lt ne. other k (omega (arith, lt, sy.next, same_next))) pre.0.0.0,
+                    outs_same regs h.regs count first (λ k le lt. other k (omega (arith, lt, sy.next, same_next))) ∙ pre.0.0.1,
                     other causes apart ∙ pre.0.0.2,
                   ),
                   pre.0.1,
@@ -241,12 +252,28 @@ module _ {calls : Calls} (a y : Draft) (cursor causes : ℕ) (insert : BoundInse
             is = course_good h0 h pre.0 ∙ ap (λ o. row_under table name h0.shared values o finished) pre.1.1 ∙ ap finished (sym now);
           })
 
-      whole : calls m → Triple m a row_code (λ h0. row_steps (length insert.columns)) no_labels last begun done
-      whole called =
-          let all_code = t_seq (t_seq (t_seq (stores called) tests) draws) puts in
+      whole : Front refused → Triple m a row_code (λ h0. row_steps (length insert.columns)) no_labels last begun done
+      whole front =
+          let all_code = t_seq (t_seq front draws) puts in
           let back = t_draft m no_labels last done (g_released putting first) refl in
           t_more (λ h0. row_steps (length insert.columns)) (λ h0. omega arith) (t_seq all_code back)
 
-  pub row-puts : Puts calls a row_code cursor table causes (AreKept causes first row) (row_course insert) (row_steps (length insert.columns))
-  row-puts =
-      puts_of cursor table causes (AreKept causes first row) (row_course insert) begun grows_row refl steady_row (λ x h opened calm kept_now. ((but_none first causes h, opened), calm, kept_now)) (λ m called x. whole x m called)
+  abbrev PutsRow : Type 0
+  PutsRow = Puts calls a row_code cursor table causes (AreKept causes first row) (row_course insert) (row_steps (length insert.columns))
+
+  -- where the row is tested, since a value may not be stored
+  tested-puts : refused ≡ with_bad_refused y causes → PutsRow
+  tested-puts is =
+      puts_of cursor table causes (AreKept causes first row) (row_course insert) begun grows_row refl steady_row (λ x h opened calm kept_now. ((but_none first causes h, opened), calm, kept_now)) (λ m called x. whole x m (front_tested x m is called))
+
+  -- where all values are stored as they are
+  held-puts : refused ≡ y → AreHeld row insert.columns → PutsRow
+  held-puts is held =
+      puts_of cursor table causes (AreKept causes first row) (row_course insert) begun grows_row refl steady_row (λ x h opened calm kept_now. ((but_none first causes h, opened), calm, kept_now)) (λ m called x. whole x m (front_held x m is called held))
+
+pub row-puts : {calls : Calls} (a y : Draft) (may : Bool) (cursor causes : ℕ) (insert : BoundInsert) (row : List Kept) → causes < a.next → Stores calls a y causes row insert.columns → (may ≡ false → AreHeld row insert.columns)
+    → Puts calls a (released (with_row_inserted (with_row_tested may y causes) cursor a.next (y.next - a.next) insert.name) a.next) cursor insert.table causes (AreKept causes a.next row) (row_course insert) (row_steps (length insert.columns))
+row-puts a y true cursor causes insert row below sy held =
+    tested-puts a y (with_bad_refused y causes) cursor causes insert row below sy (grows_refused y causes) refl (steady_refused y causes) refl
+row-puts a y false cursor causes insert row below sy held =
+    held-puts a y y cursor causes insert row below sy (grows_none y) refl (λ uses. st_none uses [] y) refl (held refl)

@@ -1,18 +1,23 @@
 -- What the stretches of a write's code do.
-use Rattle.std.specs.Prelude.{◌≡◌, ◌≢◌, ℕ, ◌+◌, ◌*◌, ◌≤◌, ◌<◌, List, [], ◌∷◌, length, map, fold, sum_by, Option, Some, None, slice_get}
+use Rattle.std.specs.Prelude.{◌≡◌, ◌≢◌, ℕ, ◌+◌, ◌*◌, ◌≤◌, ◌<◌, Bool, true, false, not, List, [], ◌∷◌, length, map, fold, sum_by, Option, Some, None, slice_get}
 use Rattle.eng_value.specs.Causes.{CauseSet}
 use Rattle.eng_value.specs.Environments.{Environment, no_causes, with_causes}
+use Rattle.eng_value.specs.declared.affinity.Affinity.{Affinity}
+use Rattle.eng_value.specs.declared.affinity.Affinity.TheVariants as affinity
 use Rattle.eng_value.specs.declared.out.Out.{Out}
 use Rattle.eng_value.specs.declared.out.Out.TheVariants.{Good}
 use Rattle.eng_value.specs.declared.value.Value.{Value}
 use Rattle.eng_value.specs.declared.value.Value.TheVariants.{Null}
+use Rattle.eng_value.specs.declared.value.Value.TheVariants as value
 use Rattle.gen_write.specs.Writes.{Course, failed, finished, read_steps, row_put, stored_as, value_steps}
 use Rattle.gen_write.specs.declared.source.Kept.{Kept}
 use Rattle.gen_write.specs.declared.source.Kept.TheVariants as kept
 use Rattle.sql_meaning.specs.Expression.{literal_out, value_of}
-use Rattle.sql_meaning.specs.Statement.{Item, given_of, item_of, refusal_of, shown}
+use Rattle.sql_meaning.specs.Statement.{Item, given_of, item_of, refusal_of, shown, value_at}
 use Rattle.sql_meaning.specs.declared.bound.BoundExpr.{BoundExpr}
 use Rattle.sql_meaning.specs.declared.bound.BoundInsert.{BoundInsert}
+use Rattle.sql_meaning.specs.declared.bound.Literal.{Literal}
+use Rattle.sql_meaning.specs.declared.bound.Literal.TheVariants as literal
 use Rattle.sql_meaning.specs.declared.bound.PutColumn.{PutColumn}
 use Rattle.vm_code.specs.declared.op.Op.TheVariants as op
 use Rattle.vm_code.specs.Draft.{Draft, bound, taken, with_label, with_op}
@@ -96,7 +101,49 @@ abbrev pub with_bad_refused : Draft → ℕ → Draft
 with_bad_refused d causes =
     bound (with_op (bound (with_op (with_op (with_label (with_label d)) (op.IsBad causes (length (with_label d).labels))) (op.Goto (length d.labels))) (length (with_label d).labels)) (op.HaltBad causes)) (length d.labels)
 
+-- it does so where it may be bad
+abbrev pub with_row_tested : Bool → Draft → ℕ → Draft
+with_row_tested true d causes = with_bad_refused d causes
+with_row_tested false d causes = d
+
 -- ---- the columns of a row
+
+abbrev pub is_text : Value → Bool
+is_text (value.Text t) = true
+is_text other = false
+
+abbrev pub is_integer : Value → Bool
+is_integer (value.Integer n) = true
+is_integer other = false
+
+-- a column of an affinity stores a value as it is, by their kinds
+abbrev pub stays : Affinity → Value → Bool
+stays affinity.Integer v = not (is_text v)
+stays affinity.Numeric v = not (is_text v)
+stays affinity.Real v = false
+stays affinity.Text v = not (is_integer v)
+stays affinity.Blob v = true
+stays affinity.None v = true
+
+-- a literal's value is stored so
+abbrev pub HoldsLiteral : Affinity → Literal → Type 0
+HoldsLiteral a (literal.Value v) = stays a v ≡ true
+HoldsLiteral a (literal.Bad why) = ⊥
+
+-- what is kept of a value is a literal that is stored so, or nothing, where NULL is
+abbrev pub HoldsKept : Affinity → Option Kept → Type 0
+HoldsKept a None = stays a Null ≡ true
+HoldsKept a (Some (kept.Literal l)) = HoldsLiteral a l.now
+HoldsKept a (Some (kept.Register r)) = ⊥
+
+-- the values that are placed for columns
+abbrev pub placed_for : List PutColumn → List Value → List Value
+placed_for columns values = map (λ (c : PutColumn). value_at values c.place) columns
+
+-- the columns store them as they are
+abbrev pub AreHeld : List Kept → List PutColumn → Type 0
+AreHeld row columns =
+    (q : List Out) (values : List Value) → map (kept_out q) row ≡ map Good values → stored_as columns values ≡ map Good (placed_for columns values)
 
 -- what is kept of the value at a place
 abbrev pub kept_at : List Kept → Option ℕ → Option Kept

@@ -9,6 +9,7 @@
 
 mod creating;
 mod dropping;
+mod holding;
 mod inserting;
 mod laws;
 mod nothing;

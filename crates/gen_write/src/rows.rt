@@ -1,11 +1,12 @@
 // The rows that an INSERT puts.
-ghost use Rattle.std.specs.Prelude.{◌≡◌, ◌*◌, ◌<◌, ◌≤◌, [], ◌∷◌, length, OnOk, Some};
+ghost use Rattle.std.specs.Prelude.{◌≡◌, ◌*◌, ◌<◌, ◌≤◌, [], ◌∷◌, false, length, IfOk, OnOk, Some};
 ghost use Rattle.std.specs.Option.{option_copied};
 ghost use Rattle.gen_write.specs.Writes.{row_steps, rows_run};
-ghost use Rattle.gen_write.specs.Stretches.{AreAllKept, AreKept, Loads, Puts, Stores, kept_at, row_course, with_row_inserted};
+ghost use Rattle.gen_write.specs.Stretches.{AreAllKept, AreHeld, AreKept, Loads, Puts, Stores, kept_at, row_course, with_row_inserted};
 ghost use Rattle.vm_code.specs.Frames.{no_calls};
 
-use crate::refusing::refuse_bad;
+use crate::holding::is_held;
+use crate::refusing::refuse_if;
 use crate::source::Kept;
 use eng_value::Text;
 use gen_expr::emit_literal;
@@ -49,47 +50,55 @@ fn put_row(
     ensures cursors { OnOk result (b.new.cursors ≡ b.old.cursors) }
 {
     let first = b.next_register();
-    emit_columns(b, insert.columns.as_slice(), kept, causes)?;
+    let may_fail = emit_columns(b, insert.columns.as_slice(), kept, causes)?;
     let count = b.next_register() - first;
-    refuse_bad(b, causes)?;
+    refuse_if(b, may_fail, causes)?;
     insert_row(b, cursor, first, count, &insert.name)?;
     b.release(first);
     Ok(())
 }
 
 /// Writes code that leaves what the columns store of a row's values in registers that it takes, one after another, and adds their
-/// causes to those in the register `causes`.
+/// causes to those in the register `causes`. Whether there may be any.
 fn emit_columns(
     b: &mut Builder,
     columns: &[PutColumn],
     kept: &[Kept],
     causes: u32,
-) -> Result<(), AllocError>
+) -> Result<bool, AllocError>
     requires taken { causes < b.old.next }
     requires counted { b.old.next ≤ b.old.most }
-    ensures stores { OnOk result (Stores no_calls b.old b.new causes kept.now columns.now) }
+    ensures stores { IfOk result (λ may. Stores no_calls b.old b.new causes kept.now columns.now) }
+    ensures held { IfOk result (λ may. may ≡ false → AreHeld kept.now columns.now) }
     ensures cursors { OnOk result (b.new.cursors ≡ b.old.cursors) }
 {
+    let mut may_fail = false;
     for column in columns {
-        emit_column(b, column, kept, causes)?;
+        let may = emit_column(b, column, kept, causes)?;
+        may_fail |= may;
     }
-    Ok(())
+    Ok(may_fail)
 }
 
-/// The same for one column.
+/// The same for one column. What it stores as it is takes no more than an instruction.
 fn emit_column(
     b: &mut Builder,
     column: &PutColumn,
     kept: &[Kept],
     causes: u32,
-) -> Result<(), AllocError>
+) -> Result<bool, AllocError>
     requires taken { causes < b.old.next }
     requires counted { b.old.next ≤ b.old.most }
-    ensures stores { OnOk result (Stores no_calls b.old b.new causes kept.now (column.now ∷ [])) }
+    ensures stores { IfOk result (λ may. Stores no_calls b.old b.new causes kept.now (column.now ∷ [])) }
+    ensures held { IfOk result (λ may. may ≡ false → AreHeld kept.now (column.now ∷ [])) }
     ensures cursors { OnOk result (b.new.cursors ≡ b.old.cursors) }
 {
     let to = b.take()?;
-    load(b, kept_at(kept, column.place), to)?;
+    let value = kept_at(kept, column.place);
+    load(b, value, to)?;
+    if is_held(column.affinity, value) {
+        return Ok(false);
+    }
     b.op(Op::Affinity {
         register: to,
         affinity: column.affinity,
@@ -98,7 +107,7 @@ fn emit_column(
         from: to,
         to: causes,
     })?;
-    Ok(())
+    Ok(true)
 }
 
 /// What is kept of the value at a place of a row, if there is one.
