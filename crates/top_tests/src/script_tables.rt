@@ -74,12 +74,12 @@ An error line changes no status:~~SELECT 1;
 Error 1: unknown dot line
 ~3@
 ~~SELECT 1;DROP TABLE t;DROP TABLE t~1
-Error 1: not built yet
+Error 1: no such table: t
 ~3@
 With --bail it ends the script before:~--bail~SELECT 1;DROP TABLE t~1
 ~3@
 ~--bail~SELECT 1;DROP TABLE t;~1
-Error 1: not built yet
+Error 1: no such table: t
 ~1@
 ~--bail~SELECT 1;
 .x
