@@ -36,7 +36,7 @@ bound_of-Literal t s = rw (← x.rolls-Literal t, fold-roll-Expr) refl
 pub bound_of-Parameter : (t : Token) (s : Scope) → bound_of (x.Parameter t) s ≡ Ok (parameter_bound t)
 bound_of-Parameter t s = rw (← x.rolls-Parameter t, fold-roll-Expr) refl
 
-pub bound_of-Column : (t : Token) (s : Scope) → bound_of (x.Column t) s ≡ column_bound (name_at s.text t) s.table
+pub bound_of-Column : (t : Token) (s : Scope) → bound_of (x.Column t) s ≡ column_bound (name_at s.text t) s.results s.table
 bound_of-Column t s = rw (← x.rolls-Column t, fold-roll-Expr) refl
 
 pub bound_of-TableColumn : (t c : Token) (s : Scope) → bound_of (x.TableColumn t c) s ≡ table_column_bound (name_at s.text t) (name_at s.text c) s.shown s.table

@@ -191,7 +191,7 @@ refuses_between a b c s old mid new why (inr h) = inr (bound_of-Between a b c s 
 whole_by : (y : ExprLayer) (s : Scope) → ((o : BinaryOp) (a b : Expr) → roll-Expr y ≢ x.Binary o a b) → ((a b c : Expr) → roll-Expr y ≢ x.Between a b c) → part_of s (roll-Expr y) ≡ bound_of (roll-Expr y) s
 whole_by (Expr-F.Literal t) s not_binary not_between = rw (rolls-Literal t) (rw (bound_of-Literal t s) refl)
 whole_by (Expr-F.Parameter t) s not_binary not_between = rw (rolls-Parameter t) (rw (bound_of-Parameter t s) refl)
-whole_by (Expr-F.Column t) s not_binary not_between = rw (rolls-Column t) (rw (bound_of-Column t s) (column_part (name_at s.text t) s.table))
+whole_by (Expr-F.Column t) s not_binary not_between = rw (rolls-Column t) (rw (bound_of-Column t s) (column_part (name_at s.text t) s.results s.table))
 whole_by (Expr-F.TableColumn t c) s not_binary not_between = rw (rolls-TableColumn t c) (rw (bound_of-TableColumn t c s) (table_column_part (name_at s.text t) (name_at s.text c) s.shown s.table))
 whole_by (Expr-F.Unary o a) s not_binary not_between = rw (rolls-Unary o a) (whole_of-Unary o a s)
 whole_by (Expr-F.Binary o a b) s not_binary not_between = absurd (not_binary o a b (rolls-Binary o a b))

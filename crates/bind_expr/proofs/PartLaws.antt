@@ -19,7 +19,7 @@ use Rattle.sql_tree.specs.declared.token.Token.{Token}
 use Rattle.sql_meaning.specs.declared.bound.BoundArm.{BoundArm}
 use Rattle.sql_meaning.specs.declared.bound.BoundExpr.{BoundExpr}
 use Rattle.sql_meaning.specs.declared.bound.BoundMatch.{BoundMatch}
-use Rattle.sql_meaning.specs.Binding.{◌>>=◌, in_turn, Scope, Bound, Form, Plain, LeastMagnitude, Truth, Arm, all_in, option_in, option_list, bound_of, arm_bound, arm_parts, first_collation, first_explicit, tree_of, chosen_arm, matched_arm, literal_bound, parameter_bound, column_bound, column_found, column_place, table_column_bound, unary_bound, negative_bound, binary_bound, is_bound, not_bound, unknown_column, dotted, between_bound, like_bound, in_bound, collate_bound, collation_named, cast_bound, affinity_of_type, function_called, builtin_named, call_bound, case_bound}
+use Rattle.sql_meaning.specs.Binding.{◌>>=◌, in_turn, Scope, Bound, Form, Plain, LeastMagnitude, Truth, Arm, all_in, option_in, option_list, bound_of, arm_bound, arm_parts, first_collation, first_explicit, tree_of, chosen_arm, matched_arm, literal_bound, parameter_bound, column_bound, column_found, column_or_none, column_place, table_column_bound, unary_bound, negative_bound, binary_bound, is_bound, not_bound, unknown_column, dotted, between_bound, like_bound, in_bound, collate_bound, collation_named, cast_bound, affinity_of_type, function_called, builtin_named, call_bound, case_bound}
 use Rattle.eng_entry.specs.Names.{is_same_name}
 use Rattle.sql_meaning.specs.Spelled.{name_at}
 use Rattle.bind_expr.specs.declared.groups.Group.{Group}
@@ -54,9 +54,13 @@ column_found_part : (shown : List ℕ) (columns : List _) (place : Option ℕ) �
 column_found_part shown columns None = refl
 column_found_part shown columns (Some place) = refl
 
-pub column_part : (name : List ℕ) (table : Option _) → part_in (column_bound name table) ≡ column_bound name table
-column_part name None = refl
-column_part name (Some t) = column_found_part name t.columns (column_place t.columns name)
+column_or_none_part : (name : List ℕ) (results : List (List ℕ)) (columns : List _) (place : Option ℕ) → part_in (column_or_none name results columns place) ≡ column_or_none name results columns place
+column_or_none_part name results columns None = refl
+column_or_none_part name results columns (Some place) = refl
+
+pub column_part : (name : List ℕ) (results : List (List ℕ)) (table : Option _) → part_in (column_bound name results table) ≡ column_bound name results table
+column_part name results None = refl
+column_part name results (Some t) = column_or_none_part name results t.columns (column_place t.columns name)
 
 of_table : (right : Bool) (shown : List ℕ) (columns : List _) (place : Option ℕ)
     → part_in (if right then column_found shown columns place else unknown_column shown) ≡ (if right then column_found shown columns place else unknown_column shown)
@@ -208,8 +212,8 @@ part_of-Literal t s = rw (bound_of-Literal t s) refl
 pub part_of-Parameter : (t : Token) (s : Scope) → part_of s (x.Parameter t) ≡ Ok (parameter_bound t)
 part_of-Parameter t s = rw (bound_of-Parameter t s) refl
 
-pub part_of-Column : (t : Token) (s : Scope) → part_of s (x.Column t) ≡ column_bound (name_at s.text t) s.table
-part_of-Column t s = rw (bound_of-Column t s) (column_part (name_at s.text t) s.table)
+pub part_of-Column : (t : Token) (s : Scope) → part_of s (x.Column t) ≡ column_bound (name_at s.text t) s.results s.table
+part_of-Column t s = rw (bound_of-Column t s) (column_part (name_at s.text t) s.results s.table)
 
 pub part_of-TableColumn : (t c : Token) (s : Scope) → part_of s (x.TableColumn t c) ≡ table_column_bound (name_at s.text t) (name_at s.text c) s.shown s.table
 part_of-TableColumn t c s = rw (bound_of-TableColumn t c s) (table_column_part (name_at s.text t) (name_at s.text c) s.shown s.table)

@@ -51,7 +51,7 @@ use Rattle.sql_meaning.specs.declared.bound.BoundExpr.{BoundExpr, fold-roll-Boun
 use Rattle.sql_meaning.specs.declared.bound.BoundExpr.TheVariants as e
 use Rattle.sql_meaning.specs.declared.bound.BoundMatch.{BoundMatch, roll-BoundMatch}
 use Rattle.sql_meaning.specs.declared.bound.Literal.{Literal}
-use Rattle.sql_meaning.specs.Binding.{◌>>=◌, Scope, Bound, Form, Plain, LeastMagnitude, Truth, Arm, all_in, option_in, bound_of, arm_bound, tree_of, chosen_arm, matched_arm, call_tree, tree_by, or_null, by_bytes, literal_bound, unary_bound, negative_bound, binary_bound, is_bound, not_bound, between_bound, like_bound, in_bound, collate_bound, cast_bound, call_bound, case_bound, affinity_of_type, builtin_named, collation_named, column_at, column_bound, column_found, column_place, dotted, first_collation, function_called, member_sides, parameter_bound, sides_of, table_column_bound, unknown_column}
+use Rattle.sql_meaning.specs.Binding.{◌>>=◌, Scope, Bound, Form, Plain, LeastMagnitude, Truth, Arm, all_in, option_in, bound_of, arm_bound, tree_of, chosen_arm, matched_arm, call_tree, tree_by, or_null, by_bytes, literal_bound, unary_bound, negative_bound, binary_bound, is_bound, not_bound, between_bound, like_bound, in_bound, collate_bound, cast_bound, call_bound, case_bound, affinity_of_type, builtin_named, collation_named, column_at, column_bound, column_found, column_or_none, column_place, dotted, first_collation, function_called, member_sides, parameter_bound, sides_of, table_column_bound, unknown_column}
 use Rattle.sql_meaning.specs.Sizes.{nodes_of, nodes_of_arm, nodes_of_match, all_nodes}
 
 -- ---- sizes, clause by clause
@@ -318,9 +318,13 @@ column_found_sized shown columns (Some place) b h =
     let is : column_at columns place ≡ b = cc in
     rw (← is) (unsplit_sized 1 (column_at columns place) refl (omega (arith, nodes-Column 0 place)))
 
-column_sized : (name : List ℕ) (table : Option TableEntry) (b : Bound) → column_bound name table ≡ Ok b → Sized 1 b
-column_sized name None b h = cc
-column_sized name (Some t) b h = column_found_sized name t.columns (column_place t.columns name) b h
+column_or_none_sized : (name : List ℕ) (results : List (List ℕ)) (columns : List Column) (place : Option ℕ) (b : Bound) → column_or_none name results columns place ≡ Ok b → Sized 1 b
+column_or_none_sized name results columns None b h = cc
+column_or_none_sized name results columns (Some place) b h = column_found_sized name columns (Some place) b h
+
+column_sized : (name : List ℕ) (results : List (List ℕ)) (table : Option TableEntry) (b : Bound) → column_bound name results table ≡ Ok b → Sized 1 b
+column_sized name results None b h = cc
+column_sized name results (Some t) b h = column_or_none_sized name results t.columns (column_place t.columns name) b h
 
 of_table_sized : (right : Bool) (shown : List ℕ) (columns : List Column) (place : Option ℕ) (b : Bound)
     → (if right then column_found shown columns place else unknown_column shown) ≡ Ok b → Sized 1 b
@@ -332,7 +336,7 @@ table_column_sized table name shown None b h = cc
 table_column_sized table name shown (Some t) b h = of_table_sized (is_same_name shown table) (dotted table name) t.columns (column_place t.columns name) b h
 
 column_case : (t : Token) → IsSized (x.Column t)
-column_case t s b h = rw (size-Column t) (column_sized (name_at s.text t) s.table b (sym (bound_of-Column t s) ∙ h))
+column_case t s b h = rw (size-Column t) (column_sized (name_at s.text t) s.results s.table b (sym (bound_of-Column t s) ∙ h))
 
 table_column_case : (t c : Token) → IsSized (x.TableColumn t c)
 table_column_case t c s b h = rw (size-TableColumn t c) (table_column_sized (name_at s.text t) (name_at s.text c) s.shown s.table b (sym (bound_of-TableColumn t c s) ∙ h))

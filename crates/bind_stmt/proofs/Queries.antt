@@ -8,14 +8,9 @@ use Rattle.sql_meaning.specs.declared.bound.BoundExpr.{BoundExpr}
 use Rattle.sql_meaning.specs.declared.bound.BoundSelect.{BoundSelect}
 use Rattle.sql_meaning.specs.declared.column.TableEntry.{TableEntry}
 use Rattle.sql_meaning.specs.Binding.{◌>>=◌, Scope}
-use Rattle.sql_meaning.specs.Statement.{bare_scope, conjuncts_of, from_scope, item_scope, items_from, query_in, results_behind, select_bound}
+use Rattle.sql_meaning.specs.Statement.{bare_scope, conjuncts_of, filter_scope, from_scope, item_scope, items_from, query_in, results_behind, select_bound}
 use Rattle.bind_stmt.specs.Binds.{AnswersBy, IsFrom, IsQueryAs}
 use Rattle.bind_stmt.proofs.Results.{goes_on}
-
--- a scope by its parts
-pub scope-is : (s : Scope) (text shown : List ℕ) (table : Option TableEntry) → s.text ≡ text → s.table ≡ table → s.shown ≡ shown → s ≡ record { text = text; table = table; shown = shown }
-scope-is s text shown table t e n =
-    ap (λ x. record { text = x; table = s.table; shown = s.shown }) t ∙ ap (λ y. record { text = text; table = y; shown = s.shown }) e ∙ ap (λ z. record { text = text; table = table; shown = z }) n
 
 -- without a FROM
 pub select-bare : (tables : List TableEntry) (text : List ℕ) (q : SelectLayer) (s : Scope) (r : Result BoundSelect Cause) → q.from ≡ [] → s ≡ bare_scope text → AnswersBy IsQueryAs (query_in s q) r → AnswersBy IsQueryAs (select_bound tables text q) r
@@ -35,7 +30,7 @@ pub from-option : (table : Option TableEntry) → IsFrom (items_from table) (opt
 from-option None = tt
 from-option (Some t) = (refl, refl)
 
-pub query_in-Ok : (s : Scope) (q : SelectLayer) (conjuncts results : List BoundExpr) → conjuncts_of s q.filter ≡ Ok conjuncts → results_behind s [] q.results ≡ Ok results → query_in s q ≡ Ok (record { from = items_from s.table; conjuncts = conjuncts; results = results })
+pub query_in-Ok : (s : Scope) (q : SelectLayer) (conjuncts results : List BoundExpr) → conjuncts_of (filter_scope s q.results) q.filter ≡ Ok conjuncts → results_behind s [] q.results ≡ Ok results → query_in s q ≡ Ok (record { from = items_from s.table; conjuncts = conjuncts; results = results })
 query_in-Ok s q conjuncts results filtered found =
-    goes_on (conjuncts_of s q.filter) conjuncts (λ conjuncts. results_behind s [] q.results >>= λ results. Ok (record { from = items_from s.table; conjuncts = conjuncts; results = results })) filtered
+    goes_on (conjuncts_of (filter_scope s q.results) q.filter) conjuncts (λ conjuncts. results_behind s [] q.results >>= λ results. Ok (record { from = items_from s.table; conjuncts = conjuncts; results = results })) filtered
     ∙ goes_on (results_behind s [] q.results) results (λ results. Ok (record { from = items_from s.table; conjuncts = conjuncts; results = results })) found

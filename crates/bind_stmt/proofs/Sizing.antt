@@ -37,7 +37,7 @@ use Rattle.sql_meaning.specs.declared.column.TableEntry.{TableEntry}
 use Rattle.sql_meaning.specs.Binding.{◌>>=◌, Scope, bound_of, in_turn}
 use Rattle.sql_meaning.specs.Sizes.{all_nodes, nodes_of}
 use Rattle.sql_meaning.specs.Spelled.{name_at}
-use Rattle.sql_meaning.specs.Statement.{all_columns, all_columns_of, bare_scope, columns_from, command_bound, conjuncts_of, created, dropped, entry_with, fitting, from_scope, is_free_name, items_from, part_bound, places_for, places_named, put_bound, put_from, query_in, result_of, result_shown, results_behind, row_of, rows_bound, rows_in, select_bound, table_named, trees_in, values_for, width_of}
+use Rattle.sql_meaning.specs.Statement.{all_columns, all_columns_of, bare_scope, columns_from, command_bound, conjuncts_of, created, dropped, entry_with, filter_scope, fitting, from_scope, is_free_name, items_from, part_bound, places_for, places_named, put_bound, put_from, query_in, result_of, result_shown, results_behind, row_of, rows_bound, rows_in, select_bound, table_named, trees_in, values_for, width_of}
 use Rattle.bind_expr.proofs.SizeLaws.{all_nodes-append, conjunct_nodes, nodes-Column, tree_nodes}
 use Rattle.bind_stmt.specs.declared.statement.Bound.{Bound}
 use Rattle.bind_stmt.specs.declared.statement.Bound.TheVariants as bound
@@ -183,7 +183,7 @@ select_small : (tables : List TableEntry) (text : List ℕ) (s : SelectLayer) (q
 select_small tables text s q b h is =
     let f = found (from_scope tables text s.from) (λ scope. query_in scope s) q h in
     let scope : Scope = f.0 in
-    let c = found (conjuncts_of scope s.filter) (λ conjuncts. results_behind scope [] s.results >>= λ rs. Ok (record { from = items_from scope.table; conjuncts = conjuncts; results = rs })) q f.2 in
+    let c = found (conjuncts_of (filter_scope scope s.results) s.filter) (λ conjuncts. results_behind scope [] s.results >>= λ rs. Ok (record { from = items_from scope.table; conjuncts = conjuncts; results = rs })) q f.2 in
     let r = found (results_behind scope [] s.results) (λ rs. Ok (record { from = items_from scope.table; conjuncts = c.0; results = rs })) q c.2 in
     let made : Query = record { from = items_from scope.table; conjuncts = c.0; results = r.0 } in
     let same : made ≡ q = same_Ok made q r.2 in
@@ -200,7 +200,7 @@ select_small tables text s q b h is =
       shown = total (map size_of_result s.results);
       stars = stars (columns_of scope.table) s.results;
       within = omega (arith, sized);
-      conjuncts = rw (← conjuncts) (filter_nodes scope s.filter c.0 c.1);
+      conjuncts = rw (← conjuncts) (filter_nodes (filter_scope scope s.results) s.filter c.0 c.1);
       hundred = stars_most;
       of_table = rw (← columns) (stars_of_table (columns_of scope.table) s.results stars_most);
       results = rw (← shows) (omega (arith, all.nodes));

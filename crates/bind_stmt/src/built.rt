@@ -1,7 +1,7 @@
 // Which statements are built.
 ghost use Rattle.std.specs.Prelude.{◌≡◌};
-ghost use Rattle.std.specs.List.{list_all, list_any};
-ghost use Rattle.sql_meaning.specs.Built.{are_built_rows, is_built, is_built_column, is_built_command, is_built_create, is_built_definition, is_built_filter, is_built_from, is_built_insert, is_built_item, is_built_part, is_built_query, is_built_result, is_built_rows, is_built_rows_source, is_built_select, is_built_source, is_built_table, is_built_values, is_built_row, is_plain_select, is_table, filters_by_names, has_alias, stands_alone};
+ghost use Rattle.std.specs.List.{list_all};
+ghost use Rattle.sql_meaning.specs.Built.{are_built_rows, is_built, is_built_column, is_built_command, is_built_create, is_built_definition, is_built_filter, is_built_from, is_built_insert, is_built_item, is_built_part, is_built_query, is_built_result, is_built_rows, is_built_rows_source, is_built_select, is_built_source, is_built_table, is_built_values, is_built_row, is_plain_select, is_table, stands_alone};
 ghost use Rattle.sql_tree.specs.Layers.{of_item, of_part, of_query, of_result, of_select, of_source};
 
 use bind_expr::is_built as is_built_expr;
@@ -117,7 +117,6 @@ fn is_built_select(text: &str, core: &SelectCore) -> bool
     ensures { result ≡ is_built_select text.now (of_select core.now) }
 {
     is_plain_select(core)
-        && !filters_by_names(core)
         && is_built_from(core.from.as_slice())
         && are_built_results(text, core.results.as_slice())
         && is_built_filter(text, &core.filter)
@@ -128,28 +127,6 @@ fn is_plain_select(core: &SelectCore) -> bool
     ensures { result ≡ is_plain_select (of_select core.now) }
 {
     !core.distinct && core.group_by.is_empty() && core.having.is_none()
-}
-
-/// Whether there is a WHERE in which the name of a result counts.
-fn filters_by_names(core: &SelectCore) -> bool
-    ensures { result ≡ filters_by_names (of_select core.now) }
-{
-    core.filter.is_some() && has_some_alias(core.results.as_slice())
-}
-
-fn has_some_alias(columns: &[ResultColumn]) -> bool
-    ensures { result ≡ list_any (λ r. has_alias (of_result r)) columns.now }
-{
-    columns.iter().any(|column| has_alias(column))
-}
-
-fn has_alias(column: &ResultColumn) -> bool
-    ensures { result ≡ has_alias (of_result column.now) }
-{
-    match column {
-        ResultColumn::Expression(_, name) => name.is_some(),
-        ResultColumn::All | ResultColumn::AllOf(_) => false,
-    }
 }
 
 fn is_built_from(items: &[FromItem]) -> bool

@@ -4,9 +4,9 @@ ghost use Rattle.std.specs.Option.{option_copied};
 ghost use Rattle.bind_stmt.specs.Binds.{Answers, AnswersBy, IsBound, IsQueryAs};
 ghost use Rattle.bind_stmt.specs.Steps.{Becomes, behind, expression_shown, listed, select_over, selected, shown_behind};
 ghost use Rattle.sql_meaning.specs.Spelled.{name_at};
-ghost use Rattle.sql_meaning.specs.Statement.{all_columns, all_columns_of, columns_from, conjuncts_of, part_bound, query_bound, query_in, result_of, results_behind, select_bound, shown_name, source_table};
+ghost use Rattle.sql_meaning.specs.Statement.{all_columns, all_columns_of, columns_from, conjuncts_of, filter_scope, name_given, names_given, part_bound, query_bound, query_in, result_of, results_behind, select_bound, shown_name, source_table};
 ghost use Rattle.sql_meaning.specs.declared.column.TableEntry.{TableEntry as Declared};
-ghost use Rattle.sql_tree.specs.Layers.{of_item, of_part, of_query, of_select, of_source};
+ghost use Rattle.sql_tree.specs.Layers.{of_item, of_part, of_query, of_result, of_select, of_source};
 
 use crate::statement::Bound;
 use crate::tables::{place_number, table_named};
@@ -73,7 +73,7 @@ fn bind_select(
     ensures { AnswersBy IsQueryAs (select_bound tables.now text.now (of_select core.now)) result }
 {
     match core.from.as_slice() {
-        [] => bind_core(alloc, &Scope::new(text, None, b""), core),
+        [] => bind_core(alloc, &Scope::new(text, None, b"", &[]), core),
         [item] => bind_from(alloc, tables, text, item, core),
         _ => Err(Cause::NotYet),
     }
@@ -91,7 +91,7 @@ fn bind_from(
 {
     let table = bind_source(alloc, tables, text, &item.source)?;
     let shown = shown_name(alloc, text, &item.alias, table)?;
-    let scope = Scope::new(text, Some(table), shown.as_bytes());
+    let scope = Scope::new(text, Some(table), shown.as_bytes(), &[]);
     bind_core(alloc, &scope, core)
 }
 
@@ -145,7 +145,7 @@ fn bind_table<'a>(
 fn bind_core(alloc: Global, scope: &Scope<'_>, core: &SelectCore) -> Result<BoundSelect, Cause>
     ensures { AnswersBy IsQueryAs (query_in scope.now (of_select core.now)) result }
 {
-    let conjuncts = bind_filter(alloc, scope, &core.filter)?;
+    let conjuncts = bind_filter(alloc, scope, core.results.as_slice(), &core.filter)?;
     let results = bind_results(alloc, scope, core.results.as_slice())?;
     Ok(BoundSelect {
         table: number_of(scope.table()),
@@ -164,21 +164,55 @@ fn number_of(table: Option<&TableEntry>) -> Option<u32>
     }
 }
 
-/// What each row has to pass.
+/// What each row has to pass: a WHERE, which sees the names of results.
 fn bind_filter(
     alloc: Global,
     scope: &Scope<'_>,
+    results: &[ResultColumn],
     filter: &Option<Expr>,
 ) -> Result<Items<BoundExpr>, Cause>
-    ensures { Answers (conjuncts_of scope.now filter.now) result }
+    ensures { Answers (conjuncts_of (filter_scope scope.now results.now) filter.now) result }
 {
     let mut conjuncts = Items::new(alloc);
     match filter {
         Some(filter) => {
-            bind_conjuncts(alloc, scope, filter, &mut conjuncts)?;
+            let names = names_given(alloc, scope.text(), results)?;
+            let names = names.as_slice();
+            let filtering = Scope::new(scope.text(), scope.table(), scope.shown(), names);
+            bind_conjuncts(alloc, &filtering, filter, &mut conjuncts)?;
             Ok(conjuncts)
         }
         None => Ok(conjuncts),
+    }
+}
+
+/// The names that results get.
+fn names_given(
+    alloc: Global,
+    text: &str,
+    results: &[ResultColumn],
+) -> Result<Items<Text>, AllocError>
+    ensures { IfOk result (λ names. names ≡ names_given text.now results.now) }
+{
+    let mut names = Items::new(alloc);
+    for column in results {
+        add_name(alloc, text, column, &mut names)?;
+    }
+    Ok(names)
+}
+
+/// The name that a result gets, if any, behind others.
+fn add_name(
+    alloc: Global,
+    text: &str,
+    column: &ResultColumn,
+    names: &mut Items<Text>,
+) -> Result<(), AllocError>
+    ensures { OnOk result (names.new ≡ names.old ++ name_given text.now (of_result column.now)) }
+{
+    match column {
+        ResultColumn::Expression(_, Some(token)) => names.push(name(alloc, text, token)?),
+        _ => Ok(()),
     }
 }
 

@@ -36,7 +36,7 @@ fn bind_row(
 ) -> Result<Items<BoundExpr>, Cause>
     ensures { Answers (row_of text.now width row.now) result }
 {
-    let scope = Scope::new(text, None, b"");
+    let scope = Scope::new(text, None, b"", &[]);
     let values = bind_values(alloc, &scope, row)?;
     if values.len() > MAX_COLUMNS {
         return Err(Cause::Limit(LimitKind::Columns));

@@ -47,6 +47,7 @@ use Rattle.sql_meaning.specs.declared.builtins.ArgumentCount.TheVariants as coun
 use Rattle.sql_meaning.specs.declared.builtins.TheConstants.{BUILTINS}
 use Rattle.sql_meaning.specs.declared.column.Column.{Column}
 use Rattle.eng_entry.specs.Names.{is_same_name}
+use Rattle.sql_meaning.specs.Names.{is_named_in}
 use Rattle.sql_meaning.specs.Spelled.{name_at, literal_at, is_least_magnitude}
 use Rattle.sql_meaning.specs.declared.column.TableEntry.{TableEntry}
 
@@ -64,11 +65,12 @@ in_turn f (a ∷ rest) = f a >>= λ b. in_turn f rest >>= λ bs. Ok (b ∷ bs)
 
 -- ---- what names are looked up in
 
--- the statement's text, the table of its FROM, and the name by which that is called there
+-- the statement's text, the table of its FROM, the name by which that is called there, and the names of results
 pub record Scope : Type 0 where
   pub text : List ℕ
   pub table : Option TableEntry
   pub shown : List ℕ
+  pub results : List (List ℕ)
 
 -- ---- bound expressions
 
@@ -153,9 +155,18 @@ column_found shown columns (Some place) = Ok (column_at columns place)
 abbrev pub column_in : List ℕ → List Column → List ℕ → Result Bound Cause
 column_in shown columns name = column_found shown columns (column_place columns name)
 
-abbrev pub column_bound : List ℕ → Option TableEntry → Result Bound Cause
-column_bound name None = unknown_column name
-column_bound name (Some t) = column_in name t.columns name
+-- why no column of the table is meant: a name of a result is not built yet
+abbrev pub no_column : List ℕ → List (List ℕ) → Cause
+no_column name results = if is_named_in results name then cause.NotYet else cause.Unknown named.Column name
+
+abbrev pub column_or_none : List ℕ → List (List ℕ) → List Column → Option ℕ → Result Bound Cause
+column_or_none name results columns None = Err (no_column name results)
+column_or_none name results columns (Some place) = Ok (column_at columns place)
+
+-- a column of the table comes before a result of its name
+abbrev pub column_bound : List ℕ → List (List ℕ) → Option TableEntry → Result Bound Cause
+column_bound name results None = Err (no_column name results)
+column_bound name results (Some t) = column_or_none name results t.columns (column_place t.columns name)
 
 abbrev pub dotted : List ℕ → List ℕ → List ℕ
 dotted table name = table ++ codes "." ++ name
@@ -371,7 +382,7 @@ option_in s (Some part) = part s >>= λ b. Ok (Some b)
 abbrev pub bind_step : ExprStep Binding ArmBinding → Binding
 bind_step (Expr-F.Literal t) s = Ok (literal_bound s.text t)
 bind_step (Expr-F.Parameter t) s = Ok (parameter_bound t)
-bind_step (Expr-F.Column t) s = column_bound (name_at s.text t) s.table
+bind_step (Expr-F.Column t) s = column_bound (name_at s.text t) s.results s.table
 bind_step (Expr-F.TableColumn t c) s = table_column_bound (name_at s.text t) (name_at s.text c) s.shown s.table
 bind_step (Expr-F.Unary o a) s = a s >>= λ x. Ok (unary_bound o x)
 bind_step (Expr-F.Binary o a b) s = a s >>= λ x. b s >>= λ y. Ok (binary_bound o x y)

@@ -12,7 +12,7 @@ use Rattle.sql_meaning.specs.Binding.{◌>>=◌, Scope, bound_of, literal_bound,
 pub bound_of-Literal : (t : Token) (s : Scope) → bound_of (e.Literal t) s ≡ Ok (literal_bound s.text t)
 bound_of-Literal t s = search (rules, the_lemmas)
 
-pub bound_of-Column : (t : Token) (s : Scope) → bound_of (e.Column t) s ≡ column_bound (name_at s.text t) s.table
+pub bound_of-Column : (t : Token) (s : Scope) → bound_of (e.Column t) s ≡ column_bound (name_at s.text t) s.results s.table
 bound_of-Column t s = search (rules, the_lemmas)
 
 pub bound_of-Unary : (o : UnaryOp) (a : Expr) (s : Scope) → bound_of (e.Unary o a) s ≡ (bound_of a s >>= λ x. Ok (unary_bound o x))

@@ -1,7 +1,7 @@
 -- Which statements are built: CREATE TABLE with names and types of columns, DROP TABLE, INSERT of rows of values, VALUES, SELECT of
 -- expressions from one table or none, and PRAGMA. What any other holds does not run yet.
 use Rattle.std.specs.Prelude.{ℕ, nat_eq, Bool, true, false, not, ◌&&◌, ◌||◌, List, [], ◌∷◌, length, Option, Some, None, is_some, codes}
-use Rattle.std.specs.List.{list_all, list_any}
+use Rattle.std.specs.List.{list_all}
 use Rattle.sql_tree.specs.declared.expr.Arguments.{Arguments}
 use Rattle.sql_tree.specs.declared.expr.Arguments.TheVariants as arguments
 use Rattle.sql_tree.specs.Folds.{ExprStep, ArmStep, fold_expr, fold_arm}
@@ -136,17 +136,9 @@ is_built_from (item ∷ other ∷ items) = false
 abbrev pub is_plain_select : SelectLayer → Bool
 is_plain_select s = not s.distinct && is_empty s.group_by && not (is_some s.having)
 
-abbrev pub has_alias : ResultLayer → Bool
-has_alias (ResultColumn-F.Expression x name) = is_some name
-has_alias other = false
-
--- a WHERE, in which the name of a result counts
-abbrev pub filters_by_names : SelectLayer → Bool
-filters_by_names s = is_some s.filter && list_any (λ r. has_alias (of_result r)) s.results
-
 abbrev pub is_built_select : List ℕ → SelectLayer → Bool
 is_built_select text s =
-    is_plain_select s && not (filters_by_names s) && is_built_from s.from && list_all (is_built_result text) s.results && is_built_filter text s.filter
+    is_plain_select s && is_built_from s.from && list_all (is_built_result text) s.results && is_built_filter text s.filter
 
 abbrev pub is_built_row : List ℕ → List Expr → Bool
 is_built_row text row = list_all (λ x. is_built_expr x text) row

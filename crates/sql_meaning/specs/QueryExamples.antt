@@ -23,7 +23,7 @@ abbrev number_at : Token
 number_at = record { kind = kind.Number; span = record { start = 1; end = 20 }; parameter = None }
 
 abbrev without_table : Scope
-without_table = record { text = codes "-9223372036854775808"; table = None; shown = [] }
+without_table = record { text = codes "-9223372036854775808"; table = None; shown = []; results = [] }
 
 the_least_integer : bound_of (e.Unary sign.Negative (e.Literal number_at)) without_table ≡ Ok (over [] (bound.Literal (literal.Value (value.Integer (negsuc 9223372036854775807)))))
 the_least_integer = rw (bound_of-Unary, bound_of-Literal) refl

@@ -206,17 +206,30 @@ shown_name text (Some alias) t = name_at text alias
 
 abbrev pub item_scope : List TableEntry → List ℕ → ItemLayer → Result Scope Cause
 item_scope tables text item =
-    source_table tables text (of_source item.source) >>= λ t. Ok (record { text = text; table = Some t; shown = shown_name text item.alias t })
+    source_table tables text (of_source item.source) >>= λ t. Ok (record { text = text; table = Some t; shown = shown_name text item.alias t; results = [] })
 
 -- what expressions without a table see
 abbrev pub bare_scope : List ℕ → Scope
-bare_scope text = record { text = text; table = None; shown = [] }
+bare_scope text = record { text = text; table = None; shown = []; results = [] }
 
 -- the table of a FROM; no second item is built
 abbrev pub from_scope : List TableEntry → List ℕ → List SyntaxItem → Result Scope Cause
 from_scope tables text [] = Ok (bare_scope text)
 from_scope tables text (item ∷ []) = item_scope tables text (of_item item)
 from_scope tables text (item ∷ other ∷ items) = Err cause.NotYet
+
+abbrev pub name_given : List ℕ → ResultLayer → List (List ℕ)
+name_given text (ResultColumn-F.Expression x (Some name)) = name_at text name ∷ []
+name_given text other = []
+
+-- the names that results get
+abbrev pub names_given : List ℕ → List ResultColumn → List (List ℕ)
+names_given text [] = []
+names_given text (r ∷ rs) = name_given text (of_result r) ++ names_given text rs
+
+-- a WHERE sees them
+abbrev pub filter_scope : Scope → List ResultColumn → Scope
+filter_scope s rs = record s { results = names_given s.text rs }
 
 abbrev pub conjuncts_of : Scope → Option Expr → Result (List BoundExpr) Cause
 conjuncts_of s None = Ok []
@@ -256,7 +269,7 @@ items_from (Some t) = record { table = t; ignored = [] } ∷ []
 
 abbrev pub query_in : Scope → SelectLayer → Result Query Cause
 query_in s q =
-    conjuncts_of s q.filter >>= λ conjuncts. results_behind s [] q.results >>= λ results.
+    conjuncts_of (filter_scope s q.results) q.filter >>= λ conjuncts. results_behind s [] q.results >>= λ results.
     Ok (record { from = items_from s.table; conjuncts = conjuncts; results = results })
 
 abbrev pub select_bound : List TableEntry → List ℕ → SelectLayer → Result Query Cause
