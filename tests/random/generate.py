@@ -182,7 +182,8 @@ class TableWriter:
             lambda: "*", lambda: "%s.*" % self.r.choice([shown, shown, name]), lambda: "%s.%s" % (shown, self.r.choice(self.there(name))),
             lambda: writer.expr(self.r.randrange(3)) + self.r.choice(["", " AS y", " y", ' "a"']),
         ])() for i in range(self.r.randrange(1, 4))]
-        return "SELECT %s FROM %s%s" % (", ".join(results), name, alias)
+        where = " WHERE " + Writer(self.r, self.there(name) * 3 + ["y"]).expr(self.r.randrange(3)) if self.r.random() < 0.5 else ""
+        return "SELECT %s FROM %s%s%s" % (", ".join(results), name, alias, where)
 
     def pragma(self):
         return self.r.choice(["PRAGMA foreign_keys=OFF", "PRAGMA Foreign_Keys(off)", "PRAGMA foreign_keys=yes", "PRAGMA other"])

@@ -11,6 +11,8 @@ from values import *
 
 RESERVED = set("""ALL AND AS BETWEEN CASE CAST COLLATE CREATE DEFAULT DISTINCT DROP ELSE END ESCAPE EXISTS FROM GLOB IF IN INSERT INTO IS ISNULL
 LIKE NOT NOTNULL NULL OR SELECT TABLE THEN TRUE FALSE VALUES WHEN WHERE FILTER RAISE""".split())
+# What may stand in front of a result's name: AS, or the end of an expression.
+ENDS = {"AS", "word", "name", "number", "text", "blob", ")", "END", "NULL", "TRUE", "FALSE", "ISNULL", "NOTNULL"}
 MAX_COLUMNS = 100
 TOKEN = re.compile(r"""\s+|(?P<text>'(?:[^']|'')*')|(?P<blob>[xX]'[0-9a-fA-F]*')|(?P<name>"(?:[^"]|"")*"|`(?:[^`]|``)*`|\[[^\]]*\])
 |(?P<word>(?:[A-Za-z_]|[^\x00-\x7f])(?:[A-Za-z0-9_]|[^\x00-\x7f])*)|(?P<number>0[xX][0-9a-fA-F]+|(?:[0-9]+(?:\.[0-9]*)?|\.[0-9]+)(?:[eE][+-]?[0-9]+)?)
@@ -119,7 +121,7 @@ class Parser:
     left to right."""
 
     def __init__(self, tokens):
-        self.tokens, self.at, self.table, self.shown = tokens, 0, None, None
+        self.tokens, self.at, self.table, self.shown, self.given = tokens, 0, None, None, []
 
     def kind(self, ahead=0):
         return self.tokens[self.at + ahead][0] if self.at + ahead < len(self.tokens) else "end"
@@ -369,6 +371,8 @@ class Parser:
                 found = Bound(lambda row: row[place], affinity=column[1])
                 found.column = "BINARY"
                 return found
+        if table is None and any(same(n, name) for n in self.given):
+            raise NotYet
         raise Refused("1: no such column: " + shown)
 
     def call(self, name):
@@ -551,15 +555,21 @@ class Connection:
     def select(self, p):
         """Names are bound in the order FROM, WHERE, results; the text has the results first."""
         p.expect("SELECT")
-        start, depth = p.at, 0
+        start, depth, first, names = p.at, 0, p.at, []
         while p.kind() != "end" and not (depth == 0 and p.kind() in ("FROM", "WHERE") and p.kind(-1) != "DISTINCT"):
             kind = p.next()[0]
             depth += {"(": 1, "CASE": 1, ")": -1, "END": -1}.get(kind, 0)
+            if depth == 0 and kind == ",":
+                first = p.at
+            elif depth == 0 and kind in ("word", "name") and p.at - 1 > first and p.kind(-2) in ENDS:
+                names.append(name_of(p.tokens[p.at - 1]))
         behind = p.at
         if p.takes("FROM"):
             p.table = self.table(p.name())
             p.shown = p.alias() or p.table.name
+        p.given = names
         conjuncts = p.expr().conjuncts if p.takes("WHERE") else []
+        p.given = []
         if p.kind() != "end":
             raise NotYet
         end, p.at = p.at, start
