@@ -182,8 +182,13 @@ class TableWriter:
             lambda: "*", lambda: "%s.*" % self.r.choice([shown, shown, name]), lambda: "%s.%s" % (shown, self.r.choice(self.there(name))),
             lambda: writer.expr(self.r.randrange(3)) + self.r.choice(["", " AS y", " y", ' "a"']),
         ])() for i in range(self.r.randrange(1, 4))]
-        where = " WHERE " + Writer(self.r, self.there(name) * 3 + ["y"]).expr(self.r.randrange(3)) if self.r.random() < 0.5 else ""
+        where = " WHERE " + self.condition(name, results) if self.r.random() < 0.5 else ""
         return "SELECT %s FROM %s%s%s" % (", ".join(results), name, alias, where)
+
+    def condition(self, name, results):
+        """Over columns, and mostly the name of a result where one is there."""
+        given = ["y"] * 6 if any(result.endswith(" y") for result in results) else ["y"]
+        return Writer(self.r, self.there(name) * 3 + given).expr(self.r.randrange(3))
 
     def pragma(self):
         return self.r.choice(["PRAGMA foreign_keys=OFF", "PRAGMA Foreign_Keys(off)", "PRAGMA foreign_keys=yes", "PRAGMA other"])

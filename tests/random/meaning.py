@@ -371,9 +371,19 @@ class Parser:
                 found = Bound(lambda row: row[place], affinity=column[1])
                 found.column = "BINARY"
                 return found
-        if table is None and any(same(n, name) for n in self.given):
-            raise NotYet
-        raise Refused("1: no such column: " + shown)
+        result = next((at for given, at in self.given if table is None and same(given, name)), None)
+        if result is None:
+            raise Refused("1: no such column: " + shown)
+        return self.result_at(result)
+
+    def result_at(self, at):
+        """The expression of a result, which sees no names of results; it is one condition."""
+        given, behind = self.given, self.at
+        self.given, self.at = [], at
+        found = self.expr()
+        found.conjuncts = [found.value]
+        self.given, self.at = given, behind
+        return found
 
     def call(self, name):
         """A function's own refusals come before those of its arguments."""
@@ -562,7 +572,7 @@ class Connection:
             if depth == 0 and kind == ",":
                 first = p.at
             elif depth == 0 and kind in ("word", "name") and p.at - 1 > first and p.kind(-2) in ENDS:
-                names.append(name_of(p.tokens[p.at - 1]))
+                names.append((name_of(p.tokens[p.at - 1]), first))
         behind = p.at
         if p.takes("FROM"):
             p.table = self.table(p.name())

@@ -1,5 +1,6 @@
 -- Binding, step by step, of expressions that are not split.
 use Rattle.std.specs.Prelude.{if◌then◌else◌, ◌≡◌, ℕ, Bool, true, false, List, [], ◌∷◌, map, length, Option, Some, None, Result, Ok, Err, refl}
+use Rattle.std.specs.List.{find}
 use Rattle.std.specs.Option.{option_map}
 use Rattle.std.proofs.Common.{ap, sym, ◌∙◌, append_assoc, append-nil}
 use Rattle.eng_value.specs.declared.collation.Collation.{Collation}
@@ -19,13 +20,13 @@ use Rattle.sql_tree.specs.declared.token.Token.{Token}
 use Rattle.sql_meaning.specs.declared.bound.BoundArm.{BoundArm}
 use Rattle.sql_meaning.specs.declared.bound.BoundExpr.{BoundExpr}
 use Rattle.sql_meaning.specs.declared.bound.BoundMatch.{BoundMatch}
-use Rattle.sql_meaning.specs.Binding.{◌>>=◌, in_turn, Scope, Bound, Form, Plain, LeastMagnitude, Truth, Arm, all_in, option_in, option_list, bound_of, arm_bound, arm_parts, first_collation, first_explicit, tree_of, chosen_arm, matched_arm, literal_bound, parameter_bound, column_bound, column_found, column_or_none, column_place, table_column_bound, unary_bound, negative_bound, binary_bound, is_bound, not_bound, unknown_column, dotted, between_bound, like_bound, in_bound, collate_bound, collation_named, cast_bound, affinity_of_type, function_called, builtin_named, call_bound, case_bound}
+use Rattle.sql_meaning.specs.Binding.{◌>>=◌, in_turn, Scope, Bound, Form, Plain, LeastMagnitude, Truth, Arm, all_in, option_in, option_list, bound_of, arm_bound, arm_parts, first_collation, first_explicit, tree_of, chosen_arm, matched_arm, literal_bound, parameter_bound, column_bound, column_found, column_or_result, result_found, result_named, NamedResult, column_place, table_column_bound, unary_bound, negative_bound, binary_bound, is_bound, not_bound, unknown_column, dotted, between_bound, like_bound, in_bound, collate_bound, collation_named, cast_bound, affinity_of_type, function_called, builtin_named, call_bound, case_bound, unsplit}
 use Rattle.eng_entry.specs.Names.{is_same_name}
 use Rattle.sql_meaning.specs.Spelled.{name_at}
 use Rattle.bind_expr.specs.declared.groups.Group.{Group}
 use Rattle.bind_expr.specs.Gathers.{part_of, option_part, arm_in, operand, operand_of, operands_of, choice, choice_of, choices_of, matching, match_of, matches_of, call_part, case_part}
 use Rattle.bind_expr.specs.Groups.{empty, beside, gathered, explicit_of, in_group, call_group, choose_group, match_group}
-use Rattle.bind_expr.specs.Parts.{part_in, unsplit}
+use Rattle.bind_expr.specs.Parts.{part_in}
 use Rattle.bind_expr.proofs.Clauses.{bound_of-Literal, bound_of-Parameter, bound_of-Column, bound_of-TableColumn, bound_of-Unary, bound_of-Binary, bound_of-Between, bound_of-Like, bound_of-In, bound_of-Collate, bound_of-Cast, bound_of-Call, bound_of-Case, bound_of-InQuery, bound_of-Subquery, bound_of-Exists, bound_of-RaiseIgnore, bound_of-RaiseAbort}
 use Rattle.bind_expr.proofs.Collations.{or_else-none, or_else-assoc, first_explicit-append}
 
@@ -54,13 +55,24 @@ column_found_part : (shown : List ℕ) (columns : List _) (place : Option ℕ) �
 column_found_part shown columns None = refl
 column_found_part shown columns (Some place) = refl
 
-column_or_none_part : (name : List ℕ) (results : List (List ℕ)) (columns : List _) (place : Option ℕ) → part_in (column_or_none name results columns place) ≡ column_or_none name results columns place
-column_or_none_part name results columns None = refl
-column_or_none_part name results columns (Some place) = refl
+result_found_part : (name : List ℕ) (r : Option NamedResult) → part_in (result_found name r) ≡ result_found name r
+result_found_part name None = refl
+result_found_part name (Some r) = by r.bound
+  where
+    by : (bound : Result Bound Cause) → part_in (part_in bound) ≡ part_in bound
+    by (Ok b) = refl
+    by (Err why) = refl
 
-pub column_part : (name : List ℕ) (results : List (List ℕ)) (table : Option _) → part_in (column_bound name results table) ≡ column_bound name results table
-column_part name results None = refl
-column_part name results (Some t) = column_or_none_part name results t.columns (column_place t.columns name)
+result_named_part : (name : List ℕ) (results : List NamedResult) → part_in (result_named name results) ≡ result_named name results
+result_named_part name results = result_found_part name (find (λ (r : NamedResult). is_same_name r.name name) results)
+
+column_or_result_part : (name : List ℕ) (results : List NamedResult) (columns : List _) (place : Option ℕ) → part_in (column_or_result name results columns place) ≡ column_or_result name results columns place
+column_or_result_part name results columns None = result_named_part name results
+column_or_result_part name results columns (Some place) = refl
+
+pub column_part : (name : List ℕ) (results : List NamedResult) (table : Option _) → part_in (column_bound name results table) ≡ column_bound name results table
+column_part name results None = result_named_part name results
+column_part name results (Some t) = column_or_result_part name results t.columns (column_place t.columns name)
 
 of_table : (right : Bool) (shown : List ℕ) (columns : List _) (place : Option ℕ)
     → part_in (if right then column_found shown columns place else unknown_column shown) ≡ (if right then column_found shown columns place else unknown_column shown)

@@ -1,4 +1,5 @@
--- A bound expression is at most twice as large as the tree that it is bound from, and what it is split into four times.
+-- A bound expression is at most twice as large as the tree that it is bound from, and what it is split into four times, where no result
+-- has a name.
 use Rattle.std.proofs.Common.{rules, arith, subst, ◌≡◌, ℕ, true, false, if◌then◌else◌, unwrap_or, ◌+◌, ◌*◌, ◌≤◌, Bool, List, [], ◌∷◌, ◌++◌, map, length, Option, Some, None, Result, Ok, Err, IfOk, refl, sym, ap, ◌∙◌}
 use Rattle.std.specs.Option.{option_map}
 use Rattle.eng_value.specs.Functions.{FunctionKind, FirstKnown, Choice, ByKeys, OfText, OfValues, kind_of}
@@ -16,7 +17,7 @@ use Rattle.sql_meaning.specs.declared.column.TableEntry.{TableEntry}
 use Rattle.eng_entry.specs.Names.{is_same_name}
 use Rattle.sql_meaning.specs.Spelled.{name_at, literal_at}
 use Rattle.bind_expr.specs.declared.part.BoundPart.{BoundPart}
-use Rattle.bind_expr.specs.Parts.{part_in, unsplit, whole, Binds}
+use Rattle.bind_expr.specs.Parts.{part_in, whole, Binds}
 use Rattle.bind_expr.proofs.Clauses.{bound_of-Literal, bound_of-Parameter, bound_of-Column, bound_of-TableColumn, bound_of-Unary, bound_of-Binary, bound_of-Between, bound_of-Like, bound_of-In, bound_of-Collate, bound_of-Cast, bound_of-Call, bound_of-Case, bound_of-InQuery, bound_of-Subquery, bound_of-Exists, bound_of-RaiseIgnore, bound_of-RaiseAbort, arm_bound-is}
 use Rattle.eng_value.specs.declared.operators.BinaryOperator.{BinaryOperator}
 use Rattle.eng_value.specs.declared.operators.Sides.{Sides}
@@ -51,7 +52,7 @@ use Rattle.sql_meaning.specs.declared.bound.BoundExpr.{BoundExpr, fold-roll-Boun
 use Rattle.sql_meaning.specs.declared.bound.BoundExpr.TheVariants as e
 use Rattle.sql_meaning.specs.declared.bound.BoundMatch.{BoundMatch, roll-BoundMatch}
 use Rattle.sql_meaning.specs.declared.bound.Literal.{Literal}
-use Rattle.sql_meaning.specs.Binding.{◌>>=◌, Scope, Bound, Form, Plain, LeastMagnitude, Truth, Arm, all_in, option_in, bound_of, arm_bound, tree_of, chosen_arm, matched_arm, call_tree, tree_by, or_null, by_bytes, literal_bound, unary_bound, negative_bound, binary_bound, is_bound, not_bound, between_bound, like_bound, in_bound, collate_bound, cast_bound, call_bound, case_bound, affinity_of_type, builtin_named, collation_named, column_at, column_bound, column_found, column_or_none, column_place, dotted, first_collation, function_called, member_sides, parameter_bound, sides_of, table_column_bound, unknown_column}
+use Rattle.sql_meaning.specs.Binding.{◌>>=◌, Scope, Bound, Form, Plain, LeastMagnitude, Truth, Arm, all_in, option_in, bound_of, arm_bound, tree_of, chosen_arm, matched_arm, call_tree, tree_by, or_null, by_bytes, literal_bound, unary_bound, negative_bound, binary_bound, is_bound, not_bound, between_bound, like_bound, in_bound, collate_bound, cast_bound, call_bound, case_bound, affinity_of_type, builtin_named, collation_named, column_at, column_bound, column_found, column_or_result, column_place, dotted, first_collation, function_called, member_sides, parameter_bound, sides_of, table_column_bound, unknown_column, unsplit}
 use Rattle.sql_meaning.specs.Sizes.{nodes_of, nodes_of_arm, nodes_of_match, all_nodes}
 
 -- ---- sizes, clause by clause
@@ -289,248 +290,251 @@ case_sized n m l None arms otherwise h k j =
 case_sized n m l (Some a) arms otherwise h k j =
     unsplit_sized (2 + n + m + l) _ refl (omega (arith, h, k, j, nodes-Match a.tree (map (matched_arm a) arms) (or_null otherwise), matched_nodes a arms, null_nodes otherwise))
 
--- ---- whatever is in scope
-
-abbrev pub IsSized : Expr → Type 0
-IsSized e = (s : Scope) (b : Bound) → bound_of e s ≡ Ok b → Sized (size_of e) b
-
-abbrev pub IsArmSized : SyntaxArm → Type 0
-IsArmSized arm = (s : Scope) (a : Arm) → arm_bound arm s ≡ Ok a → 1 + nodes_of a.condition.tree + nodes_of a.value.tree ≤ 2 * size_of_arm arm
-
 -- what was found on the way
 found : {A B E : Type 0} (r : Result A E) (f : A → Result B E) (b : B) → (r >>= f) ≡ Ok b → (a : A) × (r ≡ Ok a) × (f a ≡ Ok b)
 found (Ok a) f b h = (a, refl, h)
 found (Err why) f b h = cc
 
-literal_case : (t : Token) → IsSized (x.Literal t)
-literal_case t s b h =
-    let is : literal_bound s.text t ≡ b = let e = sym (bound_of-Literal t s) ∙ h in cc in
-    rw (← is, size-Literal t) (unsplit_sized 1 (literal_bound s.text t) refl (omega (arith, nodes-Literal (literal_at s.text t))))
+-- ---- where no result has a name
 
-parameter_case : (t : Token) → IsSized (x.Parameter t)
-parameter_case t s b h =
-    let is : parameter_bound t ≡ b = let e = sym (bound_of-Parameter t s) ∙ h in cc in
-    rw (← is, size-Parameter t) (unsplit_sized 1 (parameter_bound t) refl (omega (arith, nodes-Parameter (unwrap_or t.parameter 0))))
+module _ (s : Scope) (bare : s.results ≡ []) where
+  abbrev pub IsSized : Expr → Type 0
+  IsSized e = (b : Bound) → bound_of e s ≡ Ok b → Sized (size_of e) b
 
-column_found_sized : (shown : List ℕ) (columns : List Column) (place : Option ℕ) (b : Bound) → column_found shown columns place ≡ Ok b → Sized 1 b
-column_found_sized shown columns None b h = cc
-column_found_sized shown columns (Some place) b h =
-    let is : column_at columns place ≡ b = cc in
-    rw (← is) (unsplit_sized 1 (column_at columns place) refl (omega (arith, nodes-Column 0 place)))
+  abbrev pub IsArmSized : SyntaxArm → Type 0
+  IsArmSized arm = (a : Arm) → arm_bound arm s ≡ Ok a → 1 + nodes_of a.condition.tree + nodes_of a.value.tree ≤ 2 * size_of_arm arm
 
-column_or_none_sized : (name : List ℕ) (results : List (List ℕ)) (columns : List Column) (place : Option ℕ) (b : Bound) → column_or_none name results columns place ≡ Ok b → Sized 1 b
-column_or_none_sized name results columns None b h = cc
-column_or_none_sized name results columns (Some place) b h = column_found_sized name columns (Some place) b h
+  literal_case : (t : Token) → IsSized (x.Literal t)
+  literal_case t b h =
+      let is : literal_bound s.text t ≡ b = let e = sym (bound_of-Literal t s) ∙ h in cc in
+      rw (← is, size-Literal t) (unsplit_sized 1 (literal_bound s.text t) refl (omega (arith, nodes-Literal (literal_at s.text t))))
 
-column_sized : (name : List ℕ) (results : List (List ℕ)) (table : Option TableEntry) (b : Bound) → column_bound name results table ≡ Ok b → Sized 1 b
-column_sized name results None b h = cc
-column_sized name results (Some t) b h = column_or_none_sized name results t.columns (column_place t.columns name) b h
+  parameter_case : (t : Token) → IsSized (x.Parameter t)
+  parameter_case t b h =
+      let is : parameter_bound t ≡ b = let e = sym (bound_of-Parameter t s) ∙ h in cc in
+      rw (← is, size-Parameter t) (unsplit_sized 1 (parameter_bound t) refl (omega (arith, nodes-Parameter (unwrap_or t.parameter 0))))
 
-of_table_sized : (right : Bool) (shown : List ℕ) (columns : List Column) (place : Option ℕ) (b : Bound)
-    → (if right then column_found shown columns place else unknown_column shown) ≡ Ok b → Sized 1 b
-of_table_sized true shown columns place b h = column_found_sized shown columns place b h
-of_table_sized false shown columns place b h = cc
+  column_found_sized : (shown : List ℕ) (columns : List Column) (place : Option ℕ) (b : Bound) → column_found shown columns place ≡ Ok b → Sized 1 b
+  column_found_sized shown columns None b h = cc
+  column_found_sized shown columns (Some place) b h =
+      let is : column_at columns place ≡ b = cc in
+      rw (← is) (unsplit_sized 1 (column_at columns place) refl (omega (arith, nodes-Column 0 place)))
 
-table_column_sized : (table name shown : List ℕ) (entry : Option TableEntry) (b : Bound) → table_column_bound table name shown entry ≡ Ok b → Sized 1 b
-table_column_sized table name shown None b h = cc
-table_column_sized table name shown (Some t) b h = of_table_sized (is_same_name shown table) (dotted table name) t.columns (column_place t.columns name) b h
+  column_or_result_sized : (name : List ℕ) (columns : List Column) (place : Option ℕ) (b : Bound) → column_or_result name [] columns place ≡ Ok b → Sized 1 b
+  column_or_result_sized name columns None b h = cc
+  column_or_result_sized name columns (Some place) b h = column_found_sized name columns (Some place) b h
 
-column_case : (t : Token) → IsSized (x.Column t)
-column_case t s b h = rw (size-Column t) (column_sized (name_at s.text t) s.results s.table b (sym (bound_of-Column t s) ∙ h))
+  column_sized : (name : List ℕ) (table : Option TableEntry) (b : Bound) → column_bound name [] table ≡ Ok b → Sized 1 b
+  column_sized name None b h = cc
+  column_sized name (Some t) b h = column_or_result_sized name t.columns (column_place t.columns name) b h
 
-table_column_case : (t c : Token) → IsSized (x.TableColumn t c)
-table_column_case t c s b h = rw (size-TableColumn t c) (table_column_sized (name_at s.text t) (name_at s.text c) s.shown s.table b (sym (bound_of-TableColumn t c s) ∙ h))
+  of_table_sized : (right : Bool) (shown : List ℕ) (columns : List Column) (place : Option ℕ) (b : Bound)
+      → (if right then column_found shown columns place else unknown_column shown) ≡ Ok b → Sized 1 b
+  of_table_sized true shown columns place b h = column_found_sized shown columns place b h
+  of_table_sized false shown columns place b h = cc
 
-unary_case : (o : UnaryOp) (a : Expr) → IsSized a → IsSized (x.Unary o a)
-unary_case o a ha s b h =
-    let w = found (bound_of a s) (λ x. Ok (unary_bound o x)) b (sym (bound_of-Unary o a s) ∙ h) in
-    let is : unary_bound o w.0 ≡ b = let e = w.2 in cc in
-    rw (← is, size-Unary o a) (unary_sized o (size_of a) w.0 (ha s w.0 w.1))
+  table_column_sized : (table name shown : List ℕ) (entry : Option TableEntry) (b : Bound) → table_column_bound table name shown entry ≡ Ok b → Sized 1 b
+  table_column_sized table name shown None b h = cc
+  table_column_sized table name shown (Some t) b h = of_table_sized (is_same_name shown table) (dotted table name) t.columns (column_place t.columns name) b h
 
-binary_case : (o : BinaryOp) (a b : Expr) → IsSized a → IsSized b → IsSized (x.Binary o a b)
-binary_case o a b ha hb s r h =
-    let w = found (bound_of a s) (λ x. bound_of b s >>= λ y. Ok (binary_bound o x y)) r (sym (bound_of-Binary o a b s) ∙ h) in
-    let v = found (bound_of b s) (λ y. Ok (binary_bound o w.0 y)) r w.2 in
-    let is : binary_bound o w.0 v.0 ≡ r = let e = v.2 in cc in
-    rw (← is, size-Binary o a b) (binary_sized o (size_of a) (size_of b) w.0 v.0 (ha s w.0 w.1) (hb s v.0 v.1))
+  column_case : (t : Token) → IsSized (x.Column t)
+  column_case t b h =
+      let is : column_bound (name_at s.text t) [] s.table ≡ Ok b = rw bare at (sym (bound_of-Column t s) ∙ h) in
+      rw (size-Column t) (column_sized (name_at s.text t) s.table b is)
 
-between_case : (a b c : Expr) → IsSized a → IsSized b → IsSized c → IsSized (x.Between a b c)
-between_case a b c ha hb hc s r h =
-    let w = found (bound_of a s) (λ x. bound_of b s >>= λ y. bound_of c s >>= λ z. Ok (between_bound x y z)) r (sym (bound_of-Between a b c s) ∙ h) in
-    let v = found (bound_of b s) (λ y. bound_of c s >>= λ z. Ok (between_bound w.0 y z)) r w.2 in
-    let u = found (bound_of c s) (λ z. Ok (between_bound w.0 v.0 z)) r v.2 in
-    let is : between_bound w.0 v.0 u.0 ≡ r = let e = u.2 in cc in
-    rw (← is, size-Between a b c) (between_sized (size_of a) (size_of b) (size_of c) w.0 v.0 u.0 (ha s w.0 w.1) (hb s v.0 v.1) (hc s u.0 u.1))
+  table_column_case : (t c : Token) → IsSized (x.TableColumn t c)
+  table_column_case t c b h = rw (size-TableColumn t c) (table_column_sized (name_at s.text t) (name_at s.text c) s.shown s.table b (sym (bound_of-TableColumn t c s) ∙ h))
 
-collate_case : (a : Expr) (t : Token) → IsSized a → IsSized (x.Collate a t)
-collate_case a t ha s r h =
-    let name = name_at s.text t in
-    let w = found (bound_of a s) (λ x. collate_bound name (collation_named name) x) r (sym (bound_of-Collate a t s) ∙ h) in
-    rw (size-Collate a t) (collate_sized name (collation_named name) (size_of a) w.0 r (ha s w.0 w.1) w.2)
+  unary_case : (o : UnaryOp) (a : Expr) → IsSized a → IsSized (x.Unary o a)
+  unary_case o a ha b h =
+      let w = found (bound_of a s) (λ x. Ok (unary_bound o x)) b (sym (bound_of-Unary o a s) ∙ h) in
+      let is : unary_bound o w.0 ≡ b = let e = w.2 in cc in
+      rw (← is, size-Unary o a) (unary_sized o (size_of a) w.0 (ha w.0 w.1))
 
-cast_case : (a : Expr) (t : TypeName) → IsSized a → IsSized (x.Cast a t)
-cast_case a t ha s r h =
-    let w = found (bound_of a s) (λ x. Ok (cast_bound (affinity_of_type s.text t) x)) r (sym (bound_of-Cast a t s) ∙ h) in
-    let is : cast_bound (affinity_of_type s.text t) w.0 ≡ r = let e = w.2 in cc in
-    rw (← is, size-Cast a t) (cast_sized (affinity_of_type s.text t) (size_of a) w.0 (ha s w.0 w.1))
+  binary_case : (o : BinaryOp) (a b : Expr) → IsSized a → IsSized b → IsSized (x.Binary o a b)
+  binary_case o a b ha hb r h =
+      let w = found (bound_of a s) (λ x. bound_of b s >>= λ y. Ok (binary_bound o x y)) r (sym (bound_of-Binary o a b s) ∙ h) in
+      let v = found (bound_of b s) (λ y. Ok (binary_bound o w.0 y)) r w.2 in
+      let is : binary_bound o w.0 v.0 ≡ r = let e = v.2 in cc in
+      rw (← is, size-Binary o a b) (binary_sized o (size_of a) (size_of b) w.0 v.0 (ha w.0 w.1) (hb v.0 v.1))
 
-in_query_case : (a : Expr) (q : Query) → IsSized (x.InQuery a q)
-in_query_case a q s b h = let e = sym (bound_of-InQuery a q s) ∙ h in cc
+  between_case : (a b c : Expr) → IsSized a → IsSized b → IsSized c → IsSized (x.Between a b c)
+  between_case a b c ha hb hc r h =
+      let w = found (bound_of a s) (λ x. bound_of b s >>= λ y. bound_of c s >>= λ z. Ok (between_bound x y z)) r (sym (bound_of-Between a b c s) ∙ h) in
+      let v = found (bound_of b s) (λ y. bound_of c s >>= λ z. Ok (between_bound w.0 y z)) r w.2 in
+      let u = found (bound_of c s) (λ z. Ok (between_bound w.0 v.0 z)) r v.2 in
+      let is : between_bound w.0 v.0 u.0 ≡ r = let e = u.2 in cc in
+      rw (← is, size-Between a b c) (between_sized (size_of a) (size_of b) (size_of c) w.0 v.0 u.0 (ha w.0 w.1) (hb v.0 v.1) (hc u.0 u.1))
 
-subquery_case : (q : Query) → IsSized (x.Subquery q)
-subquery_case q s b h = let e = sym (bound_of-Subquery q s) ∙ h in cc
+  collate_case : (a : Expr) (t : Token) → IsSized a → IsSized (x.Collate a t)
+  collate_case a t ha r h =
+      let name = name_at s.text t in
+      let w = found (bound_of a s) (λ x. collate_bound name (collation_named name) x) r (sym (bound_of-Collate a t s) ∙ h) in
+      rw (size-Collate a t) (collate_sized name (collation_named name) (size_of a) w.0 r (ha w.0 w.1) w.2)
 
-exists_case : (q : Query) → IsSized (x.Exists q)
-exists_case q s b h = let e = sym (bound_of-Exists q s) ∙ h in cc
+  cast_case : (a : Expr) (t : TypeName) → IsSized a → IsSized (x.Cast a t)
+  cast_case a t ha r h =
+      let w = found (bound_of a s) (λ x. Ok (cast_bound (affinity_of_type s.text t) x)) r (sym (bound_of-Cast a t s) ∙ h) in
+      let is : cast_bound (affinity_of_type s.text t) w.0 ≡ r = let e = w.2 in cc in
+      rw (← is, size-Cast a t) (cast_sized (affinity_of_type s.text t) (size_of a) w.0 (ha w.0 w.1))
 
-raise_case : IsSized x.RaiseIgnore
-raise_case s b h = let e = sym (bound_of-RaiseIgnore s) ∙ h in cc
+  in_query_case : (a : Expr) (q : Query) → IsSized (x.InQuery a q)
+  in_query_case a q b h = let e = sym (bound_of-InQuery a q s) ∙ h in cc
 
-raise_abort_case : (t : Token) → IsSized (x.RaiseAbort t)
-raise_abort_case t s b h = let e = sym (bound_of-RaiseAbort t s) ∙ h in cc
+  subquery_case : (q : Query) → IsSized (x.Subquery q)
+  subquery_case q b h = let e = sym (bound_of-Subquery q s) ∙ h in cc
 
-arm_case : (condition shown : Expr) → IsSized condition → IsSized shown → IsArmSized (roll-Arm (record { condition = condition; value = shown }))
-arm_case condition shown hc hv s a h =
-    let w = found (bound_of condition s) (λ x. bound_of shown s >>= λ y. Ok (record { condition = x; value = y })) a (sym (arm_bound-is condition shown s) ∙ h) in
-    let v = found (bound_of shown s) (λ y. Ok (record { condition = w.0; value = y })) a w.2 in
-    let is : record { condition = w.0; value = v.0 } ≡ a = let e = v.2 in cc in
-    rw (← is, size-arm condition shown) (omega (arith, (hc s w.0 w.1).tree, (hv s v.0 v.1).tree))
+  exists_case : (q : Query) → IsSized (x.Exists q)
+  exists_case q b h = let e = sym (bound_of-Exists q s) ∙ h in cc
 
--- ---- lists and options of such, told by elements of any type
+  raise_case : IsSized x.RaiseIgnore
+  raise_case b h = let e = sym (bound_of-RaiseIgnore s) ∙ h in cc
 
-module _ {Y : Type 0} (of : Y → Expr) (sized : (y : Y) → IsSized (of y)) where
-  all_sized : (s : Scope) (ys : List Y) (bs : List Bound) → all_in s (map bound_of (map of ys)) ≡ Ok bs → all_nodes (map tree_of bs) ≤ 2 * total (map size_of (map of ys))
-  all_sized s [] bs h =
-      let is : [] ≡ bs = cc in
-      rw (← is) (omega arith)
-  all_sized s (y ∷ ys) bs h =
-      let w = found (bound_of (of y) s) (λ b. all_in s (map bound_of (map of ys)) >>= λ rest. Ok (b ∷ rest)) bs h in
-      let v = found (all_in s (map bound_of (map of ys))) (λ rest. Ok (w.0 ∷ rest)) bs w.2 in
-      let is : w.0 ∷ v.0 ≡ bs = let e = v.2 in cc in
-      rw (← is) (omega (arith, (sized y s w.0 w.1).tree, all_sized s ys v.0 v.1))
+  raise_abort_case : (t : Token) → IsSized (x.RaiseAbort t)
+  raise_abort_case t b h = let e = sym (bound_of-RaiseAbort t s) ∙ h in cc
 
-  option_sized : (s : Scope) (o : Option Y) (z : Option Bound) → option_in s (option_map bound_of (option_map of o)) ≡ Ok z → option_nodes z ≤ 2 * or_0 (option_map size_of (option_map of o))
-  option_sized s None z h =
-      let is : None ≡ z = cc in
-      rw (← is) (omega arith)
-  option_sized s (Some y) z h =
-      let w = found (bound_of (of y) s) (λ b. Ok (Some b)) z h in
-      let is : Some w.0 ≡ z = let e = w.2 in cc in
-      rw (← is) (sized y s w.0 w.1).tree
+  arm_case : (condition shown : Expr) → IsSized condition → IsSized shown → IsArmSized (roll-Arm (record { condition = condition; value = shown }))
+  arm_case condition shown hc hv a h =
+      let w = found (bound_of condition s) (λ x. bound_of shown s >>= λ y. Ok (record { condition = x; value = y })) a (sym (arm_bound-is condition shown s) ∙ h) in
+      let v = found (bound_of shown s) (λ y. Ok (record { condition = w.0; value = y })) a w.2 in
+      let is : record { condition = w.0; value = v.0 } ≡ a = let e = v.2 in cc in
+      rw (← is, size-arm condition shown) (omega (arith, (hc w.0 w.1).tree, (hv v.0 v.1).tree))
 
-module _ {Z : Type 0} (of : Z → SyntaxArm) (sized : (z : Z) → IsArmSized (of z)) where
-  arms_sized : (s : Scope) (zs : List Z) (arms : List Arm) → all_in s (map arm_bound (map of zs)) ≡ Ok arms → arms_nodes arms ≤ 2 * total (map size_of_arm (map of zs))
-  arms_sized s [] arms h =
-      let is : [] ≡ arms = cc in
-      rw (← is) (omega arith)
-  arms_sized s (z ∷ zs) arms h =
-      let w = found (arm_bound (of z) s) (λ b. all_in s (map arm_bound (map of zs)) >>= λ rest. Ok (b ∷ rest)) arms h in
-      let v = found (all_in s (map arm_bound (map of zs))) (λ rest. Ok (w.0 ∷ rest)) arms w.2 in
-      let is : w.0 ∷ v.0 ≡ arms = let e = v.2 in cc in
-      rw (← is) (omega (arith, sized z s w.0 w.1, arms_sized s zs v.0 v.1))
+  -- ---- lists and options of such, told by elements of any type
 
--- ---- every expression
+  module _ {Y : Type 0} (of : Y → Expr) (sized : (y : Y) → IsSized (of y)) where
+    all_sized : (ys : List Y) (bs : List Bound) → all_in s (map bound_of (map of ys)) ≡ Ok bs → all_nodes (map tree_of bs) ≤ 2 * total (map size_of (map of ys))
+    all_sized [] bs h =
+        let is : [] ≡ bs = cc in
+        rw (← is) (omega arith)
+    all_sized (y ∷ ys) bs h =
+        let w = found (bound_of (of y) s) (λ b. all_in s (map bound_of (map of ys)) >>= λ rest. Ok (b ∷ rest)) bs h in
+        let v = found (all_in s (map bound_of (map of ys))) (λ rest. Ok (w.0 ∷ rest)) bs w.2 in
+        let is : w.0 ∷ v.0 ≡ bs = let e = v.2 in cc in
+        rw (← is) (omega (arith, (sized y w.0 w.1).tree, all_sized ys v.0 v.1))
 
-module _ {Y Z : Type 0} (of : Y → Expr) (sized : (y : Y) → IsSized (of y)) (arm_of : Z → SyntaxArm) (arm_sized : (z : Z) → IsArmSized (arm_of z)) where
-  like_case : (a b : Y) (c : Option Y) → IsSized (x.Like (of a) (of b) (option_map of c))
-  like_case a b c s r h =
-      let w = found (bound_of (of a) s) (λ x. bound_of (of b) s >>= λ y. option_in s (option_map bound_of (option_map of c)) >>= λ z. Ok (like_bound x y z)) r (sym (bound_of-Like (of a) (of b) (option_map of c) s) ∙ h) in
-      let v = found (bound_of (of b) s) (λ y. option_in s (option_map bound_of (option_map of c)) >>= λ z. Ok (like_bound w.0 y z)) r w.2 in
-      let u = found (option_in s (option_map bound_of (option_map of c))) (λ z. Ok (like_bound w.0 v.0 z)) r v.2 in
-      let is : like_bound w.0 v.0 u.0 ≡ r = let e = u.2 in cc in
-      rw (← is, size-Like (of a) (of b) (option_map of c))
-      (like_sized (size_of (of a)) (size_of (of b)) (or_0 (option_map size_of (option_map of c))) w.0 v.0 u.0 (sized a s w.0 w.1) (sized b s v.0 v.1) (option_sized of sized s c u.0 u.1))
+    option_sized : (o : Option Y) (z : Option Bound) → option_in s (option_map bound_of (option_map of o)) ≡ Ok z → option_nodes z ≤ 2 * or_0 (option_map size_of (option_map of o))
+    option_sized None z h =
+        let is : None ≡ z = cc in
+        rw (← is) (omega arith)
+    option_sized (Some y) z h =
+        let w = found (bound_of (of y) s) (λ b. Ok (Some b)) z h in
+        let is : Some w.0 ≡ z = let e = w.2 in cc in
+        rw (← is) (sized y w.0 w.1).tree
 
-  in_case : (a : Y) (others : List Y) → IsSized (x.In (of a) (map of others))
-  in_case a others s r h =
-      let w = found (bound_of (of a) s) (λ x. all_in s (map bound_of (map of others)) >>= λ ys. Ok (in_bound x ys)) r (sym (bound_of-In (of a) (map of others) s) ∙ h) in
-      let v = found (all_in s (map bound_of (map of others))) (λ ys. Ok (in_bound w.0 ys)) r w.2 in
-      let is : in_bound w.0 v.0 ≡ r = let e = v.2 in cc in
-      rw (← is, size-In (of a) (map of others))
-      (in_sized (size_of (of a)) (total (map size_of (map of others))) w.0 v.0 (sized a s w.0 w.1) (all_sized of sized s others v.0 v.1))
+  module _ {Z : Type 0} (of : Z → SyntaxArm) (sized : (z : Z) → IsArmSized (of z)) where
+    arms_sized : (zs : List Z) (arms : List Arm) → all_in s (map arm_bound (map of zs)) ≡ Ok arms → arms_nodes arms ≤ 2 * total (map size_of_arm (map of zs))
+    arms_sized [] arms h =
+        let is : [] ≡ arms = cc in
+        rw (← is) (omega arith)
+    arms_sized (z ∷ zs) arms h =
+        let w = found (arm_bound (of z) s) (λ b. all_in s (map arm_bound (map of zs)) >>= λ rest. Ok (b ∷ rest)) arms h in
+        let v = found (all_in s (map arm_bound (map of zs))) (λ rest. Ok (w.0 ∷ rest)) arms w.2 in
+        let is : w.0 ∷ v.0 ≡ arms = let e = v.2 in cc in
+        rw (← is) (omega (arith, sized z w.0 w.1, arms_sized zs v.0 v.1))
 
-  call_case : (t : Token) (how : Arguments) (args : List Y) (filter : Option Expr) → IsSized (x.Call t how (map of args) filter)
-  call_case t how args filter s r h =
-      let called = function_called (name_at s.text t) (builtin_named (name_at s.text t)) how (length (map of args)) in
-      let w = found called (λ f. all_in s (map bound_of (map of args)) >>= λ xs. Ok (call_bound f xs)) r (sym (bound_of-Call t how (map of args) filter s) ∙ h) in
-      let v = found (all_in s (map bound_of (map of args))) (λ xs. Ok (call_bound w.0 xs)) r w.2 in
-      let is : call_bound w.0 v.0 ≡ r = let e = v.2 in cc in
-      rw (← is, size-Call t how (map of args) filter)
-      (larger_sized (1 + total (map size_of (map of args))) _ (call_bound w.0 v.0) (omega arith) (call_sized w.0 (total (map size_of (map of args))) v.0 (all_sized of sized s args v.0 v.1)))
+  -- ---- every expression
 
-  case_case : (a : Option Y) (arms : List Z) (otherwise : Option Y) → IsSized (x.Case (option_map of a) (map arm_of arms) (option_map of otherwise))
-  case_case a arms otherwise s r h =
-      let last = λ (x : Option Bound) (ys : List Arm). option_in s (option_map bound_of (option_map of otherwise)) >>= λ z. Ok (case_bound x ys z) in
-      let w = found (option_in s (option_map bound_of (option_map of a))) (λ x. all_in s (map arm_bound (map arm_of arms)) >>= λ ys. last x ys) r (sym (bound_of-Case (option_map of a) (map arm_of arms) (option_map of otherwise) s) ∙ h) in
-      let v = found (all_in s (map arm_bound (map arm_of arms))) (λ ys. last w.0 ys) r w.2 in
-      let u = found (option_in s (option_map bound_of (option_map of otherwise))) (λ z. Ok (case_bound w.0 v.0 z)) r v.2 in
-      let is : case_bound w.0 v.0 u.0 ≡ r = let e = u.2 in cc in
-      rw (← is, size-Case (option_map of a) (map arm_of arms) (option_map of otherwise))
-      (case_sized (or_0 (option_map size_of (option_map of a))) (total (map size_of_arm (map arm_of arms))) (or_0 (option_map size_of (option_map of otherwise))) w.0 v.0 u.0
-      (option_sized of sized s a w.0 w.1) (arms_sized arm_of arm_sized s arms v.0 v.1) (option_sized of sized s otherwise u.0 u.1))
+  module _ {Y Z : Type 0} (of : Y → Expr) (sized : (y : Y) → IsSized (of y)) (arm_of : Z → SyntaxArm) (arm_sized : (z : Z) → IsArmSized (arm_of z)) where
+    like_case : (a b : Y) (c : Option Y) → IsSized (x.Like (of a) (of b) (option_map of c))
+    like_case a b c r h =
+        let w = found (bound_of (of a) s) (λ x. bound_of (of b) s >>= λ y. option_in s (option_map bound_of (option_map of c)) >>= λ z. Ok (like_bound x y z)) r (sym (bound_of-Like (of a) (of b) (option_map of c) s) ∙ h) in
+        let v = found (bound_of (of b) s) (λ y. option_in s (option_map bound_of (option_map of c)) >>= λ z. Ok (like_bound w.0 y z)) r w.2 in
+        let u = found (option_in s (option_map bound_of (option_map of c))) (λ z. Ok (like_bound w.0 v.0 z)) r v.2 in
+        let is : like_bound w.0 v.0 u.0 ≡ r = let e = u.2 in cc in
+        rw (← is, size-Like (of a) (of b) (option_map of c))
+        (like_sized (size_of (of a)) (size_of (of b)) (or_0 (option_map size_of (option_map of c))) w.0 v.0 u.0 (sized a w.0 w.1) (sized b v.0 v.1) (option_sized of sized c u.0 u.1))
 
-  -- nothing is said of queries
-  abbrev With : Type 0 → Type 0
-  With T = T × Unit {0}
+    in_case : (a : Y) (others : List Y) → IsSized (x.In (of a) (map of others))
+    in_case a others r h =
+        let w = found (bound_of (of a) s) (λ x. all_in s (map bound_of (map of others)) >>= λ ys. Ok (in_bound x ys)) r (sym (bound_of-In (of a) (map of others) s) ∙ h) in
+        let v = found (all_in s (map bound_of (map of others))) (λ ys. Ok (in_bound w.0 ys)) r w.2 in
+        let is : in_bound w.0 v.0 ≡ r = let e = v.2 in cc in
+        rw (← is, size-In (of a) (map of others))
+        (in_sized (size_of (of a)) (total (map size_of (map of others))) w.0 v.0 (sized a w.0 w.1) (all_sized of sized others v.0 v.1))
 
-  abbrev tree : {T : Type 0} → With T → T
-  tree p = p.0
+    call_case : (t : Token) (how : Arguments) (args : List Y) (filter : Option Expr) → IsSized (x.Call t how (map of args) filter)
+    call_case t how args filter r h =
+        let called = function_called (name_at s.text t) (builtin_named (name_at s.text t)) how (length (map of args)) in
+        let w = found called (λ f. all_in s (map bound_of (map of args)) >>= λ xs. Ok (call_bound f xs)) r (sym (bound_of-Call t how (map of args) filter s) ∙ h) in
+        let v = found (all_in s (map bound_of (map of args))) (λ xs. Ok (call_bound w.0 xs)) r w.2 in
+        let is : call_bound w.0 v.0 ≡ r = let e = v.2 in cc in
+        rw (← is, size-Call t how (map of args) filter)
+        (larger_sized (1 + total (map size_of (map of args))) _ (call_bound w.0 v.0) (omega arith) (call_sized w.0 (total (map size_of (map of args))) v.0 (all_sized of sized args v.0 v.1)))
 
-  step : (y : Expr-F Y (With JoinConstraint) (With QueryPart) (With ResultColumn) (With Source) Z (With CommonTable) (With CompoundPart) (With FromItem) (With OrderingTerm) (With Query) (With RowLimit) (With SelectCore) (With SpannedExpr)) → IsSized (roll-Expr (map-Expr Y (With JoinConstraint) (With QueryPart) (With ResultColumn) (With Source) Z (With CommonTable) (With CompoundPart) (With FromItem) (With OrderingTerm) (With Query) (With RowLimit) (With SelectCore) (With SpannedExpr) Expr JoinConstraint QueryPart ResultColumn Source SyntaxArm CommonTable CompoundPart FromItem OrderingTerm Query RowLimit SelectCore SpannedExpr of tree tree tree tree arm_of tree tree tree tree tree tree tree tree y))
-  step (Expr-F.Literal t) = rw (rolls-Literal t) (literal_case t)
-  step (Expr-F.Parameter t) = rw (rolls-Parameter t) (parameter_case t)
-  step (Expr-F.Column t) = rw (rolls-Column t) (column_case t)
-  step (Expr-F.TableColumn t c) = rw (rolls-TableColumn t c) (table_column_case t c)
-  step (Expr-F.Unary o a) = rw (rolls-Unary o (of a)) (unary_case o (of a) (sized a))
-  step (Expr-F.Binary o a b) = rw (rolls-Binary o (of a) (of b)) (binary_case o (of a) (of b) (sized a) (sized b))
-  step (Expr-F.Between a b c) = rw (rolls-Between (of a) (of b) (of c)) (between_case (of a) (of b) (of c) (sized a) (sized b) (sized c))
-  step (Expr-F.Like a b None) = rw (rolls-Like (of a) (of b) None) (like_case a b None)
-  step (Expr-F.Like a b (Some c)) = rw (rolls-Like (of a) (of b) (Some (of c))) (like_case a b (Some c))
-  step (Expr-F.In a others) = rw (rolls-In (of a) (map of others)) (in_case a others)
-  step (Expr-F.Collate a t) = rw (rolls-Collate (of a) t) (collate_case (of a) t (sized a))
-  step (Expr-F.Cast a t) = rw (rolls-Cast (of a) t) (cast_case (of a) t (sized a))
-  step (Expr-F.Call t how args None) = rw (rolls-Call t how (map of args) None) (call_case t how args None)
-  step (Expr-F.Call t how args (Some filter)) = rw (rolls-Call t how (map of args) (Some (of filter))) (call_case t how args (Some (of filter)))
-  step (Expr-F.Case None arms None) = rw (rolls-Case None (map arm_of arms) None) (case_case None arms None)
-  step (Expr-F.Case None arms (Some last)) = rw (rolls-Case None (map arm_of arms) (Some (of last))) (case_case None arms (Some last))
-  step (Expr-F.Case (Some a) arms None) = rw (rolls-Case (Some (of a)) (map arm_of arms) None) (case_case (Some a) arms None)
-  step (Expr-F.Case (Some a) arms (Some last)) = rw (rolls-Case (Some (of a)) (map arm_of arms) (Some (of last))) (case_case (Some a) arms (Some last))
-  step (Expr-F.InQuery a q) = rw (rolls-InQuery (of a) (tree q)) (in_query_case (of a) (tree q))
-  step (Expr-F.Subquery q) = rw (rolls-Subquery (tree q)) (subquery_case (tree q))
-  step (Expr-F.Exists q) = rw (rolls-Exists (tree q)) (exists_case (tree q))
-  step Expr-F.RaiseIgnore = rw rolls-RaiseIgnore raise_case
-  step (Expr-F.RaiseAbort t) = rw (rolls-RaiseAbort t) (raise_abort_case t)
+    case_case : (a : Option Y) (arms : List Z) (otherwise : Option Y) → IsSized (x.Case (option_map of a) (map arm_of arms) (option_map of otherwise))
+    case_case a arms otherwise r h =
+        let last = λ (x : Option Bound) (ys : List Arm). option_in s (option_map bound_of (option_map of otherwise)) >>= λ z. Ok (case_bound x ys z) in
+        let w = found (option_in s (option_map bound_of (option_map of a))) (λ x. all_in s (map arm_bound (map arm_of arms)) >>= λ ys. last x ys) r (sym (bound_of-Case (option_map of a) (map arm_of arms) (option_map of otherwise) s) ∙ h) in
+        let v = found (all_in s (map arm_bound (map arm_of arms))) (λ ys. last w.0 ys) r w.2 in
+        let u = found (option_in s (option_map bound_of (option_map of otherwise))) (λ z. Ok (case_bound w.0 v.0 z)) r v.2 in
+        let is : case_bound w.0 v.0 u.0 ≡ r = let e = u.2 in cc in
+        rw (← is, size-Case (option_map of a) (map arm_of arms) (option_map of otherwise))
+        (case_sized (or_0 (option_map size_of (option_map of a))) (total (map size_of_arm (map arm_of arms))) (or_0 (option_map size_of (option_map of otherwise))) w.0 v.0 u.0
+        (option_sized of sized a w.0 w.1) (arms_sized arm_of arm_sized arms v.0 v.1) (option_sized of sized otherwise u.0 u.1))
 
-  arm_step : (y : Arm-F Y (With JoinConstraint) (With QueryPart) (With ResultColumn) (With Source) Z (With CommonTable) (With CompoundPart) (With FromItem) (With OrderingTerm) (With Query) (With RowLimit) (With SelectCore) (With SpannedExpr)) → IsArmSized (roll-Arm (map-Arm Y (With JoinConstraint) (With QueryPart) (With ResultColumn) (With Source) Z (With CommonTable) (With CompoundPart) (With FromItem) (With OrderingTerm) (With Query) (With RowLimit) (With SelectCore) (With SpannedExpr) Expr JoinConstraint QueryPart ResultColumn Source SyntaxArm CommonTable CompoundPart FromItem OrderingTerm Query RowLimit SelectCore SpannedExpr of tree tree tree tree arm_of tree tree tree tree tree tree tree tree y))
-  arm_step y = arm_case (of y.condition) (of y.value) (sized y.condition) (sized y.value)
+    -- nothing is said of queries
+    abbrev With : Type 0 → Type 0
+    With T = T × Unit {0}
 
-pub sizes : (e : Expr) → IsSized e
-sizes = ind-Expr IsSized (λ q. Unit {0}) (λ q. Unit {0}) (λ q. Unit {0}) (λ q. Unit {0}) IsArmSized (λ q. Unit {0}) (λ q. Unit {0}) (λ q. Unit {0}) (λ q. Unit {0}) (λ q. Unit {0}) (λ q. Unit {0}) (λ q. Unit {0}) (λ q. Unit {0})
-    (λ l y is. subst (λ z. IsSized (roll-Expr z)) is (step (λ e. e.0) (λ e. e.1) (λ e. e.0) (λ e. e.1) y)) (λ l y is. tt) (λ l y is. tt) (λ l y is. tt) (λ l y is. tt)
-    (λ l y is. subst (λ z. IsArmSized (roll-Arm z)) is (arm_step (λ e. e.0) (λ e. e.1) (λ e. e.0) (λ e. e.1) y))
-    (λ l y is. tt) (λ l y is. tt) (λ l y is. tt) (λ l y is. tt) (λ l y is. tt) (λ l y is. tt) (λ l y is. tt) (λ l y is. tt)
+    abbrev tree : {T : Type 0} → With T → T
+    tree p = p.0
 
-pub tree_nodes : (e : Expr) (s : Scope) (b : Bound) → bound_of e s ≡ Ok b → nodes_of b.tree ≤ 2 * size_of e
-tree_nodes e s b h = (sizes e s b h).tree
+    step : (y : Expr-F Y (With JoinConstraint) (With QueryPart) (With ResultColumn) (With Source) Z (With CommonTable) (With CompoundPart) (With FromItem) (With OrderingTerm) (With Query) (With RowLimit) (With SelectCore) (With SpannedExpr)) → IsSized (roll-Expr (map-Expr Y (With JoinConstraint) (With QueryPart) (With ResultColumn) (With Source) Z (With CommonTable) (With CompoundPart) (With FromItem) (With OrderingTerm) (With Query) (With RowLimit) (With SelectCore) (With SpannedExpr) Expr JoinConstraint QueryPart ResultColumn Source SyntaxArm CommonTable CompoundPart FromItem OrderingTerm Query RowLimit SelectCore SpannedExpr of tree tree tree tree arm_of tree tree tree tree tree tree tree tree y))
+    step (Expr-F.Literal t) = rw (rolls-Literal t) (literal_case t)
+    step (Expr-F.Parameter t) = rw (rolls-Parameter t) (parameter_case t)
+    step (Expr-F.Column t) = rw (rolls-Column t) (column_case t)
+    step (Expr-F.TableColumn t c) = rw (rolls-TableColumn t c) (table_column_case t c)
+    step (Expr-F.Unary o a) = rw (rolls-Unary o (of a)) (unary_case o (of a) (sized a))
+    step (Expr-F.Binary o a b) = rw (rolls-Binary o (of a) (of b)) (binary_case o (of a) (of b) (sized a) (sized b))
+    step (Expr-F.Between a b c) = rw (rolls-Between (of a) (of b) (of c)) (between_case (of a) (of b) (of c) (sized a) (sized b) (sized c))
+    step (Expr-F.Like a b None) = rw (rolls-Like (of a) (of b) None) (like_case a b None)
+    step (Expr-F.Like a b (Some c)) = rw (rolls-Like (of a) (of b) (Some (of c))) (like_case a b (Some c))
+    step (Expr-F.In a others) = rw (rolls-In (of a) (map of others)) (in_case a others)
+    step (Expr-F.Collate a t) = rw (rolls-Collate (of a) t) (collate_case (of a) t (sized a))
+    step (Expr-F.Cast a t) = rw (rolls-Cast (of a) t) (cast_case (of a) t (sized a))
+    step (Expr-F.Call t how args None) = rw (rolls-Call t how (map of args) None) (call_case t how args None)
+    step (Expr-F.Call t how args (Some filter)) = rw (rolls-Call t how (map of args) (Some (of filter))) (call_case t how args (Some (of filter)))
+    step (Expr-F.Case None arms None) = rw (rolls-Case None (map arm_of arms) None) (case_case None arms None)
+    step (Expr-F.Case None arms (Some last)) = rw (rolls-Case None (map arm_of arms) (Some (of last))) (case_case None arms (Some last))
+    step (Expr-F.Case (Some a) arms None) = rw (rolls-Case (Some (of a)) (map arm_of arms) None) (case_case (Some a) arms None)
+    step (Expr-F.Case (Some a) arms (Some last)) = rw (rolls-Case (Some (of a)) (map arm_of arms) (Some (of last))) (case_case (Some a) arms (Some last))
+    step (Expr-F.InQuery a q) = rw (rolls-InQuery (of a) (tree q)) (in_query_case (of a) (tree q))
+    step (Expr-F.Subquery q) = rw (rolls-Subquery (tree q)) (subquery_case (tree q))
+    step (Expr-F.Exists q) = rw (rolls-Exists (tree q)) (exists_case (tree q))
+    step Expr-F.RaiseIgnore = rw rolls-RaiseIgnore raise_case
+    step (Expr-F.RaiseAbort t) = rw (rolls-RaiseAbort t) (raise_abort_case t)
 
-pub conjunct_nodes : (e : Expr) (s : Scope) (b : Bound) → bound_of e s ≡ Ok b → all_nodes b.conjuncts ≤ 4 * size_of e
-conjunct_nodes e s b h = (sizes e s b h).conjuncts
+    arm_step : (y : Arm-F Y (With JoinConstraint) (With QueryPart) (With ResultColumn) (With Source) Z (With CommonTable) (With CompoundPart) (With FromItem) (With OrderingTerm) (With Query) (With RowLimit) (With SelectCore) (With SpannedExpr)) → IsArmSized (roll-Arm (map-Arm Y (With JoinConstraint) (With QueryPart) (With ResultColumn) (With Source) Z (With CommonTable) (With CompoundPart) (With FromItem) (With OrderingTerm) (With Query) (With RowLimit) (With SelectCore) (With SpannedExpr) Expr JoinConstraint QueryPart ResultColumn Source SyntaxArm CommonTable CompoundPart FromItem OrderingTerm Query RowLimit SelectCore SpannedExpr of tree tree tree tree arm_of tree tree tree tree tree tree tree tree y))
+    arm_step y = arm_case (of y.condition) (of y.value) (sized y.condition) (sized y.value)
+
+  pub sizes : (e : Expr) → IsSized e
+  sizes = ind-Expr IsSized (λ q. Unit {0}) (λ q. Unit {0}) (λ q. Unit {0}) (λ q. Unit {0}) IsArmSized (λ q. Unit {0}) (λ q. Unit {0}) (λ q. Unit {0}) (λ q. Unit {0}) (λ q. Unit {0}) (λ q. Unit {0}) (λ q. Unit {0}) (λ q. Unit {0})
+      (λ l y is. subst (λ z. IsSized (roll-Expr z)) is (step (λ e. e.0) (λ e. e.1) (λ e. e.0) (λ e. e.1) y)) (λ l y is. tt) (λ l y is. tt) (λ l y is. tt) (λ l y is. tt)
+      (λ l y is. subst (λ z. IsArmSized (roll-Arm z)) is (arm_step (λ e. e.0) (λ e. e.1) (λ e. e.0) (λ e. e.1) y))
+      (λ l y is. tt) (λ l y is. tt) (λ l y is. tt) (λ l y is. tt) (λ l y is. tt) (λ l y is. tt) (λ l y is. tt) (λ l y is. tt)
+
+pub tree_nodes : (e : Expr) (s : Scope) (b : Bound) → s.results ≡ [] → bound_of e s ≡ Ok b → nodes_of b.tree ≤ 2 * size_of e
+tree_nodes e s b bare h = (sizes s bare e b h).tree
+
+pub conjunct_nodes : (e : Expr) (s : Scope) (b : Bound) → s.results ≡ [] → bound_of e s ≡ Ok b → all_nodes b.conjuncts ≤ 4 * size_of e
+conjunct_nodes e s b bare h = (sizes s bare e b h).conjuncts
 
 -- ---- what the code finds
 
-pub part_nodes : (e : Expr) (s : Scope) (p : BoundPart) → part_in (bound_of e s) ≡ Ok (whole p) → nodes_of p.tree ≤ 2 * size_of e
-part_nodes e s p h =
+pub part_nodes : (e : Expr) (s : Scope) (p : BoundPart) → s.results ≡ [] → part_in (bound_of e s) ≡ Ok (whole p) → nodes_of p.tree ≤ 2 * size_of e
+part_nodes e s p bare h =
     let w = found (bound_of e s) (λ b. Ok (unsplit b)) (whole p) h in
     let same : unsplit w.0 ≡ whole p = let k = w.2 in cc in
     let is : w.0.tree ≡ p.tree = ap (λ (b : Bound). b.tree) same in
-    rw (← is) (tree_nodes e s w.0 w.1)
+    rw (← is) (tree_nodes e s w.0 bare w.1)
 
-pub appended_nodes : (e : Expr) (s : Scope) (old new : List BoundExpr) → (bound_of e s >>= λ b. Ok (old ++ b.conjuncts)) ≡ Ok new → all_nodes new ≤ all_nodes old + 4 * size_of e
-appended_nodes e s old new h =
+pub appended_nodes : (e : Expr) (s : Scope) (old new : List BoundExpr) → s.results ≡ [] → (bound_of e s >>= λ b. Ok (old ++ b.conjuncts)) ≡ Ok new → all_nodes new ≤ all_nodes old + 4 * size_of e
+appended_nodes e s old new bare h =
     let w = found (bound_of e s) (λ b. Ok (old ++ b.conjuncts)) new h in
     let same : old ++ w.0.conjuncts ≡ new = let k = w.2 in cc in
-    rw (← same) (omega (arith, all_nodes-append old w.0.conjuncts, conjunct_nodes e s w.0 w.1))
+    rw (← same) (omega (arith, all_nodes-append old w.0.conjuncts, conjunct_nodes e s w.0 bare w.1))
 
-pub bound_nodes : (e : Expr) (s : Scope) (r : Result BoundPart Cause) → Binds (bound_of e s) r → IfOk r (λ p. nodes_of p.tree ≤ 2 * size_of e)
-bound_nodes e s (Ok p) h = part_nodes e s p h
-bound_nodes e s (Err why) h = tt
+pub bound_nodes : (e : Expr) (s : Scope) (r : Result BoundPart Cause) → s.results ≡ [] → Binds (bound_of e s) r → IfOk r (λ p. nodes_of p.tree ≤ 2 * size_of e)
+bound_nodes e s (Ok p) bare h = part_nodes e s p bare h
+bound_nodes e s (Err why) bare h = tt

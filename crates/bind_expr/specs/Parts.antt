@@ -7,7 +7,7 @@ use Rattle.eng_value.specs.declared.cause.NameKind.TheVariants as named
 use Rattle.eng_value.specs.declared.collation.Collation.{Collation}
 use Rattle.eng_value.specs.declared.compare_op.CompareOp.{CompareOp}
 use Rattle.sql_meaning.specs.declared.bound.BoundExpr.{BoundExpr}
-use Rattle.sql_meaning.specs.Binding.{◌>>=◌, Bound, compared, Plain, LeastMagnitude, Truth}
+use Rattle.sql_meaning.specs.Binding.{◌>>=◌, Bound, compared, unsplit, Plain, LeastMagnitude, Truth}
 use Rattle.sql_meaning.specs.Binding as meant
 use Rattle.bind_expr.specs.declared.part.BoundPart.{BoundPart}
 use Rattle.bind_expr.specs.declared.part.Form.{Form}
@@ -28,8 +28,10 @@ bare explicit tree = record { tree = tree; affinity = affinity.None; explicit = 
 abbrev pub whole : BoundPart → Bound
 whole p = record { tree = p.tree; affinity = p.affinity; explicit = p.explicit; column = p.column; form = form_of p.form; conjuncts = p.tree ∷ [] }
 
-abbrev pub unsplit : Bound → Bound
-unsplit b = record b { conjuncts = b.tree ∷ [] }
+-- that, or the refusal
+abbrev pub part_result : Result BoundPart Cause → Result Bound Cause
+part_result (Ok p) = Ok (whole p)
+part_result (Err why) = Err why
 
 abbrev pub part_in : Result Bound Cause → Result Bound Cause
 part_in meant = meant >>= λ b. Ok (unsplit b)

@@ -3,12 +3,12 @@ ghost use Rattle.std.specs.Prelude.{◌≡◌, Some, slice_get, IfOk};
 ghost use Rattle.eng_value.specs.declared.affinity.Affinity.TheVariants as affinity;
 ghost use Rattle.eng_value.specs.declared.cause.Cause.TheVariants as cause;
 ghost use Rattle.eng_value.specs.declared.cause.NameKind.TheVariants as named;
-ghost use Rattle.sql_meaning.specs.Binding.{affinity_in, column_at, column_bound, column_found, column_place, dotted, no_column, table_column_bound};
-ghost use Rattle.sql_meaning.specs.Names.{is_named_in};
+ghost use Rattle.sql_meaning.specs.Binding.{affinity_in, column_at, column_bound, column_found, column_place, dotted, table_column_bound};
 ghost use Rattle.sql_meaning.specs.Spelled.{name_at};
 ghost use Rattle.bind_expr.specs.Parts.{whole, Gives};
 
 use crate::part::{BoundPart, Form};
+use crate::results::{NamedResult, result_named};
 use crate::scope::Scope;
 use bind_name::name;
 use eng_entry::is_same_name;
@@ -73,43 +73,31 @@ fn column_found(shown: Text, columns: &[Column], place: Option<usize>) -> Result
     }
 }
 
-/// The column that a token names.
+/// The column that a token names, else the result.
 pub(crate) fn column(alloc: Global, scope: &Scope<'_>, token: &Token) -> Result<BoundPart, Cause>
     ensures { Gives whole (column_bound (name_at scope.now.text token.now) scope.now.results scope.now.table) result }
 {
     let name = name(alloc, scope.text(), token)?;
     match scope.table() {
-        Some(table) => column_named(table, scope.results(), name),
-        None => Err(no_column(scope.results(), name)),
+        Some(table) => column_named(alloc, table, scope.results(), name),
+        None => result_named(alloc, scope.results(), name),
     }
 }
 
-/// The column of a table by its name.
-fn column_named(table: &TableEntry, results: &[Text], name: Text) -> Result<BoundPart, Cause>
+/// The column of a table by its name, else a result.
+fn column_named(
+    alloc: Global,
+    table: &TableEntry,
+    results: &[NamedResult],
+    name: Text,
+) -> Result<BoundPart, Cause>
     ensures { Gives whole (column_bound name results.now (Some table.now)) result }
 {
     let columns = table.columns.as_slice();
     match column_place(columns, name.as_bytes()) {
         Some(place) => Ok(column_at(columns, place)?),
-        None => Err(no_column(results, name)),
+        None => result_named(alloc, results, name),
     }
-}
-
-/// Why no column is meant by a name: results' names are not built yet.
-fn no_column(results: &[Text], name: Text) -> Cause
-    ensures { result ≡ no_column name results.now }
-{
-    if is_one_of(results, name.as_bytes()) {
-        return Cause::NotYet;
-    }
-    Cause::Unknown(NameKind::Column, name)
-}
-
-/// Whether one of the names is this one.
-fn is_one_of(names: &[Text], name: &[u8]) -> bool
-    ensures { result ≡ is_named_in names.now name.now }
-{
-    names.iter().any(|n| is_same_name(n.as_bytes(), name))
 }
 
 /// A table's name and a column's, with a point between them.

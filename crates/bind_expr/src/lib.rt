@@ -16,6 +16,7 @@ mod laws;
 mod leaves;
 mod operators;
 mod part;
+mod results;
 mod scope;
 
 pub use bind_name::{affinity_of_type, is_built, literal, name, slice_of};
@@ -23,4 +24,5 @@ pub use columns::column_place;
 pub use expressions::{bind, bind_conjuncts};
 pub use laws::sizes_are_linear;
 pub use part::{BoundPart, Form};
+pub use results::NamedResult;
 pub use scope::Scope;

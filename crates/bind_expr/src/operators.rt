@@ -5,9 +5,9 @@ ghost use Rattle.eng_value.specs.declared.affinity.Affinity.TheVariants as affin
 ghost use Rattle.eng_value.specs.declared.operators.BinaryOperator.TheVariants as operator;
 ghost use Rattle.eng_value.specs.declared.operators.UnaryOperator.TheVariants as unary;
 ghost use Rattle.sql_meaning.specs.declared.bound.BoundExpr.TheVariants as e;
-ghost use Rattle.sql_meaning.specs.Binding.{over, unary_bound, negative_bound, joined, compared, not_bound, is_bound, binary_bound, between_bound, like_bound, cast_bound, member_sides};
+ghost use Rattle.sql_meaning.specs.Binding.{over, unary_bound, negative_bound, joined, compared, not_bound, is_bound, binary_bound, between_bound, like_bound, cast_bound, member_sides, unsplit};
 ghost use Rattle.bind_expr.specs.Groups.{in_group};
-ghost use Rattle.bind_expr.specs.Parts.{bare, form_of, whole, unsplit};
+ghost use Rattle.bind_expr.specs.Parts.{bare, form_of, whole};
 
 use crate::groups::Group;
 use crate::part::{BoundPart, Form, boxed_pair, or_binary, or_else, sides_of};

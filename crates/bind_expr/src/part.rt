@@ -43,6 +43,19 @@ impl BoundPart {
         }
     }
 
+    /// The same once more.
+    pub(crate) fn copied(&self, alloc: Global) -> Result<BoundPart, AllocError>
+        ensures { IfOk result (λ copy. copy ≡ self.now) }
+    {
+        Ok(BoundPart {
+            tree: self.tree.copied(alloc)?,
+            affinity: self.affinity,
+            explicit: self.explicit,
+            column: self.column,
+            form: self.form,
+        })
+    }
+
     /// The collation of its COLLATE, else of the column that it is.
     pub(crate) fn collation(&self) -> Option<Collation>
         ensures { result ≡ collation_of (whole self.now) }

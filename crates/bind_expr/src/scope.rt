@@ -2,25 +2,29 @@
 ghost use Rattle.std.specs.Prelude.{◌≡◌};
 ghost use Rattle.std.specs.Option.{option_copied};
 
-use eng_value::Text;
+use crate::results::NamedResult;
 use sql_meaning::TableEntry;
 use std::marker::Model;
 
-/// The text of a statement, the table of its FROM, if it has one, the name by which that is called there, and the names of results.
+/// The text of a statement, the table of its FROM, if it has one, the name by which that is called there, and the results that have names.
 /// Contracts see the definitions' scope.
 #[derive(Drop)]
 pub struct Scope<'a> {
     text: &'a str,
     table: Option<&'a TableEntry>,
     shown: &'a [u8],
-    results: &'a [Text],
+    results: &'a [NamedResult],
 }
 
 impl<'a> Model for Scope<'a> {
     ghost use Rattle.std.specs.Option.{option_copied};
+    ghost use Rattle.std.specs.Coded.{codes};
     ghost use Rattle.sql_meaning.specs.Binding as meant;
+    ghost use Rattle.sql_meaning.specs.contracts.bound.BoundExpr as tree;
 
     ghost Value = { meant.Scope };
+
+    ghost coded = { Prim.hlevel (codes, tree.the_row.coded) };
 
     ghost view = { λ s. record { text = s.text.now; table = option_copied s.table; shown = s.shown.now; results = s.results.now } };
 }
@@ -30,7 +34,7 @@ impl<'a> Scope<'a> {
         text: &'a str,
         table: Option<&'a TableEntry>,
         shown: &'a [u8],
-        results: &'a [Text],
+        results: &'a [NamedResult],
     ) -> Scope<'a>
         ensures text { result.text ≡ text.now }
         ensures table { result.table ≡ option_copied table.entry }
@@ -64,8 +68,8 @@ impl<'a> Scope<'a> {
         self.shown
     }
 
-    /// The names of results that an expression may use.
-    pub fn results(&self) -> &'a [Text]
+    /// The results that an expression may use by their names.
+    pub fn results(&self) -> &'a [NamedResult]
         ensures { result.now ≡ self.now.results }
     {
         self.results

@@ -8,7 +8,7 @@ use Rattle.eng_value.specs.declared.cause.Cause.TheVariants as cause
 use Rattle.eng_value.specs.declared.cause.LimitKind.TheVariants as limit
 use Rattle.eng_value.specs.declared.cause.NameKind.TheVariants as named
 use Rattle.eng_value.specs.declared.limits.TheConstants.{MAX_COLUMNS}
-use Rattle.sql_tree.specs.Layers.{PartLayer, ResultLayer, SelectLayer, of_part, of_query, of_result, of_select}
+use Rattle.sql_tree.specs.Layers.{ItemLayer, PartLayer, ResultLayer, SelectLayer, of_item, of_part, of_query, of_result, of_select, of_source}
 use Rattle.sql_tree.specs.Sizes.{total, part_size, result_size, select_size, size_of, size_of_command, size_of_definition, size_of_filter, size_of_from, size_of_result, size_of_row, size_of_rows, size_of_source}
 use Rattle.sql_tree.specs.declared.expr.Expr.{Expr}
 use Rattle.sql_tree.specs.declared.expr.Expr.TheOpen.{QueryPart-F, ResultColumn-F}
@@ -37,8 +37,8 @@ use Rattle.sql_meaning.specs.declared.column.TableEntry.{TableEntry}
 use Rattle.sql_meaning.specs.Binding.{◌>>=◌, Scope, bound_of, in_turn}
 use Rattle.sql_meaning.specs.Sizes.{all_nodes, nodes_of}
 use Rattle.sql_meaning.specs.Spelled.{name_at}
-use Rattle.sql_meaning.specs.Statement.{all_columns, all_columns_of, bare_scope, columns_from, command_bound, conjuncts_of, created, dropped, entry_with, filter_scope, fitting, from_scope, is_free_name, items_from, part_bound, places_for, places_named, put_bound, put_from, query_in, result_of, result_shown, results_behind, row_of, rows_bound, rows_in, select_bound, table_named, trees_in, values_for, width_of}
-use Rattle.bind_expr.proofs.SizeLaws.{all_nodes-append, conjunct_nodes, nodes-Column, tree_nodes}
+use Rattle.sql_meaning.specs.Statement.{all_columns, all_columns_of, bare_scope, columns_from, command_bound, conjuncts_of, created, dropped, entry_with, filter_scope, fitting, from_scope, item_scope, is_free_name, items_from, part_bound, places_for, places_named, put_bound, put_from, query_in, result_of, result_shown, results_behind, row_of, rows_bound, rows_in, select_bound, shown_name, source_table, table_named, trees_in, values_for, width_of}
+use Rattle.bind_expr.proofs.SizeLaws.{all_nodes-append, nodes-Column, tree_nodes}
 use Rattle.bind_stmt.specs.declared.statement.Bound.{Bound}
 use Rattle.bind_stmt.specs.declared.statement.Bound.TheVariants as bound
 use Rattle.bind_stmt.specs.Binds.{IsBound, IsQueryAs}
@@ -103,14 +103,14 @@ all_shown_of name shown (Some entry) t more h = by (is_same_name shown name) h
         }
     by false f = absurd (cc)
 
-shown : (s : Scope) (r : ResultLayer) (more : List BoundExpr) → result_shown s r ≡ Ok more → Shown (columns_of s.table) r more
-shown s ResultColumn-F.All more h = all_shown s.table more h
-shown s (ResultColumn-F.AllOf t) more h = all_shown_of (name_at s.text t) s.shown s.table t more h
-shown s (ResultColumn-F.Expression x name) more h =
+shown : (s : Scope) (r : ResultLayer) (more : List BoundExpr) → s.results ≡ [] → result_shown s r ≡ Ok more → Shown (columns_of s.table) r more
+shown s ResultColumn-F.All more bare h = all_shown s.table more h
+shown s (ResultColumn-F.AllOf t) more bare h = all_shown_of (name_at s.text t) s.shown s.table t more h
+shown s (ResultColumn-F.Expression x name) more bare h =
     let w = found (bound_of x.expr s) (λ b. Ok (b.tree ∷ [])) more h in
     let same : w.0.tree ∷ [] ≡ more = same_Ok _ _ w.2 in
     record {
-      nodes = rw (← same) (omega (arith, tree_nodes x.expr s w.0 w.1));
+      nodes = rw (← same) (omega (arith, tree_nodes x.expr s w.0 bare w.1));
       count = omega arith;
     }
 
@@ -126,16 +126,16 @@ record AllShown (n : ℕ) (before : List BoundExpr) (rs : List ResultColumn) (al
   count : length before + stars n rs ≤ length all
   most : length before ≤ MAX_COLUMNS → length all ≤ MAX_COLUMNS
 
-results : (s : Scope) (before : List BoundExpr) (rs : List ResultColumn) (all : List BoundExpr) → results_behind s before rs ≡ Ok all → AllShown (columns_of s.table) before rs all
-results s before [] all h =
+results : (s : Scope) (before : List BoundExpr) (rs : List ResultColumn) (all : List BoundExpr) → s.results ≡ [] → results_behind s before rs ≡ Ok all → AllShown (columns_of s.table) before rs all
+results s before [] all bare h =
     let same : before ≡ all = same_Ok _ _ h in
     record { nodes = rw same (omega arith); count = rw same (omega arith); most = λ l. rw (← same) l }
-results s before (r ∷ rs) all h =
+results s before (r ∷ rs) all bare h =
     let w = found (result_of s r) (λ more. within_columns (before ++ more) >>= λ now. results_behind s now rs) all h in
     let v = found (within_columns (before ++ w.0)) (λ now. results_behind s now rs) all w.2 in
-    let one = shown s (of_result r) w.0 w.1 in
+    let one = shown s (of_result r) w.0 bare w.1 in
     let fits = within (before ++ w.0) v.0 v.1 in
-    let rest = results s v.0 rs all v.2 in
+    let rest = results s v.0 rs all bare v.2 in
     let nodes : all_nodes v.0 ≡ all_nodes before + all_nodes w.0 = ap all_nodes (sym fits.0) ∙ all_nodes-append before w.0 in
     let long : length v.0 ≡ length before + length w.0 = ap length (sym fits.0) ∙ length-append before w.0 in
     record {
@@ -157,17 +157,22 @@ stars_of_table : (n : ℕ) (rs : List ResultColumn) → stars n rs ≤ 100 → s
 stars_of_table zero rs l = omega (arith, stars_none rs)
 stars_of_table (suc n) rs l = omega (arith, l)
 
-filter_nodes : (s : Scope) (filter : Option Expr) (conjuncts : List BoundExpr) → conjuncts_of s filter ≡ Ok conjuncts → all_nodes conjuncts ≤ 4 * size_of_filter filter
-filter_nodes s None conjuncts h = let same : [] ≡ conjuncts = same_Ok _ _ h in rw (← same) (omega arith)
-filter_nodes s (Some x) conjuncts h =
-    let w = found (bound_of x s) (λ b. Ok b.conjuncts) conjuncts h in
-    let same : w.0.conjuncts ≡ conjuncts = same_Ok _ _ w.2 in
-    rw (← same) (conjunct_nodes x s w.0 w.1)
-
 -- the columns of the one table
 columns_in-from : (table : Option TableEntry) → columns_in (items_from table) ≡ columns_of table
 columns_in-from None = refl
 columns_in-from (Some t) = omega arith
+
+-- no result has a name there
+item_bare : (tables : List TableEntry) (text : List ℕ) (item : ItemLayer) (s : Scope) → item_scope tables text item ≡ Ok s → s.results ≡ []
+item_bare tables text item s h =
+    let w = found (source_table tables text (of_source item.source)) (λ t. Ok (record { text = text; table = Some t; shown = shown_name text item.alias t; results = [] })) s h in
+    let same : record { text = text; table = Some w.0; shown = shown_name text item.alias w.0; results = [] } ≡ s = same_Ok _ _ w.2 in
+    sym (ap (λ (x : Scope). x.results) same)
+
+from_bare : (tables : List TableEntry) (text : List ℕ) (items : List FromItem) (s : Scope) → from_scope tables text items ≡ Ok s → s.results ≡ []
+from_bare tables text [] s h = let same : bare_scope text ≡ s = same_Ok _ _ h in sym (ap (λ (x : Scope). x.results) same)
+from_bare tables text (item ∷ []) s h = item_bare tables text (of_item item) s h
+from_bare tables text (item ∷ other ∷ items) s h = absurd (let bad : Err cause.NotYet ≡ Ok s = h in cc)
 
 from_sized : (tables : List TableEntry) (text : List ℕ) (items : List FromItem) (s : Scope) → from_scope tables text items ≡ Ok s → from_size (items_from s.table) ≤ size_of_from items
 from_sized tables text [] s h = let same : bare_scope text ≡ s = same_Ok _ _ h in rw (← same) (omega arith)
@@ -189,9 +194,8 @@ select_small tables text s q b h is =
     let same : made ≡ q = same_Ok made q r.2 in
     let from : items_from scope.table ≡ q.from = ap (λ (x : Query). x.from) same in
     let columns : columns_of scope.table ≡ columns_in q.from = sym (columns_in-from scope.table) ∙ ap columns_in from in
-    let conjuncts : c.0 ≡ b.conjuncts = ap (λ (x : Query). x.conjuncts) same ∙ sym is.conjuncts in
     let shows : r.0 ≡ b.results = ap (λ (x : Query). x.results) same ∙ sym is.results in
-    let all = results scope [] s.results r.0 r.1 in
+    let all = results scope [] s.results r.0 (from_bare tables text s.from scope f.1) r.1 in
     let most : length r.0 ≤ 100 = all.most (omega arith) in
     let stars_most : stars (columns_of scope.table) s.results ≤ 100 = omega (arith, all.count, most) in
     let sized : from_size q.from ≤ size_of_from s.from = rw (← from) (from_sized tables text s.from scope f.1) in
@@ -200,7 +204,6 @@ select_small tables text s q b h is =
       shown = total (map size_of_result s.results);
       stars = stars (columns_of scope.table) s.results;
       within = omega (arith, sized);
-      conjuncts = rw (← conjuncts) (filter_nodes (filter_scope scope s.results) s.filter c.0 c.1);
       hundred = stars_most;
       of_table = rw (← columns) (stars_of_table (columns_of scope.table) s.results stars_most);
       results = rw (← shows) (omega (arith, all.nodes));
@@ -213,16 +216,16 @@ chosen true x y why h = same_Ok _ _ h
 chosen false x y why h = absurd (cc)
 
 -- the values of a row are as large as they are written
-values_sized : (s : Scope) (row : List Expr) (values : List BoundExpr) → trees_in s row ≡ Ok values → all_nodes values ≤ 2 * total (map size_of row)
-values_sized s [] values h = let same : [] ≡ values = same_Ok _ _ h in rw (← same) (omega arith)
-values_sized s (x ∷ row) values h =
+values_sized : (s : Scope) (row : List Expr) (values : List BoundExpr) → s.results ≡ [] → trees_in s row ≡ Ok values → all_nodes values ≤ 2 * total (map size_of row)
+values_sized s [] values bare h = let same : [] ≡ values = same_Ok _ _ h in rw (← same) (omega arith)
+values_sized s (x ∷ row) values bare h =
     let w = found (bound_of x s >>= λ b. Ok b.tree) (λ t. trees_in s row >>= λ ts. Ok (t ∷ ts)) values h in
     let t = found (bound_of x s) (λ b. Ok b.tree) w.0 w.1 in
     let v = found (trees_in s row) (λ ts. Ok (w.0 ∷ ts)) values w.2 in
     let same : w.0 ∷ v.0 ≡ values = same_Ok _ _ v.2 in
     let tree : t.0.tree ≡ w.0 = same_Ok _ _ t.2 in
-    let one : nodes_of w.0 ≤ 2 * size_of x = rw (← tree) (tree_nodes x s t.0 t.1) in
-    rw (← same) (omega (arith, one, values_sized s row v.0 v.1))
+    let one : nodes_of w.0 ≤ 2 * size_of x = rw (← tree) (tree_nodes x s t.0 bare t.1) in
+    rw (← same) (omega (arith, one, values_sized s row v.0 bare v.1))
 
 row_sized : (text : List ℕ) (width : ℕ) (row : List Expr) (values : List BoundExpr) → row_of text width row ≡ Ok values → row_size values ≤ 2 * size_of_row row
 row_sized text width row values h =
@@ -231,7 +234,7 @@ row_sized text width row values h =
     let w = found (within_columns a.0) as_wide values a.2 in
     let fits = within a.0 w.0 w.1 in
     let same : w.0 ≡ values = chosen (nat_eq (length w.0) width) w.0 values (cause.Arity (codes "VALUES")) w.2 in
-    rw (← same, ← fits.0) (omega (arith, values_sized (bare_scope text) row a.0 a.1))
+    rw (← same, ← fits.0) (omega (arith, values_sized (bare_scope text) row a.0 refl a.1))
 
 rows_sized : (text : List ℕ) (width : ℕ) (rows : List (List Expr)) (all : List (List BoundExpr)) → in_turn (row_of text width) rows ≡ Ok all → rows_size all ≤ 2 * total (map size_of_row rows)
 rows_sized text width [] all h = let same : [] ≡ all = same_Ok _ _ h in rw (← same) (omega arith)

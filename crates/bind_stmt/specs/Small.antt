@@ -17,13 +17,12 @@ abbrev pub from_size : List FromItem → ℕ
 from_size [] = 0
 from_size (i ∷ items) = 2
 
--- what is shown by `*` adds at most a hundred columns, and none of a table that has none
+-- what is shown by `*` adds at most a hundred columns, and none of a table that has none; a WHERE may repeat what results show
 pub record IsSmallQuery (size : ℕ) (q : Query) (b : BoundSelect) : Type 0 where
   pub filter : ℕ
   pub shown : ℕ
   pub stars : ℕ
   pub within : 1 + shown + from_size q.from + filter ≤ size
-  pub conjuncts : all_nodes b.conjuncts ≤ 4 * filter
   pub hundred : stars ≤ 100
   pub of_table : stars ≤ 100 * columns_in q.from
   pub results : all_nodes b.results ≤ 2 * shown + stars

@@ -4,14 +4,14 @@ ghost use Rattle.std.specs.Option.{option_copied};
 ghost use Rattle.bind_stmt.specs.Binds.{Answers, AnswersBy, IsBound, IsQueryAs};
 ghost use Rattle.bind_stmt.specs.Steps.{Becomes, behind, expression_shown, listed, select_over, selected, shown_behind};
 ghost use Rattle.sql_meaning.specs.Spelled.{name_at};
-ghost use Rattle.sql_meaning.specs.Statement.{all_columns, all_columns_of, columns_from, conjuncts_of, filter_scope, name_given, names_given, part_bound, query_bound, query_in, result_of, results_behind, select_bound, shown_name, source_table};
+ghost use Rattle.sql_meaning.specs.Statement.{all_columns, all_columns_of, columns_from, conjuncts_of, filter_scope, part_bound, query_bound, query_in, result_given, result_of, results_behind, results_given, select_bound, shown_name, source_table};
 ghost use Rattle.sql_meaning.specs.declared.column.TableEntry.{TableEntry as Declared};
 ghost use Rattle.sql_tree.specs.Layers.{of_item, of_part, of_query, of_result, of_select, of_source};
 
 use crate::statement::Bound;
 use crate::tables::{place_number, table_named};
 use crate::values::bind_rows;
-use bind_expr::{Scope, bind, bind_conjuncts, name};
+use bind_expr::{NamedResult, Scope, bind, bind_conjuncts, name};
 use eng_entry::is_same_name;
 use eng_value::{Cause, LimitKind, MAX_COLUMNS, NameKind, Text};
 use sql_meaning::{BoundExpr, BoundSelect, Column, TableEntry};
@@ -164,7 +164,7 @@ fn number_of(table: Option<&TableEntry>) -> Option<u32>
     }
 }
 
-/// What each row has to pass: a WHERE, which sees the names of results.
+/// What each row has to pass: a WHERE, which sees the results that have names.
 fn bind_filter(
     alloc: Global,
     scope: &Scope<'_>,
@@ -176,9 +176,9 @@ fn bind_filter(
     let mut conjuncts = Items::new(alloc);
     match filter {
         Some(filter) => {
-            let names = names_given(alloc, scope.text(), results)?;
-            let names = names.as_slice();
-            let filtering = Scope::new(scope.text(), scope.table(), scope.shown(), names);
+            let given = results_given(alloc, scope, results)?;
+            let given = given.as_slice();
+            let filtering = Scope::new(scope.text(), scope.table(), scope.shown(), given);
             bind_conjuncts(alloc, &filtering, filter, &mut conjuncts)?;
             Ok(conjuncts)
         }
@@ -186,32 +186,35 @@ fn bind_filter(
     }
 }
 
-/// The names that results get.
-fn names_given(
+/// The results that get names.
+fn results_given(
     alloc: Global,
-    text: &str,
+    scope: &Scope<'_>,
     results: &[ResultColumn],
-) -> Result<Items<Text>, AllocError>
-    ensures { IfOk result (λ names. names ≡ names_given text.now results.now) }
+) -> Result<Items<NamedResult>, AllocError>
+    ensures { IfOk result (λ given. given ≡ results_given scope.now results.now) }
 {
-    let mut names = Items::new(alloc);
+    let mut given = Items::new(alloc);
     for column in results {
-        add_name(alloc, text, column, &mut names)?;
+        add_given(alloc, scope, column, &mut given)?;
     }
-    Ok(names)
+    Ok(given)
 }
 
-/// The name that a result gets, if any, behind others.
-fn add_name(
+/// A result behind others, if it gets a name.
+fn add_given(
     alloc: Global,
-    text: &str,
+    scope: &Scope<'_>,
     column: &ResultColumn,
-    names: &mut Items<Text>,
+    given: &mut Items<NamedResult>,
 ) -> Result<(), AllocError>
-    ensures { OnOk result (names.new ≡ names.old ++ name_given text.now (of_result column.now)) }
+    ensures { OnOk result (given.new ≡ given.old ++ result_given scope.now (of_result column.now)) }
 {
     match column {
-        ResultColumn::Expression(_, Some(token)) => names.push(name(alloc, text, token)?),
+        ResultColumn::Expression(spanned, Some(token)) => {
+            let name = name(alloc, scope.text(), token)?;
+            given.push(NamedResult::new(alloc, scope, name, &spanned.expr)?)
+        }
         _ => Ok(()),
     }
 }

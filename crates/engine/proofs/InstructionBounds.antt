@@ -1,5 +1,5 @@
 -- The programs of statements run within the bound that size and work give.
-use Rattle.std.proofs.Common.{◌≡◌, ℕ, ◌+◌, ◌*◌, ◌≤◌, List, [], ◌∷◌, ℤ, length, sum_by, Option, Some, None, Ok, refl, ap, subst, arith}
+use Rattle.std.proofs.Common.{◌≡◌, ℕ, ◌+◌, ◌*◌, ◌-◌, ◌≤◌, List, [], ◌∷◌, ℤ, length, sum_by, Option, Some, None, Ok, refl, ap, subst, arith}
 use Rattle.std.proofs.Math.Nat.{mul-le-mul_left}
 use Rattle.std.proofs.lemmas.List.{length-map}
 use Rattle.std.proofs.lemmas.List.Sums.{sum_by-cons}
@@ -26,7 +26,7 @@ use Rattle.sql_meaning.specs.Valid.{IsWorld}
 use Rattle.sql_meaning.specs.BoundStatements.{BoundStatement, Creates, DoesNothing, Drops, FromItem, Put, Puts, Queries, Query, Shows}
 use Rattle.sql_meaning.specs.Sizes.{all_nodes}
 use Rattle.sql_meaning.specs.Statement.{causes_of, given_of, source_of, text_bound}
-use Rattle.sql_meaning.specs.Work.{bound_within, from_size, from_work, instruction_bound, opened_size, source_work, work_of}
+use Rattle.sql_meaning.specs.Work.{bound_within, from_size, from_work, instruction_bound, opened_size, repeated_size, source_work, work_of}
 use Rattle.sql_meaning.specs.World.{Context, context, rows_at}
 use Rattle.vm_code.specs.Machine.{World as Lists}
 use Rattle.engine.specs.Held.{state_of, world_in}
@@ -40,27 +40,31 @@ use Rattle.engine.proofs.Widths.{IsNarrow, tables-few}
 -- ---- numbers
 
 -- what the size allows alone, the work allows
-within_size : (a n opens work : ℕ) → a ≤ 256 * n → a ≤ 256 * (n + opens) * (work + 1)
-within_size a n opens work le =
-    let m = 256 * (n + opens) in
+within_size : (a n opens more work : ℕ) → a ≤ 256 * (n + more) → a ≤ 256 * (n + opens + more) * (work + 1)
+within_size a n opens more work le =
+    let m = 256 * (n + opens + more) in
     let all : m * (work + 1) ≡ m * work + m = omega arith in
     omega (arith, le, all)
 
 -- so much for each row of a table
-within_rows : (each n opens rows work : ℕ) → work ≡ 1 + rows → each + 16 ≤ 256 * n → 16 + (1 + rows) * each ≤ 256 * (n + opens) * (work + 1)
-within_rows each n opens rows work is le =
-    let m = 256 * (n + opens) in
+within_rows : (each n opens more rows work : ℕ) → work ≡ 1 + rows → each + 16 ≤ 256 * (n + more) → 16 + (1 + rows) * each ≤ 256 * (n + opens + more) * (work + 1)
+within_rows each n opens more rows work is le =
+    let m = 256 * (n + opens + more) in
     let few : each ≤ m = omega (arith, le) in
     let times : (1 + rows) * each ≤ (1 + rows) * m = mul-le-mul_left (1 + rows) few in
     let all : m * (1 + rows + 1) ≡ (1 + rows) * m + m = omega arith in
     rw is (omega (arith, le, times, all))
 
 -- so much for each row that is put, which comes twice, since a write has work
-within_put : (a n opens work : ℕ) → a ≤ 512 * n → a ≤ 256 * (n + opens) * (1 + work + 1)
+within_put : (a n opens work : ℕ) → a ≤ 512 * n → a ≤ 256 * (n + opens + 0) * (1 + work + 1)
 within_put a n opens work le =
-    let m = 256 * (n + opens) in
+    let m = 256 * (n + opens + 0) in
     let all : m * (1 + work + 1) ≡ m * work + 2 * m = omega arith in
     omega (arith, le, all)
+
+-- what there is beyond so much
+within_beyond : (a n : ℕ) → a ≤ n + (a - n)
+within_beyond a n = omega arith
 
 rows_nodes : (rows : List (List BoundExpr)) → rows_size rows ≡ length rows + sum_by all_nodes rows
 rows_nodes [] = omega arith
@@ -90,23 +94,28 @@ module _ (hosts : HostMeanings) (entries : Entries) (lists : Lists) (changes : �
       let rows = ap (λ k. length (rows_at lists k)) at.0 in
       omega (arith, many, rows)
 
-  query_few : (q : Query) (b : BoundSelect) (from : List FromItem) (number : Option ℕ) → q.from ≡ from → b.table ≡ number → IsFrom from number → IsSmallQuery tokens q b → query_steps b around ≤ 256 * (tokens + from_size from) * (from_work ctx from + 1)
-  query_few q b [] None none bare at small =
+  query_few : (q : Query) (b : BoundSelect) (from : List FromItem) (number : Option ℕ) → q.from ≡ from → b.table ≡ number → b.conjuncts ≡ q.conjuncts → IsFrom from number → IsSmallQuery tokens q b
+      → query_steps b around ≤ 256 * (tokens + from_size from + repeated_size tokens (Queries q)) * (from_work ctx from + 1)
+  query_few q b [] None none bare tests at small =
+      let more = repeated_size tokens (Queries q) in
+      let conjuncts : all_nodes b.conjuncts ≤ 16 * tokens + more = rw tests (within_beyond (all_nodes q.conjuncts) (16 * tokens)) in
       let stars : small.stars ≤ 0 = subst (λ items. small.stars ≤ 100 * columns_in items) none small.of_table in
       let within : 1 + small.shown + 0 + small.filter ≤ tokens = subst (λ items. 1 + small.shown + table_tokens items + small.filter ≤ tokens) none small.within in
       let rows : rows_seen b.table lists ≡ 0 = ap (λ t. rows_seen t lists) bare in
       let few : query_steps b around ≤ 16 + (1 + 0) * (4 * (all_nodes b.conjuncts + all_nodes b.results) + 6) = subst (λ r. query_steps b around ≤ 16 + (1 + r) * (4 * (all_nodes b.conjuncts + all_nodes b.results) + 6)) rows (steps-few b around) in
-      within_size (query_steps b around) tokens (from_size []) (from_work ctx []) (omega (arith, few, stars, within, small.conjuncts, small.results))
-  query_few q b (i ∷ []) (Some number) one some at small =
+      within_size (query_steps b around) tokens (from_size []) more (from_work ctx []) (omega (arith, few, stars, within, conjuncts, small.results))
+  query_few q b (i ∷ []) (Some number) one some tests at small =
+      let more = repeated_size tokens (Queries q) in
+      let conjuncts : all_nodes b.conjuncts ≤ 16 * tokens + more = rw tests (within_beyond (all_nodes q.conjuncts) (16 * tokens)) in
       let each = 4 * (all_nodes b.conjuncts + all_nodes b.results) + 6 in
       let within : 1 + small.shown + 2 + small.filter ≤ tokens = subst (λ items. 1 + small.shown + table_tokens items + small.filter ≤ tokens) one small.within in
       let few : query_steps b around ≤ 16 + (1 + rows_seen (Some number) lists) * each = subst (λ t. query_steps b around ≤ 16 + (1 + rows_seen t lists) * each) some (steps-few b around) in
-      let enough = within_rows each tokens (from_size (i ∷ [])) (rows_seen (Some number) lists) (from_work ctx (i ∷ [])) (rows_same i number at) (omega (arith, within, small.hundred, small.conjuncts, small.results)) in
+      let enough = within_rows each tokens (from_size (i ∷ [])) more (rows_seen (Some number) lists) (from_work ctx (i ∷ [])) (rows_same i number at) (omega (arith, within, small.hundred, conjuncts, small.results)) in
       omega (arith, few, enough)
-  query_few q b [] (Some number) none some at small = absurd at
-  query_few q b (i ∷ []) None one none at small = absurd at
-  query_few q b (i ∷ j ∷ from) None many none at small = absurd at
-  query_few q b (i ∷ j ∷ from) (Some number) many some at small = absurd at
+  query_few q b [] (Some number) none some tests at small = absurd at
+  query_few q b (i ∷ []) None one none tests at small = absurd at
+  query_few q b (i ∷ j ∷ from) None many none tests at small = absurd at
+  query_few q b (i ∷ j ∷ from) (Some number) many some tests at small = absurd at
 
   -- ---- an INSERT
 
@@ -118,15 +127,15 @@ module _ (hosts : HostMeanings) (entries : Entries) (lists : Lists) (changes : �
 
   -- ---- any statement
 
-  few_for : (x : BoundStatement) (r : Ready) → 1 ≤ tokens → FitsIn (tables_of entries) (length lists) x → IsBound x (bound_in r) → IsSmall tokens x (bound_in r) → steps_in around r ≤ 256 * (tokens + opened_size x) * (work_of ctx x + 1)
-  few_for (Creates e) (ready.Create n) some fits at small = within_size 2 tokens 0 0 (omega (arith, small))
+  few_for : (x : BoundStatement) (r : Ready) → 1 ≤ tokens → FitsIn (tables_of entries) (length lists) x → IsBound x (bound_in r) → IsSmall tokens x (bound_in r) → steps_in around r ≤ 256 * (tokens + opened_size x + repeated_size tokens x) * (work_of ctx x + 1)
+  few_for (Creates e) (ready.Create n) some fits at small = within_size 2 tokens 0 0 0 (omega (arith, small))
   few_for (Creates e) (ready.Drop d) some fits at small = absurd at
   few_for (Creates e) (ready.Insert b) some fits at small = absurd at
   few_for (Creates e) (ready.Select b) some fits at small = absurd at
   few_for (Creates e) (ready.Values b) some fits at small = absurd at
   few_for (Creates e) ready.Nothing some fits at small = absurd at
   few_for (Drops t) (ready.Create n) some fits at small = absurd at
-  few_for (Drops t) (ready.Drop d) some fits at small = within_size 2 tokens 0 0 (omega (arith, small))
+  few_for (Drops t) (ready.Drop d) some fits at small = within_size 2 tokens 0 0 0 (omega (arith, small))
   few_for (Drops t) (ready.Insert b) some fits at small = absurd at
   few_for (Drops t) (ready.Select b) some fits at small = absurd at
   few_for (Drops t) (ready.Values b) some fits at small = absurd at
@@ -142,21 +151,21 @@ module _ (hosts : HostMeanings) (entries : Entries) (lists : Lists) (changes : �
   few_for (Queries q) (ready.Create n) some fits at small = absurd at
   few_for (Queries q) (ready.Drop d) some fits at small = absurd at
   few_for (Queries q) (ready.Insert b) some fits at small = absurd at
-  few_for (Queries q) (ready.Select b) some fits at small = query_few q b q.from b.table refl refl at.from small
+  few_for (Queries q) (ready.Select b) some fits at small = query_few q b q.from b.table refl refl at.conjuncts at.from small
   few_for (Queries q) (ready.Values b) some fits at small = absurd at
   few_for (Queries q) ready.Nothing some fits at small = absurd at
   few_for (Shows rows) (ready.Create n) some fits at small = absurd at
   few_for (Shows rows) (ready.Drop d) some fits at small = absurd at
   few_for (Shows rows) (ready.Insert b) some fits at small = absurd at
   few_for (Shows rows) (ready.Select b) some fits at small = absurd at
-  few_for (Shows rows) (ready.Values b) some fits at small = within_size (values_steps b around) tokens 0 1 (omega (arith, values-few b around, rows_nodes b, small, some))
+  few_for (Shows rows) (ready.Values b) some fits at small = within_size (values_steps b around) tokens 0 0 1 (omega (arith, values-few b around, rows_nodes b, small, some))
   few_for (Shows rows) ready.Nothing some fits at small = absurd at
   few_for DoesNothing (ready.Create n) some fits at small = absurd at
   few_for DoesNothing (ready.Drop d) some fits at small = absurd at
   few_for DoesNothing (ready.Insert b) some fits at small = absurd at
   few_for DoesNothing (ready.Select b) some fits at small = absurd at
   few_for DoesNothing (ready.Values b) some fits at small = absurd at
-  few_for DoesNothing ready.Nothing some fits at small = within_size 1 tokens 0 0 (omega (arith, small))
+  few_for DoesNothing ready.Nothing some fits at small = within_size 1 tokens 0 0 0 (omega (arith, small))
 
   -- what is ready runs within what its text may run
   pub runs_within : (x : BoundStatement) (r : Ready) → text_bound (world_in entries lists) text ≡ Ok x → IsBound x (bound_in r) → IsSmall tokens x (bound_in r) → steps_in around r ≤ instruction_bound ctx text

@@ -57,7 +57,6 @@ small_more size more (Queries q) (bound.Select q') le small = record {
   shown = small.shown;
   stars = small.stars;
   within = omega (arith, small.within);
-  conjuncts = small.conjuncts;
   hundred = small.hundred;
   of_table = small.of_table;
   results = small.results;

@@ -39,7 +39,7 @@ use Rattle.sql_meaning.specs.Binding.{◌>>=◌}
 use Rattle.sql_meaning.specs.Expression.{Arm, MatchArm, Meaning, arm_of, arm_step, chosen_in, first_known, in_all, literal_out, match_of, match_step, matched_in, parameter_of, value_of, value_step}
 use Rattle.sql_meaning.specs.Statement.{IsNamed, Item, Row, Failed, after_conjunct, all_put, begun, bound_outcome, causes_of, given_of, if_some, item_by, item_of, item_put, item_rows, items_at, items_of, outcome_of, product, put_source, refusal_of, row_put, row_under, rows_put, shown, shown_rows, sifted, source_of, stored, text_bound, text_outcome, values_placed, with_others}
 use Rattle.sql_meaning.specs.World.{Context, State, environment_at, rows_at}
-use Rattle.sql_meaning.proofs.CausedOperators.{AreCaused, IsCaused, IsCausedSet, IsCausedTruth, and_of-caused, bad-caused, binary_of-caused, choice_of-caused, comparison_of-caused, function_by-caused, good, like_escaped_of-caused, made-caused, member_of-caused, merged-caused, only-caused, or_else-caused, store_as-caused, truth_in-caused, truth_of-caused, unary_of-caused, union-caused}
+use Rattle.sql_meaning.proofs.CausedOperators.{AreCaused, IsCaused, IsCausedSet, IsCausedTruth, and_of-caused, bad-caused, binary_of-caused, choice_of-caused, comparison_of-caused, function_by-caused, good, like_escaped_of-caused, made-caused, member_of-caused, merged-caused, only-caused, or_else-caused, store_as-caused, truth_in-caused, truth_of-caused, unary_of-caused}
 
 -- ---- rows whose causes are causes
 

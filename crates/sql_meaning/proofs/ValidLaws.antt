@@ -1,17 +1,16 @@
 -- States stay valid.
-use Rattle.std.proofs.Common.{◌≡◌, ◌≢◌, ◌<◌, ℕ, ◌+◌, List, [], ◌∷◌, ◌++◌, Bool, true, false, ◌&&◌, length, map, not, position, Option, Some, None, Result, Ok, Err, ℤ, nat_eq, is_some, if◌then◌else◌, All, AllPairs, drop, refl, sym, ap, ◌∙◌, subst}
+use Rattle.std.proofs.Common.{◌≡◌, ◌≢◌, ℕ, ◌+◌, List, [], ◌∷◌, ◌++◌, Bool, true, false, ◌&&◌, length, map, not, position, Option, Some, None, Result, Ok, Err, ℤ, nat_eq, is_some, if◌then◌else◌, All, AllPairs, drop, refl, sym, ap, ◌∙◌, subst}
 use Rattle.std.specs.Bool.{⊤}
 use Rattle.std.specs.Option.{option_map}
 use Rattle.std.proofs.Math.Seq.{drop-append_seam}
 use Rattle.std.proofs.lemmas.List.{length-map}
-use Rattle.std.proofs.lemmas.List.Elements.{All-drop, All-filter, All-head, All-nil, All-push, All-tail}
+use Rattle.std.proofs.lemmas.List.Elements.{All-drop, All-filter, All-head, All-push, All-tail}
 use Rattle.std.proofs.lemmas.List.FromFn.{length-map-range_with_len}
 use Rattle.std.proofs.lemmas.List.Kept.{AllPairs-filter}
 use Rattle.std.proofs.lemmas.List.Quantifiers.{all_pairs_push}
-use Rattle.eng_entry.specs.Entries.{Entries, entries_not_named, with_entry}
+use Rattle.eng_entry.specs.Entries.{Entries}
 use Rattle.eng_entry.specs.Names.{is_same_name}
 use Rattle.eng_entry.specs.declared.entry.Entry.{Entry}
-use Rattle.eng_entry.specs.declared.entry.EntryKind.{EntryKind}
 use Rattle.eng_entry.specs.declared.entry.EntryKind.TheVariants as entry_kind
 use Rattle.eng_number.specs.Numbers.{fits_integer}
 use Rattle.eng_value.specs.Causes.{CauseSet}
@@ -32,7 +31,6 @@ use Rattle.sql_tree.specs.declared.statement.Create.{Create}
 use Rattle.sql_tree.specs.declared.statement.Insert.{Insert}
 use Rattle.sql_tree.specs.declared.statement.InsertSource.{InsertSource}
 use Rattle.sql_tree.specs.declared.statement.InsertSource.TheVariants as source
-use Rattle.sql_tree.specs.declared.statement.Pragma.{Pragma}
 use Rattle.sql_tree.specs.declared.statement.Remove.{Remove}
 use Rattle.sql_tree.specs.declared.statement.RowCommand.{RowCommand}
 use Rattle.sql_tree.specs.declared.statement.RowCommand.TheVariants as rows_by
@@ -41,17 +39,17 @@ use Rattle.sql_meaning.specs.declared.bound.BoundExpr.{BoundExpr}
 use Rattle.sql_meaning.specs.declared.column.Column.{Column}
 use Rattle.sql_meaning.specs.declared.column.TableEntry.{TableEntry}
 use Rattle.sql_meaning.specs.Binding.{◌>>=◌}
-use Rattle.sql_meaning.specs.BoundStatements.{BoundStatement, Creates, DoesNothing, Drops, Put, Puts, Queries, Query, Shows}
+use Rattle.sql_meaning.specs.BoundStatements.{BoundStatement, Creates, DoesNothing, Drops, Put, Puts, Queries, Shows}
 use Rattle.sql_meaning.specs.Built.{is_built, is_table}
 use Rattle.sql_meaning.specs.Declarations.{columns_created, columns_given, columns_of_definition, table_called, table_of, table_with, tables_among, tables_of}
 use Rattle.sql_meaning.specs.Effects.{last_rowid_of}
 use Rattle.sql_meaning.specs.Names.{is_reserved_name}
 use Rattle.sql_meaning.specs.Spelled.{name_at}
-use Rattle.sql_meaning.specs.Statement.{all_put, answer_bound, answer_of, begun, body_of, bound_outcome, causes_of, command_bound, create_bound, create_outcome, created, drop_bound, drop_outcome, dropped, entry_with, fitting, found_table, given_of, is_free_name, is_new_table, limit_kind, outcome_of, part_bound, places_for, places_named, pragma_bound, put_bound, put_from, put_outcome, put_source, query_bound, rows_bound, rows_in, rows_put, select_bound, source_of, statement_bound, table_named, text_bound, text_bound_from, text_outcome, values_for, where_built, with_created, without_table, written}
-use Rattle.sql_meaning.specs.Valid.{AreRowsOf, IsRowOf, IsTable, IsValid, IsWorld}
+use Rattle.sql_meaning.specs.Statement.{all_put, answer_bound, answer_of, begun, body_of, bound_outcome, causes_of, command_bound, create_bound, created, drop_bound, dropped, entry_with, fitting, found_table, given_of, is_free_name, is_new_table, limit_kind, outcome_of, part_bound, places_for, places_named, put_bound, put_from, put_source, rows_bound, rows_in, rows_put, select_bound, source_of, statement_bound, table_named, text_bound, text_outcome, values_for, where_built, with_created, without_table, written}
+use Rattle.sql_meaning.specs.Valid.{IsRowOf, IsTable, IsValid, IsWorld}
 use Rattle.sql_meaning.specs.World.{Context, State, World, rows_at, tables_in}
 use Rattle.sql_meaning.proofs.EffectLaws.{PutsRows, rows_put-all}
-use Rattle.sql_meaning.proofs.TableLaws.{IsDeclared, IsElse, among-others, among-push, found-all, found-own, is_other, none-named, numbers-more, tables-emptied, tables-more, tables-with, with_entry-names}
+use Rattle.sql_meaning.proofs.TableLaws.{IsDeclared, among-others, among-push, found-all, found-own, is_other, none-named, numbers-more, tables-emptied, tables-more, tables-with, with_entry-names}
 
 -- ---- what is bound
 

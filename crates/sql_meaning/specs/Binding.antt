@@ -47,7 +47,6 @@ use Rattle.sql_meaning.specs.declared.builtins.ArgumentCount.TheVariants as coun
 use Rattle.sql_meaning.specs.declared.builtins.TheConstants.{BUILTINS}
 use Rattle.sql_meaning.specs.declared.column.Column.{Column}
 use Rattle.eng_entry.specs.Names.{is_same_name}
-use Rattle.sql_meaning.specs.Names.{is_named_in}
 use Rattle.sql_meaning.specs.Spelled.{name_at, literal_at, is_least_magnitude}
 use Rattle.sql_meaning.specs.declared.column.TableEntry.{TableEntry}
 
@@ -62,15 +61,6 @@ abbrev pub ◌>>=◌ : {A B E : Type 0} → Result A E → (A → Result B E) �
 abbrev pub in_turn : {A B : Type 0} → (A → Result B Cause) → List A → Result (List B) Cause
 in_turn f [] = Ok []
 in_turn f (a ∷ rest) = f a >>= λ b. in_turn f rest >>= λ bs. Ok (b ∷ bs)
-
--- ---- what names are looked up in
-
--- the statement's text, the table of its FROM, the name by which that is called there, and the names of results
-pub record Scope : Type 0 where
-  pub text : List ℕ
-  pub table : Option TableEntry
-  pub shown : List ℕ
-  pub results : List (List ℕ)
 
 -- ---- bound expressions
 
@@ -88,6 +78,22 @@ pub record Bound : Type 0 where
   pub column : Option Collation
   pub form : Form
   pub conjuncts : List BoundExpr
+
+-- ---- what names are looked up in
+
+-- the name that a result gets, and what its expression is bound to as one conjunct, or why it is refused
+pub record NamedResult : Type 0 where
+  pub name : List ℕ
+  pub bound : Result Bound Cause
+
+-- the statement's text, the table of its FROM, the name by which that is called there, and the results that have names
+pub record Scope : Type 0 where
+  pub text : List ℕ
+  pub table : Option TableEntry
+  pub shown : List ℕ
+  pub results : List NamedResult
+
+-- ---- collations of operands
 
 abbrev pub or_else : {X : Type 0} → Option X → Option X → Option X
 or_else None b = b
@@ -117,6 +123,10 @@ over operands tree =
 
 abbrev pub tree_of : Bound → BoundExpr
 tree_of b = b.tree
+
+-- as one conjunct, whatever it is split into
+abbrev pub unsplit : Bound → Bound
+unsplit b = record b { conjuncts = b.tree ∷ [] }
 
 -- ---- literals, columns, parameters
 
@@ -155,18 +165,22 @@ column_found shown columns (Some place) = Ok (column_at columns place)
 abbrev pub column_in : List ℕ → List Column → List ℕ → Result Bound Cause
 column_in shown columns name = column_found shown columns (column_place columns name)
 
--- why no column of the table is meant: a name of a result is not built yet
-abbrev pub no_column : List ℕ → List (List ℕ) → Cause
-no_column name results = if is_named_in results name then cause.NotYet else cause.Unknown named.Column name
+-- the first result of this name is one conjunct
+abbrev pub result_found : List ℕ → Option NamedResult → Result Bound Cause
+result_found name None = unknown_column name
+result_found name (Some r) = r.bound >>= λ b. Ok (unsplit b)
 
-abbrev pub column_or_none : List ℕ → List (List ℕ) → List Column → Option ℕ → Result Bound Cause
-column_or_none name results columns None = Err (no_column name results)
-column_or_none name results columns (Some place) = Ok (column_at columns place)
+abbrev pub result_named : List ℕ → List NamedResult → Result Bound Cause
+result_named name results = result_found name (find (λ (r : NamedResult). is_same_name r.name name) results)
+
+abbrev pub column_or_result : List ℕ → List NamedResult → List Column → Option ℕ → Result Bound Cause
+column_or_result name results columns None = result_named name results
+column_or_result name results columns (Some place) = Ok (column_at columns place)
 
 -- a column of the table comes before a result of its name
-abbrev pub column_bound : List ℕ → List (List ℕ) → Option TableEntry → Result Bound Cause
-column_bound name results None = Err (no_column name results)
-column_bound name results (Some t) = column_or_none name results t.columns (column_place t.columns name)
+abbrev pub column_bound : List ℕ → List NamedResult → Option TableEntry → Result Bound Cause
+column_bound name results None = result_named name results
+column_bound name results (Some t) = column_or_result name results t.columns (column_place t.columns name)
 
 abbrev pub dotted : List ℕ → List ℕ → List ℕ
 dotted table name = table ++ codes "." ++ name

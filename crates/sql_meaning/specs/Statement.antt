@@ -56,9 +56,9 @@ use Rattle.sql_meaning.specs.declared.bound.BoundExpr.{BoundExpr}
 use Rattle.sql_meaning.specs.declared.bound.BoundExpr.TheVariants as e
 use Rattle.sql_meaning.specs.declared.column.Column.{Column}
 use Rattle.sql_meaning.specs.declared.column.TableEntry.{TableEntry}
-use Rattle.sql_meaning.specs.Binding.{◌>>=◌, in_turn, Scope, bound_of, column_place}
+use Rattle.sql_meaning.specs.Binding.{◌>>=◌, in_turn, NamedResult, Scope, bound_of, column_place, unsplit}
 use Rattle.sql_meaning.specs.BoundStatements.{BoundStatement, Creates, DoesNothing, Drops, FromItem, Put, Puts, Queries, Query, Shows}
-use Rattle.sql_meaning.specs.Declarations.{columns_behind, columns_of_definition, table_called, tables_of, within_columns}
+use Rattle.sql_meaning.specs.Declarations.{columns_of_definition, table_called, tables_of, within_columns}
 use Rattle.sql_meaning.specs.Built.{is_built, is_table}
 use Rattle.sql_meaning.specs.Expression.{value_of}
 use Rattle.sql_meaning.specs.Names.{is_reserved_name}
@@ -218,18 +218,19 @@ from_scope tables text [] = Ok (bare_scope text)
 from_scope tables text (item ∷ []) = item_scope tables text (of_item item)
 from_scope tables text (item ∷ other ∷ items) = Err cause.NotYet
 
-abbrev pub name_given : List ℕ → ResultLayer → List (List ℕ)
-name_given text (ResultColumn-F.Expression x (Some name)) = name_at text name ∷ []
-name_given text other = []
+-- a name that a result gets stands for what its expression is bound to where no result has a name
+abbrev pub result_given : Scope → ResultLayer → List NamedResult
+result_given s (ResultColumn-F.Expression x (Some name)) = record { name = name_at s.text name; bound = bound_of x.expr s >>= λ b. Ok (unsplit b) } ∷ []
+result_given s other = []
 
--- the names that results get
-abbrev pub names_given : List ℕ → List ResultColumn → List (List ℕ)
-names_given text [] = []
-names_given text (r ∷ rs) = name_given text (of_result r) ++ names_given text rs
+-- the results that get names
+abbrev pub results_given : Scope → List ResultColumn → List NamedResult
+results_given s [] = []
+results_given s (r ∷ rs) = result_given s (of_result r) ++ results_given s rs
 
 -- a WHERE sees them
 abbrev pub filter_scope : Scope → List ResultColumn → Scope
-filter_scope s rs = record s { results = names_given s.text rs }
+filter_scope s rs = record s { results = results_given s rs }
 
 abbrev pub conjuncts_of : Scope → Option Expr → Result (List BoundExpr) Cause
 conjuncts_of s None = Ok []

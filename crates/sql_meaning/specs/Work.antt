@@ -1,5 +1,5 @@
 -- The size of a statement and the work that it asks for. Together they bound the instructions that it runs, whatever its plan.
-use Rattle.std.specs.Prelude.{ℕ, ◌+◌, ◌*◌, List, [], ◌∷◌, length, map, sum, Option, Some, None, Result, Ok, Err}
+use Rattle.std.specs.Prelude.{ℕ, ◌+◌, ◌*◌, ◌-◌, List, [], ◌∷◌, length, map, sum, Option, Some, None, Result, Ok, Err}
 use Rattle.eng_value.specs.Causes.{CauseSet}
 use Rattle.eng_value.specs.Written.{Written}
 use Rattle.eng_value.specs.declared.cause.Cause.{Cause}
@@ -7,6 +7,7 @@ use Rattle.eng_value.specs.declared.value.Value.{Value}
 use Rattle.sql_lex.specs.Tokens.{tokens_of}
 use Rattle.sql_meaning.specs.declared.column.TableEntry.{TableEntry}
 use Rattle.sql_meaning.specs.BoundStatements.{BoundStatement, Creates, DoesNothing, Drops, FromItem, Put, Puts, Queries, Shows}
+use Rattle.sql_meaning.specs.Sizes.{all_nodes}
 use Rattle.sql_meaning.specs.Statement.{begun, causes_of, given_of, item_rows, row_put, source_of, text_bound}
 use Rattle.sql_meaning.specs.World.{Context, State}
 
@@ -27,6 +28,15 @@ opened_size (Puts p) = table_size p.table
 opened_size (Queries q) = from_size q.from
 opened_size (Shows rows) = 0
 opened_size DoesNothing = 0
+
+-- a WHERE repeats an expression wherever it names the result: what its tree has beyond sixteen nodes for each of so many tokens
+abbrev pub repeated_size : ℕ → BoundStatement → ℕ
+repeated_size tokens (Creates e) = 0
+repeated_size tokens (Drops t) = 0
+repeated_size tokens (Puts p) = 0
+repeated_size tokens (Queries q) = all_nodes q.conjuncts - 16 * tokens
+repeated_size tokens (Shows rows) = 0
+repeated_size tokens DoesNothing = 0
 
 -- ---- work
 
@@ -63,7 +73,7 @@ work_of ctx DoesNothing = 0
 
 -- of a text of so many tokens; what is refused before evaluation runs nothing
 abbrev pub bound_within : Context → ℕ → Result BoundStatement Cause → ℕ
-bound_within ctx tokens (Ok b) = 256 * (tokens + opened_size b) * (work_of ctx b + 1)
+bound_within ctx tokens (Ok b) = 256 * (tokens + opened_size b + repeated_size tokens b) * (work_of ctx b + 1)
 bound_within ctx tokens (Err why) = 0
 
 -- the most instructions that a text runs

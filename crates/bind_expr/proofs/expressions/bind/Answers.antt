@@ -5,4 +5,4 @@ pub returns-clause-binds : goal.returns-clause-binds
 returns-clause-binds c = c.bind.ensures
 
 pub returns-clause-size : goal.returns-clause-size
-returns-clause-size c = bound_nodes c.args.e.now c.args.scope.now _ c.bind.ensures
+returns-clause-size c = λ bare. bound_nodes c.args.e.now c.args.scope.now _ bare c.bind.ensures
