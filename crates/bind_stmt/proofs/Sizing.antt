@@ -37,8 +37,8 @@ use Rattle.sql_meaning.specs.declared.column.TableEntry.{TableEntry}
 use Rattle.sql_meaning.specs.Binding.{◌>>=◌, Scope, bound_of, in_turn}
 use Rattle.sql_meaning.specs.Sizes.{all_nodes, nodes_of}
 use Rattle.sql_meaning.specs.Spelled.{name_at}
-use Rattle.sql_meaning.specs.Statement.{all_columns, all_columns_of, bare_scope, columns_from, command_bound, conjuncts_of, created, dropped, entry_with, filter_scope, fitting, from_scope, item_scope, is_free_name, items_from, part_bound, places_for, places_named, put_bound, put_from, query_in, result_of, result_shown, results_behind, row_of, rows_bound, rows_in, select_bound, shown_name, source_table, table_named, trees_in, values_for, width_of}
-use Rattle.bind_expr.proofs.SizeLaws.{all_nodes-append, nodes-Column, tree_nodes}
+use Rattle.sql_meaning.specs.Statement.{all_columns, all_columns_of, bare_scope, columns_from, command_bound, conjuncts_of, created, dropped, entry_with, filter_scope, fitting, from_scope, item_scope, is_free_name, items_from, part_bound, places_for, places_named, put_bound, put_from, query_in, result_of, result_shown, results_behind, results_given, row_of, rows_bound, rows_in, select_bound, shown_name, source_table, table_named, trees_in, values_for, width_of}
+use Rattle.bind_expr.proofs.SizeLaws.{all_nodes-append, conjunct_nodes, nodes-Column, tree_nodes}
 use Rattle.bind_stmt.specs.declared.statement.Bound.{Bound}
 use Rattle.bind_stmt.specs.declared.statement.Bound.TheVariants as bound
 use Rattle.bind_stmt.specs.Binds.{IsBound, IsQueryAs}
@@ -156,6 +156,13 @@ stars_none (r ∷ rs) = omega (arith, star_none (of_result r), stars_none rs)
 stars_of_table : (n : ℕ) (rs : List ResultColumn) → stars n rs ≤ 100 → stars n rs ≤ 100 * n
 stars_of_table zero rs l = omega (arith, stars_none rs)
 stars_of_table (suc n) rs l = omega (arith, l)
+
+pub filter_nodes : (s : Scope) (rs : List ResultColumn) (filter : Option Expr) (conjuncts : List BoundExpr) → results_given s rs ≡ [] → conjuncts_of (filter_scope s rs) filter ≡ Ok conjuncts → all_nodes conjuncts ≤ 4 * size_of_filter filter
+filter_nodes s rs None conjuncts bare h = let same : [] ≡ conjuncts = same_Ok _ _ h in rw (← same) (omega arith)
+filter_nodes s rs (Some x) conjuncts bare h =
+    let w = found (bound_of x (filter_scope s rs)) (λ b. Ok b.conjuncts) conjuncts h in
+    let same : w.0.conjuncts ≡ conjuncts = same_Ok _ _ w.2 in
+    rw (← same) (conjunct_nodes x (filter_scope s rs) w.0 bare w.1)
 
 -- the columns of the one table
 columns_in-from : (table : Option TableEntry) → columns_in (items_from table) ≡ columns_of table

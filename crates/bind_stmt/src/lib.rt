@@ -9,6 +9,7 @@ mod built;
 mod creating;
 mod dropping;
 mod inserting;
+mod laws;
 mod pragmas;
 mod selecting;
 mod statement;
@@ -17,4 +18,5 @@ mod values;
 
 pub use creating::NewTable;
 pub use dropping::DroppedTable;
+pub use laws::a_where_repeats_only_by_names;
 pub use statement::{Bound, bind};
