@@ -38,6 +38,11 @@ bound_in (ready.Select q) = bound.Select q
 bound_in (ready.Values rows) = bound.Values rows
 bound_in ready.Nothing = bound.Nothing
 
+-- any but a CREATE TABLE
+abbrev pub CreatesNone : Bound → Type 0
+CreatesNone (bound.CreateTable n) = ⊥
+CreatesNone b = ⊤
+
 -- the entry is that of the statement, and declares the table
 abbrev pub IsEntryOf : BoundStatement → NewEntry → Type 0
 IsEntryOf (Creates e) n = (n.entry ≡ e) × (table_of e ≡ Some n.table)

@@ -21,6 +21,7 @@ use crate::running::Completed;
 use crate::schema::Schema;
 use eng_value::{Cause, Meanings, Steps, Value};
 use gen_write::{compile_create, compile_drop, compile_insert, compile_nothing};
+use sqlite_items::Boxed;
 use std::alloc::{AllocError, Global};
 use std::marker::Brand;
 use std::sync::ledger::Ledger;
@@ -159,7 +160,7 @@ fn run_create<M: Meanings, R: RowSink, L: Ledger>(
     database: &mut Database,
     hosts: &mut Hosts,
     budget: u64,
-    new: NewEntry,
+    new: Boxed<NewEntry>,
     rows: &mut R,
     steps: &mut Steps<L>,
 ) -> Result<Done, Cause>
@@ -184,7 +185,7 @@ fn run_create<M: Meanings, R: RowSink, L: Ledger>(
     let Ok(program) = compile_create(alloc) else {
         return Err(Cause::Mem);
     };
-    let NewEntry { entry, table } = new;
+    let NewEntry { entry, table } = new.into_inner();
     let name = entry.name.clone()?;
     let Ok(()) = database.schema.add(entry, table) else {
         return Err(Cause::Mem);

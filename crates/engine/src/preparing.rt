@@ -1,13 +1,16 @@
 // From the text of a statement to one that is ready to run.
-ghost use Rattle.std.specs.Prelude.{◌≡◌, ℕ, All, IfErr, IfOk, Ok, drop, length, true};
+ghost use Rattle.std.specs.Prelude.{◌≡◌, ℕ, All, IfErr, IfOk, Ok, Result, drop, length, true};
 ghost use Rattle.std.specs.Str.{IsCharBoundary, is_utf8};
 ghost use Rattle.bind_stmt.specs.Binds.{BindsTo};
+ghost use Rattle.bind_stmt.specs.declared.statement.Bound.TheVariants as bound;
 ghost use Rattle.eng_entry.specs.Entries.{Entries};
+ghost use Rattle.eng_value.specs.declared.cause.Cause.{Cause};
 ghost use Rattle.eng_value.specs.declared.cause.Cause.TheVariants.{Mem};
 ghost use Rattle.engine.specs.Held.{world_in};
-ghost use Rattle.engine.specs.Prepared.{Readies, StandsIn, cause_of};
+ghost use Rattle.engine.specs.Prepared.{CreatesNone, Readies, StandsIn, cause_of};
 ghost use Rattle.sql_lex.specs.Cutting.{start_of};
 ghost use Rattle.sql_lex.specs.Tokens.{InOrder, slice_of, tokens_of};
+ghost use Rattle.sql_meaning.specs.BoundStatements.{BoundStatement};
 ghost use Rattle.sql_meaning.specs.Declarations.{tables_of};
 ghost use Rattle.sql_meaning.specs.Statement.{end_of, entry_with, limit_kind, statement_bound, text_bound, text_bound_from, without_end};
 ghost use Rattle.sql_tree.specs.Sizes.{size_of_statement};
@@ -22,7 +25,7 @@ use sql_grammar::Limit;
 use sql_lex::tokens;
 use sql_meaning::{BoundExpr, BoundInsert, BoundSelect, TableEntry};
 use sql_tree::{Statement, Token, TokenKind};
-use sqlite_items::Items;
+use sqlite_items::{Boxed, Items};
 use std::alloc::Global;
 
 /// What a CREATE TABLE puts into the catalog: the entry, and what it declares.
@@ -35,7 +38,7 @@ pub(crate) struct NewEntry {
 /// A statement that is ready to run.
 #[derive(Drop)]
 pub(crate) enum Ready {
-    Create(NewEntry),
+    Create(Boxed<NewEntry>),
     Drop(DroppedTable),
     Insert(BoundInsert),
     Select(BoundSelect),
@@ -99,16 +102,39 @@ fn readied(
         → Readies (size_of_statement statement) (statement_bound (tables_of entries) number body.now statement) result }
 {
     match bound {
-        Bound::CreateTable(new) => {
-            let created = new_entry(alloc, new, number, body, statement)?;
-            Ok(Ready::Create(created))
-        }
-        Bound::DropTable(dropped) => Ok(Ready::Drop(dropped)),
-        Bound::Insert(insert) => Ok(Ready::Insert(insert)),
-        Bound::Select(select) => Ok(Ready::Select(select)),
-        Bound::Values(rows) => Ok(Ready::Values(rows)),
-        Bound::Nothing => Ok(Ready::Nothing),
+        Bound::CreateTable(new) => created(alloc, new, number, body, statement),
+        other => Ok(as_bound(other)),
     }
+}
+
+/// Any but a CREATE TABLE is ready as it is bound.
+fn as_bound(bound: Bound) -> Ready
+    requires { CreatesNone bound }
+    ensures { (size : ℕ) (meant : Result BoundStatement Cause) → BindsTo size meant (Ok bound) → Readies size meant (Ok result) }
+{
+    match bound {
+        Bound::CreateTable(_) => unreachable!(),
+        Bound::DropTable(dropped) => Ready::Drop(dropped),
+        Bound::Insert(insert) => Ready::Insert(insert),
+        Bound::Select(select) => Ready::Select(select),
+        Bound::Values(rows) => Ready::Values(rows),
+        Bound::Nothing => Ready::Nothing,
+    }
+}
+
+/// A CREATE TABLE with its entry.
+fn created(
+    alloc: Global,
+    new: NewTable,
+    number: usize,
+    body: &str,
+    statement: Statement,
+) -> Result<Ready, Cause>
+    ensures { (lists : Lists) (entries : Entries) → length lists ≡ number → BindsTo (size_of_statement statement) (statement_bound (tables_of entries) number body.now statement) (Ok (bound.CreateTable new))
+        → Readies (size_of_statement statement) (statement_bound (tables_of entries) number body.now statement) result }
+{
+    let entry = new_entry(alloc, new, number, body, statement)?;
+    Ok(Ready::Create(Boxed::new(alloc, entry)?))
 }
 
 /// The entry of a table that is created, and what it declares.

@@ -1,10 +1,11 @@
 // Reading and changing rows: queries, INSERT, UPDATE and DELETE.
 
 ghost use Rattle.std.specs.Prelude.{ℕ, ◌≡◌};
+ghost use Rattle.sql_tree.specs.declared.statement.RowCommand.TheVariants as rows_by;
 ghost use Rattle.sql_grammar.specs.Grammar.{Name};
 ghost use Rattle.sql_grammar.specs.Bodies.{rules};
 ghost use Rattle.sql_grammar.specs.Queries as queries;
-ghost use Rattle.sql_grammar.specs.Rules.{reads, first, starts};
+ghost use Rattle.sql_grammar.specs.Rules.{reads, first, starts, to};
 ghost use Rattle.sql_grammar.specs.Writes as spec;
 ghost use Rattle.parse_cursor.specs.Gives.{Gives};
 
@@ -196,6 +197,46 @@ pub fn sees_row_command(tokens: &Cursor<'_>) -> bool
     tokens.sees_any(&STARTS)
 }
 
+/// A command that is a query. Each kind of command has a function of its own, so that no command pays for the locals of another.
+fn of_query(alloc: Global, tokens: &mut Cursor<'_>, depth: usize) -> Result<RowCommand, ParseError>
+    ensures { Gives (reads Name rules depth (to rows_by.Query queries.query) tokens.old.counts tokens.old.rest.now) result tokens.new.counts tokens.new.rest.now }
+{
+    match query(alloc, tokens, depth) {
+        Ok(found) => Ok(RowCommand::Query(found)),
+        Err(why) => Err(why),
+    }
+}
+
+/// One that is an INSERT.
+fn of_insert(alloc: Global, tokens: &mut Cursor<'_>, depth: usize) -> Result<RowCommand, ParseError>
+    ensures { Gives (reads Name rules depth (to rows_by.Insert spec.insert) tokens.old.counts tokens.old.rest.now) result tokens.new.counts tokens.new.rest.now }
+{
+    match insert(alloc, tokens, depth) {
+        Ok(found) => Ok(RowCommand::Insert(found)),
+        Err(why) => Err(why),
+    }
+}
+
+/// One that is an UPDATE.
+fn of_update(alloc: Global, tokens: &mut Cursor<'_>, depth: usize) -> Result<RowCommand, ParseError>
+    ensures { Gives (reads Name rules depth (to rows_by.Update spec.update) tokens.old.counts tokens.old.rest.now) result tokens.new.counts tokens.new.rest.now }
+{
+    match update(alloc, tokens, depth) {
+        Ok(found) => Ok(RowCommand::Update(found)),
+        Err(why) => Err(why),
+    }
+}
+
+/// One that is a DELETE.
+fn of_delete(alloc: Global, tokens: &mut Cursor<'_>, depth: usize) -> Result<RowCommand, ParseError>
+    ensures { Gives (reads Name rules depth (to rows_by.Delete spec.delete) tokens.old.counts tokens.old.rest.now) result tokens.new.counts tokens.new.rest.now }
+{
+    match delete(alloc, tokens, depth) {
+        Ok(found) => Ok(RowCommand::Delete(found)),
+        Err(why) => Err(why),
+    }
+}
+
 /// `query | insert | update | delete`, where so many nestings may still be opened
 #[tactic(auto, using(crate::proofs::Clear::write_firsts), unfolding(sql_grammar::specs::Writes::row_command))]
 pub fn row_command(
@@ -206,25 +247,13 @@ pub fn row_command(
     ensures { Gives (reads Name rules depth spec.row_command tokens.old.counts tokens.old.rest.now) result tokens.new.counts tokens.new.rest.now }
 {
     if sees_query(tokens) {
-        return match query(alloc, tokens, depth) {
-            Ok(found) => Ok(RowCommand::Query(found)),
-            Err(why) => Err(why),
-        };
+        return of_query(alloc, tokens, depth);
     }
     if tokens.sees(TokenKind::Insert) || tokens.sees(TokenKind::Replace) {
-        return match insert(alloc, tokens, depth) {
-            Ok(found) => Ok(RowCommand::Insert(found)),
-            Err(why) => Err(why),
-        };
+        return of_insert(alloc, tokens, depth);
     }
     if tokens.sees(TokenKind::Update) {
-        return match update(alloc, tokens, depth) {
-            Ok(found) => Ok(RowCommand::Update(found)),
-            Err(why) => Err(why),
-        };
+        return of_update(alloc, tokens, depth);
     }
-    match delete(alloc, tokens, depth) {
-        Ok(found) => Ok(RowCommand::Delete(found)),
-        Err(why) => Err(why),
-    }
+    of_delete(alloc, tokens, depth)
 }

@@ -1,13 +1,16 @@
 // A text of tokens as one statement.
 
 ghost use Rattle.std.specs.Prelude.{ℕ};
+ghost use Rattle.sql_tree.specs.declared.statement.Command.TheVariants as command_is;
 ghost use Rattle.sql_tree.specs.declared.statement.Statement.{Statement};
 ghost use Rattle.sql_grammar.specs.Answers.{Answer};
 ghost use Rattle.sql_grammar.specs.Grammar.{Name};
 ghost use Rattle.sql_grammar.specs.Bodies.{rules};
-ghost use Rattle.sql_grammar.specs.Rules.{reads};
+ghost use Rattle.sql_grammar.specs.Definitions.{create};
+ghost use Rattle.sql_grammar.specs.Rules.{reads, to};
 ghost use Rattle.sql_grammar.specs.Statements as spec;
 ghost use Rattle.sql_grammar.specs.StatementTexts.{AnswersAs};
+ghost use Rattle.sql_grammar.specs.Writes.{row_command};
 ghost use Rattle.parse_cursor.specs.Gives.{Gives};
 ghost use Rattle.parse_cursor.specs.Whole.{Shows};
 ghost use Rattle.parse_stmt.specs.Parts as part;
@@ -31,39 +34,75 @@ const TRANSACTIONS: [TokenKind; 6] = [
     TokenKind::Release,
 ];
 
+/// A command that reads or changes rows. Each kind of command has a function of its own, so that no command pays for the locals of
+/// another.
+fn of_rows(alloc: Global, tokens: &mut Cursor<'_>, depth: usize) -> Result<Command, ParseError>
+    ensures { Gives (reads Name rules depth (to command_is.Rows row_command) tokens.old.counts tokens.old.rest.now) result tokens.new.counts tokens.new.rest.now }
+{
+    match row_command(alloc, tokens, depth) {
+        Ok(found) => Ok(Command::Rows(found)),
+        Err(why) => Err(why),
+    }
+}
+
+/// One that creates.
+fn of_create(alloc: Global, tokens: &mut Cursor<'_>, depth: usize) -> Result<Command, ParseError>
+    ensures { Gives (reads Name rules depth (to command_is.Create create) tokens.old.counts tokens.old.rest.now) result tokens.new.counts tokens.new.rest.now }
+{
+    match create(alloc, tokens, depth) {
+        Ok(found) => Ok(Command::Create(found)),
+        Err(why) => Err(why),
+    }
+}
+
+/// One that drops.
+fn of_remove(tokens: &mut Cursor<'_>) -> Result<Command, ParseError>
+    ensures { (d : ℕ) → Gives (reads Name rules d (to command_is.Remove spec.remove) tokens.old.counts tokens.old.rest.now) result tokens.new.counts tokens.new.rest.now }
+{
+    match remove(tokens) {
+        Ok(found) => Ok(Command::Remove(found)),
+        Err(why) => Err(why),
+    }
+}
+
+/// One of a transaction.
+fn of_transaction(tokens: &mut Cursor<'_>) -> Result<Command, ParseError>
+    ensures { (d : ℕ) → Gives (reads Name rules d (to command_is.Transaction spec.transaction) tokens.old.counts tokens.old.rest.now) result tokens.new.counts tokens.new.rest.now }
+{
+    match transaction(tokens) {
+        Ok(found) => Ok(Command::Transaction(found)),
+        Err(why) => Err(why),
+    }
+}
+
+/// A PRAGMA.
+fn of_pragma(tokens: &mut Cursor<'_>, depth: usize) -> Result<Command, ParseError>
+    ensures { Gives (reads Name rules depth (to command_is.Pragma spec.pragma) tokens.old.counts tokens.old.rest.now) result tokens.new.counts tokens.new.rest.now }
+{
+    match pragma(tokens, depth) {
+        Ok(found) => Ok(Command::Pragma(found)),
+        Err(why) => Err(why),
+    }
+}
+
 /// `query | insert | update | delete | create | drop | transaction | pragma`
 #[tactic(auto, using(crate::proofs::Clear::command_firsts), unfolding(sql_grammar::specs::Statements::command))]
 fn command(alloc: Global, tokens: &mut Cursor<'_>, depth: usize) -> Result<Command, ParseError>
     ensures { Gives (reads Name rules depth spec.command tokens.old.counts tokens.old.rest.now) result tokens.new.counts tokens.new.rest.now }
 {
     if sees_row_command(tokens) {
-        return match row_command(alloc, tokens, depth) {
-            Ok(found) => Ok(Command::Rows(found)),
-            Err(why) => Err(why),
-        };
+        return of_rows(alloc, tokens, depth);
     }
     if tokens.sees(TokenKind::Create) {
-        return match create(alloc, tokens, depth) {
-            Ok(found) => Ok(Command::Create(found)),
-            Err(why) => Err(why),
-        };
+        return of_create(alloc, tokens, depth);
     }
     if tokens.sees(TokenKind::Drop) {
-        return match remove(tokens) {
-            Ok(found) => Ok(Command::Remove(found)),
-            Err(why) => Err(why),
-        };
+        return of_remove(tokens);
     }
     if tokens.sees_any(&TRANSACTIONS) {
-        return match transaction(tokens) {
-            Ok(found) => Ok(Command::Transaction(found)),
-            Err(why) => Err(why),
-        };
+        return of_transaction(tokens);
     }
-    match pragma(tokens, depth) {
-        Ok(found) => Ok(Command::Pragma(found)),
-        Err(why) => Err(why),
-    }
+    of_pragma(tokens, depth)
 }
 
 /// `[QUERY PLAN]`
@@ -104,12 +143,16 @@ fn semicolon(tokens: &mut Cursor<'_>) -> Result<Option<Token>, ParseError>
     }
 }
 
-/// A statement, with the `;` that may end it.
-fn ended(tokens: &mut Cursor<'_>, found: Statement) -> Result<Statement, ParseError>
-    ensures { (d : ℕ) → Gives (part.ended found (reads Name rules d spec.semicolon tokens.old.counts tokens.old.rest.now)) result tokens.new.counts tokens.new.rest.now }
+/// A command with what EXPLAIN asks of it, and the `;` that may end it.
+fn ended(
+    tokens: &mut Cursor<'_>,
+    explain: Option<Explain>,
+    command: Command,
+) -> Result<Statement, ParseError>
+    ensures { (d : ℕ) → Gives (part.ended (record { explain = explain; command = command }) (reads Name rules d spec.semicolon tokens.old.counts tokens.old.rest.now)) result tokens.new.counts tokens.new.rest.now }
 {
     match semicolon(tokens) {
-        Ok(_) => Ok(found),
+        Ok(_) => Ok(Statement { explain, command }),
         Err(why) => Err(why),
     }
 }
@@ -126,7 +169,7 @@ pub fn statement(
 {
     let explain = explain(tokens)?;
     match command(alloc, tokens, depth) {
-        Ok(command) => ended(tokens, Statement { explain, command }),
+        Ok(command) => ended(tokens, explain, command),
         Err(why) => Err(why),
     }
 }

@@ -9,6 +9,7 @@ use Rattle.sql_meaning.specs.Statement.{create_outcome}
 use Rattle.vm_code.specs.Machine.{Failed, Finished, setting}
 use Rattle.engine.specs.Held.{state_of}
 use Rattle.engine.specs.Outcomes.{surroundings_in}
+use Rattle.engine.specs.declared.preparing.NewEntry.{NewEntry}
 use Rattle.engine.proofs.Writing.{taken_back}
 use Rattle.engine.proofs.CarryingOut.{carries_Ok, carries_Err, carries_Mem}
 use Rattle.engine.proofs.Starting.{from_copy}
@@ -32,12 +33,12 @@ returns-in-Ok-execute-clause-carried g c =
     let same : to_z w64 (of_z w64 db.last_rowid) ≡ db.last_rowid = search rules in
     let ends = from_copy (setting g.M.Meanings.hosts nobody [] c.in-Ok.program) most c.in-Ok.program db.tables.world run.ending run.shared same (c.in-Ok.ensures.performs around db.last_rowid c.requires.sound) in
     let a = c.in-Ok-execute.ensures.runs told nobody most run.ending run.shared ends in
-    carries_Ok old (create_outcome old c.args.new.entry) run.ending run.shared (record { ended = refl; given = refl; kept = λ causes is. absurd (let bad : Finished ≡ Failed causes = is in cc) }) most most c.args.budget (c.execute.new.steps - c.args.steps.now) c.execute.new.tables.world (g.R.RowSink.taken c.args.rows.now) (g.R.RowSink.taken c.execute.new.rows) (Rose (g.R.RowSink.fault_count c.args.rows.now) (g.R.RowSink.fault_count c.execute.new.rows)) (omega arith) (state_of c.add.new.self c.execute.new.tables.world db.changes db.last_rowid) c.in-Ok-execute.completed c.done.result (rw (a.answer.1, c.in-Ok-add.ensures.ok) refl) c.done.ensures.given c.done.ensures.changed a
+    carries_Ok old (create_outcome old c.args.new.entry) run.ending run.shared (record { ended = refl; given = refl; kept = λ causes is. absurd (let bad : Finished ≡ Failed causes = is in cc) }) most most c.args.budget (c.execute.new.steps - c.args.steps.now) c.execute.new.tables.world (g.R.RowSink.taken c.args.rows.now) (g.R.RowSink.taken c.execute.new.rows) (Rose (g.R.RowSink.fault_count c.args.rows.now) (g.R.RowSink.fault_count c.execute.new.rows)) (omega arith) (state_of c.add.new.self c.execute.new.tables.world db.changes db.last_rowid) c.in-Ok-execute.completed c.done.result (rw (a.answer.1, c.in-Ok-add.ensures.ok, c.into_inner-entry.ensures) refl) c.done.ensures.given c.done.ensures.changed a
 
 pub returns-clause-kept : goal.returns-clause-kept
 returns-clause-kept g c =
     let db = c.args.database.now in
-    let back = c.remove.ensures ∙ ap (without_name space.Names c.as_str.result.now) c.in-Ok-add.ensures.ok ∙ ap (λ name. without_name space.Names name (with_entry c.args.new.entry db.schema)) (c.as_str.ensures ∙ c.in_ok-name.ensures.cases) ∙ taken_back c.args.new.entry db.schema c.requires.new.kind c.requires.new.free in
+    let back = c.remove.ensures ∙ ap (without_name space.Names c.as_str.result.now) c.in-Ok-add.ensures.ok ∙ ap (λ name. without_name space.Names name (with_entry c.into_inner-entry.result.entry db.schema)) (c.as_str.ensures ∙ c.in_ok-name.ensures.cases) ∙ ap (λ (n : NewEntry). without_name space.Names n.entry.name (with_entry n.entry db.schema)) c.into_inner-entry.ensures ∙ taken_back c.args.new.entry db.schema c.requires.new.kind c.requires.new.free in
     rw (c.in-Err.ensures.kept, back) refl
 
 pub returns-clause-carried : goal.returns-clause-carried
@@ -51,7 +52,7 @@ returns-clause-carried g c =
     let same : to_z w64 (of_z w64 db.last_rowid) ≡ db.last_rowid = search rules in
     let ends = from_copy (setting g.M.Meanings.hosts nobody [] c.in-Ok.program) most c.in-Ok.program db.tables.world run.ending run.shared same (c.in-Ok.ensures.performs around db.last_rowid c.requires.sound) in
     let a = c.in-Err.ensures.runs told nobody most run.ending run.shared ends in
-    let back = c.remove.ensures ∙ ap (without_name space.Names c.as_str.result.now) c.in-Ok-add.ensures.ok ∙ ap (λ name. without_name space.Names name (with_entry c.args.new.entry db.schema)) (c.as_str.ensures ∙ c.in_ok-name.ensures.cases) ∙ taken_back c.args.new.entry db.schema c.requires.new.kind c.requires.new.free in
+    let back = c.remove.ensures ∙ ap (without_name space.Names c.as_str.result.now) c.in-Ok-add.ensures.ok ∙ ap (λ name. without_name space.Names name (with_entry c.into_inner-entry.result.entry db.schema)) (c.as_str.ensures ∙ c.in_ok-name.ensures.cases) ∙ ap (λ (n : NewEntry). without_name space.Names n.entry.name (with_entry n.entry db.schema)) c.into_inner-entry.ensures ∙ taken_back c.args.new.entry db.schema c.requires.new.kind c.requires.new.free in
     carries_Err old (create_outcome old c.args.new.entry) run.ending run.shared (record { ended = refl; given = refl; kept = λ causes is. absurd (let bad : Finished ≡ Failed causes = is in cc) }) most most c.args.budget (c.execute.new.steps - c.args.steps.now) c.execute.new.tables.world (g.R.RowSink.taken c.args.rows.now) (g.R.RowSink.taken c.execute.new.rows) (Rose (g.R.RowSink.fault_count c.args.rows.now) (g.R.RowSink.fault_count c.execute.new.rows)) (omega arith) (state_of c.remove.new.self c.execute.new.tables.world db.changes db.last_rowid) c.in-Err.cause (rw (c.in-Err.ensures.kept, back) refl) a
 
 pub returns-in_default-add-clause-carried : goal.returns-in_default-add-clause-carried
