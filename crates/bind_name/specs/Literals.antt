@@ -1,5 +1,5 @@
 -- Parts of literals.
-use Rattle.std.specs.Prelude.{ℕ, List, [], ◌∷◌, ◌%◌, ◌^◌}
+use Rattle.std.specs.Prelude.{ℕ, [], ◌∷◌, ◌%◌, ◌^◌}
 use Rattle.std.specs.Str.Parse.{digits_value}
 
 -- the byte that two hexadecimal digits write
