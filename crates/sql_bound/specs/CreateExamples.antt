@@ -1,0 +1,62 @@
+-- CREATE, DROP and transactions.
+use Rattle.std.specs.Prelude.{◌≡◌, ℕ, List, [], ◌∷◌, Option, Some, None, codes, refl}
+use Rattle.sql_grammar.specs.Answers.{Answer, Tree, Syntax, TooMuch}
+use Rattle.sql_grammar.specs.Marks.{count}
+use Rattle.sql_grammar.specs.Statements.{all_statement_rules}
+use Rattle.sql_lex.specs.Pieces.{word_kind}
+use Rattle.sql_lex.specs.Tokens.{tokens_of}
+use Rattle.sql_tree.specs.declared.statement.Statement.{Statement}
+use Rattle.sql_meaning.specs.Spelled.{the_text_test}
+use Rattle.sql_meaning.specs.Statement.{answer_of}
+use Rattle.sql_bound.specs.Kinds as kind
+use Rattle.sql_bound.specs.Refusals.{Exists, Misuse, Real, Refusal, Reserved, Unknown}
+use Rattle.sql_bound.specs.Samples.{around_of, why}
+use Rattle.sql_bound.specs.Scopes.{Around}
+use Rattle.sql_bound.specs.Statements.{bound_of}
+
+abbrev things : Around
+things = around_of (codes "CREATE TABLE t(a, B)" ∷ codes "CREATE VIEW v AS SELECT 1" ∷ codes "CREATE INDEX i ON t(a)" ∷ []) (codes "CREATE TRIGGER g AFTER DELETE ON t BEGIN SELECT 1; END" ∷ [])
+
+abbrev refusal_read : List ℕ → Answer Statement → Option Refusal
+refusal_read text (Tree s) = why (bound_of things text s)
+refusal_read text (Syntax rest) = None
+refusal_read text (TooMuch l rest) = None
+
+abbrev refused : List ℕ → Option Refusal
+refused text = refusal_read text (answer_of text)
+
+-- ---- the name comes first; tables, views and indexes share one space, triggers have another
+
+names : (refused (codes "CREATE TABLE sqlite_x(a, a)") ≡ Some (Reserved (codes "sqlite_x"))) × (refused (codes "CREATE TABLE V(a, a)") ≡ Some (Exists kind.View (codes "v"))) × (refused (codes "CREATE INDEX I ON nosuch(a)") ≡ Some (Exists kind.Index (codes "i"))) × (refused (codes "CREATE TABLE g(a)") ≡ None) × (refused (codes "CREATE TABLE IF NOT EXISTS t(a, a)") ≡ None)
+unfolding all_statement_rules count tokens_of word_kind the_text_test
+names = (refl, refl, refl, refl, refl)
+
+-- ---- columns and constraints, from left to right
+
+columns : (refused (codes "CREATE TABLE x(a, b REAL, A)") ≡ Some Real) × (refused (codes "CREATE TABLE x(a, b, A REAL)") ≡ Some (Exists kind.Column (codes "a"))) × (refused (codes "CREATE TABLE x(a COLLATE nosuch, a)") ≡ Some (Unknown kind.Collation (codes "nosuch"))) × (refused (codes "CREATE TABLE x(a PRIMARY KEY, b PRIMARY KEY)") ≡ Some (Misuse (codes "x"))) × (refused (codes "CREATE TABLE x(a PRIMARY KEY, PRIMARY KEY(nosuch))") ≡ Some (Misuse (codes "x"))) × (refused (codes "CREATE TABLE x(a, UNIQUE(b))") ≡ Some (Unknown kind.Column (codes "b")))
+unfolding all_statement_rules count tokens_of word_kind the_text_test
+columns = (refl, refl, refl, refl, refl, refl)
+
+-- ---- indexes and triggers on what they may stand on
+
+indexes : (refused (codes "CREATE INDEX x ON v(a)") ≡ Some (Misuse (codes "v"))) × (refused (codes "CREATE INDEX x ON t(a, c)") ≡ Some (Unknown kind.Column (codes "c"))) × (refused (codes "CREATE INDEX x ON i(a)") ≡ Some (Unknown kind.Table (codes "i"))) × (refused (codes "CREATE INDEX x ON t(a, b DESC)") ≡ None)
+unfolding all_statement_rules count tokens_of word_kind the_text_test
+indexes = (refl, refl, refl, refl)
+
+triggers : (refused (codes "CREATE TRIGGER x INSTEAD OF DELETE ON t BEGIN SELECT 1; END") ≡ Some (Misuse (codes "t"))) × (refused (codes "CREATE TRIGGER x AFTER DELETE ON v BEGIN SELECT 1; END") ≡ Some (Misuse (codes "v"))) × (refused (codes "CREATE TRIGGER x AFTER UPDATE OF c ON t BEGIN SELECT 1; END") ≡ Some (Unknown kind.Column (codes "c"))) × (refused (codes "CREATE TRIGGER G AFTER DELETE ON nosuch BEGIN SELECT 1; END") ≡ Some (Exists kind.Trigger (codes "g"))) × (refused (codes "CREATE TRIGGER x AFTER DELETE ON I BEGIN SELECT 1; END") ≡ Some (Unknown kind.Table (codes "I")))
+unfolding all_statement_rules count tokens_of word_kind the_text_test
+triggers = (refl, refl, refl, refl, refl)
+
+modules : refused (codes "CREATE VIRTUAL TABLE x USING nosuch(?)") ≡ Some (Unknown kind.Module (codes "nosuch"))
+unfolding all_statement_rules count tokens_of word_kind the_text_test
+modules = refl
+
+-- ---- DROP takes a thing of the kind that is named
+
+drops : (refused (codes "DROP TABLE v") ≡ Some (Unknown kind.Table (codes "v"))) × (refused (codes "DROP VIEW IF EXISTS t") ≡ None) × (refused (codes "DROP TRIGGER t") ≡ Some (Unknown kind.Trigger (codes "t")))
+unfolding all_statement_rules count tokens_of word_kind the_text_test
+drops = (refl, refl, refl)
+
+others : (refused (codes "RELEASE p") ≡ Some (Unknown kind.Savepoint (codes "p"))) × (refused (codes "PRAGMA foreign_keys=ON") ≡ Some (Unknown kind.Pragma (codes "foreign_keys"))) × (refused (codes "BEGIN") ≡ None)
+unfolding all_statement_rules count tokens_of word_kind the_text_test
+others = (refl, refl, refl)

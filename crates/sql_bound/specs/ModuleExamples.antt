@@ -1,0 +1,71 @@
+-- Tables of modules and functions of hosts.
+use Rattle.std.specs.Prelude.{◌≡◌, true, false, List, [], ◌∷◌, pos, Some, None, if◌then◌else◌, codes, refl}
+use Rattle.eng_entry.specs.Names.{is_same_name}
+use Rattle.eng_value.specs.declared.modules.ColumnKind.TheVariants as column_kind
+use Rattle.eng_value.specs.declared.modules.ModColumn.{ModColumn}
+use Rattle.eng_value.specs.declared.value.Value.TheVariants as value
+use Rattle.sql_grammar.specs.Marks.{count}
+use Rattle.sql_grammar.specs.Statements.{all_statement_rules}
+use Rattle.sql_lex.specs.Pieces.{word_kind}
+use Rattle.sql_lex.specs.Tokens.{tokens_of}
+use Rattle.sql_meaning.specs.declared.bound.Literal.TheVariants as literal
+use Rattle.sql_meaning.specs.Spelled.{the_text_test}
+use Rattle.sql_bound.specs.Carriers.{All}
+use Rattle.sql_bound.specs.Exprs as e
+use Rattle.sql_bound.specs.Kinds as kind
+use Rattle.sql_bound.specs.Refusals.{Arity, Misuse, Unknown}
+use Rattle.sql_bound.specs.Samples.{around_of, bound_over, call, called_with, col, commanded_over, core, delete, dot, lit, no_facts, query, refused_over, res, results_at, sources_at, why}
+use Rattle.sql_bound.specs.Scopes.{Around, Facts}
+use Rattle.sql_bound.specs.Units.{Module}
+
+-- ---- a module whose name is a table: value, and the arguments start, stop and step; and a function of one argument
+
+abbrev series_columns : List ModColumn
+series_columns =
+    record { name = codes "value"; type_text = []; kind = column_kind.Shown } ∷ record { name = codes "start"; type_text = []; kind = column_kind.Required }
+    ∷ record { name = codes "stop"; type_text = []; kind = column_kind.Required } ∷ record { name = codes "step"; type_text = []; kind = column_kind.Optional } ∷ []
+
+abbrev facts : Facts
+facts = record no_facts {
+  scalar = λ name. if is_same_name name (codes "twice") then Some (pos 1, false) else None;
+  host_module = λ name. if is_same_name name (codes "series") then Some (true, false) else None;
+  columns = λ name table. Some series_columns;
+}
+
+abbrev hosts : Around
+hosts = record (around_of [] []) { facts = facts }
+
+abbrev one : e.BoundExpr
+one = e.Literal (literal.Value (value.Integer (pos 1)))
+
+-- an argument may name the items on the left, and `*` shows no argument
+arguments_on_the_left : sources_at 0 (bound_over hosts (codes "SELECT 1 FROM series(1,1) AS x, series(x.value,1) AS y") (λ t. query (core (res t (lit t 1) 1 1 ∷ []) (called_with t 3 (lit t 5 ∷ lit t 7 ∷ []) 10 ∷ called_with t 12 (dot t 14 16 ∷ lit t 18 ∷ []) 21 ∷ []) None)))
+    ≡ Module (codes "series") 0 (one ∷ one ∷ []) ∷ Module (codes "series") 0 (e.Column 0 0 ∷ one ∷ []) ∷ []
+unfolding all_statement_rules count tokens_of word_kind the_text_test
+arguments_on_the_left = refl
+
+not_of_itself : refused_over hosts (codes "SELECT 1 FROM series(x.value) AS x") (λ t. query (core (res t (lit t 1) 1 1 ∷ []) (called_with t 3 (dot t 5 7 ∷ []) 10 ∷ []) None)) ≡ Some (Unknown kind.Column (codes "x.value"))
+unfolding all_statement_rules count tokens_of word_kind the_text_test
+not_of_itself = refl
+
+shown : results_at 0 (bound_over hosts (codes "SELECT *, stop FROM series AS x") (λ t. query (core (All ∷ res t (col t 3) 3 3 ∷ []) (called_with t 5 [] 7 ∷ []) None))) ≡ e.Column 0 0 ∷ e.Column 0 2 ∷ []
+unfolding all_statement_rules count tokens_of word_kind the_text_test
+shown = refl
+
+too_many_arguments : refused_over hosts (codes "SELECT 1 FROM series(1,1,1,nosuch) AS x") (λ t. query (core (res t (lit t 1) 1 1 ∷ []) (called_with t 3 (lit t 5 ∷ lit t 7 ∷ lit t 9 ∷ col t 11 ∷ []) 14 ∷ []) None)) ≡ Some (Arity (codes "series"))
+unfolding all_statement_rules count tokens_of word_kind the_text_test
+too_many_arguments = refl
+
+read_only : why (commanded_over hosts (codes "DELETE FROM series WHERE nosuch") (λ t. delete t 2 (Some (col t 4)))) ≡ Some (Misuse (codes "series"))
+unfolding all_statement_rules count tokens_of word_kind the_text_test
+read_only = refl
+
+-- ---- functions of hosts
+
+a_function : results_at 0 (bound_over hosts (codes "SELECT twice(1)") (λ t. query (core (res t (call t 1 (lit t 3 ∷ [])) 1 4 ∷ []) [] None))) ≡ e.HostCall (codes "twice") (one ∷ []) ∷ []
+unfolding all_statement_rules count tokens_of word_kind the_text_test
+a_function = refl
+
+its_arity : refused_over hosts (codes "SELECT twice(1,2)") (λ t. query (core (res t (call t 1 (lit t 3 ∷ lit t 5 ∷ [])) 1 6 ∷ []) [] None)) ≡ Some (Arity (codes "twice"))
+unfolding all_statement_rules count tokens_of word_kind the_text_test
+its_arity = refl

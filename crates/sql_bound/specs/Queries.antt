@@ -1,0 +1,67 @@
+-- Whole queries: WITH, the parts, ORDER BY and LIMIT; each query is one unit (SELECT).
+use Rattle.std.specs.Prelude.{ℕ, List, [], ◌∷◌, ◌++◌, length, position, Option, Some, None, Ok, Err}
+use Rattle.sql_meaning.specs.Binding.{◌>>=◌}
+use Rattle.sql_bound.specs.Carriers.{CompoundParts, LimitParts, PartParts, QueryBinding, TableParts, TermParts}
+use Rattle.sql_bound.specs.Compounds.{Gathered, parts_bound}
+use Rattle.sql_bound.specs.Froms.{Inside, as_columns}
+use Rattle.sql_bound.specs.Kinds as kind
+use Rattle.sql_bound.specs.Orders.{BoundLimit, limit_bound}
+use Rattle.sql_bound.specs.Refusals.{Limit}
+use Rattle.sql_bound.specs.SameUnits.{same_unit}
+use Rattle.sql_bound.specs.Scopes.{Asked, Bottom, Deeper, Depth, Outer, ResultColumn, UnitsAnswer, Work, begun}
+use Rattle.sql_bound.specs.Units.{BoundUnit, Queried}
+use Rattle.sql_bound.specs.Withs.{tables_bound}
+
+-- ---- units: what is asked twice is one
+
+abbrev pub unit_at : BoundUnit → List BoundUnit → Option ℕ → ℕ × List BoundUnit
+unit_at u units (Some place) = (place, units)
+unit_at u units None = (length units, units ++ u ∷ [])
+
+abbrev pub with_unit : BoundUnit → List BoundUnit → ℕ × List BoundUnit
+with_unit u units = unit_at u units (position (same_unit u) units)
+
+-- the unit of a query that needs this, and gives these columns
+abbrev pub asked_as : BoundUnit → List ResultColumn → Work → Asked × List BoundUnit
+asked_as u columns w = let placed = with_unit u w.units in (record { unit = placed.0; needs = w.needs; columns = columns }, placed.1)
+
+-- ---- a query is entered one level deeper
+
+abbrev pub entered : Outer → Depth → (Inside → List BoundUnit → UnitsAnswer Asked) → List BoundUnit → UnitsAnswer Asked
+entered o Bottom f units = Err (Limit kind.Queries)
+entered o (Deeper views below) f units = f (record { outer = record o { depth = below }; views = views }) units
+
+-- ---- a query
+
+-- what a query is written as
+pub record Written : Type 0 where
+  pub tables : List TableParts
+  pub first : PartParts
+  pub others : List CompoundParts
+  pub order : List TermParts
+  pub limit : Option LimitParts
+
+abbrev pub query_unit : List ℕ → Gathered → BoundLimit → Work → BoundUnit
+query_unit tables g l w =
+    Queried (record {
+      arguments = length w.needs;
+      tables = tables;
+      first = g.first;
+      others = g.others;
+      order = g.order;
+      limit = l.count;
+      offset = l.offset;
+      columns = as_columns g.columns;
+    })
+
+-- behind its WITH
+abbrev pub body_bound : Inside → List ℕ → Written → List BoundUnit → UnitsAnswer Asked
+body_bound i tables q units =
+    parts_bound i q.first q.others q.order (begun units) >>= λ g. limit_bound i.outer q.limit g.1 >>= λ l.
+    Ok (asked_as (query_unit tables g.0 l.0 l.1) g.0.columns l.1)
+
+abbrev pub query_in : Written → Inside → List BoundUnit → UnitsAnswer Asked
+query_in q i units = tables_bound i [] q.tables units >>= λ t. body_bound t.0.0 t.0.1 q t.1
+
+abbrev pub query_bound : Written → QueryBinding
+query_bound q o units = entered o o.depth (query_in q) units

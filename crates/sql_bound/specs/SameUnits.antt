@@ -1,0 +1,96 @@
+-- Whether two units are the same: what is asked twice is one unit, so that two expressions are the same where they ask the same.
+use Rattle.std.specs.Prelude.{nat_eq, Bool, true, false, ◌&&◌}
+use Rattle.std.specs.Str.{bytes_eq}
+use denote.Enum.Bare.{sameb}
+use Rattle.sql_tree.specs.contracts.query.CompoundOp as compound_op
+use Rattle.sql_bound.specs.Same.{all_same, both_same, same_affinity, same_collation, same_expr, same_exprs, same_truth}
+use Rattle.sql_bound.specs.Units.{AggregateKind, CountRows, Count, Sum, Min, Max, GroupConcat, HostAggregate, BoundAggregate, BoundColumn, BoundCompound, BoundCore, BoundGroups, BoundIndex, BoundItem, BoundKey, BoundPart, BoundQuery, BoundRecursion, BoundSource, BoundTerm, BoundUnit, IndexPart, JoinKind, TermKey}
+use Rattle.sql_bound.specs.Units as unit
+
+abbrev pub same_column : BoundColumn → BoundColumn → Bool
+same_column a b = bytes_eq a.name b.name && same_affinity a.affinity b.affinity && same_collation a.collation b.collation
+
+abbrev pub same_part_of_index : IndexPart → IndexPart → Bool
+same_part_of_index a b = nat_eq a.column b.column && same_collation a.collation b.collation && same_truth a.descending b.descending
+
+abbrev pub same_index : BoundIndex → BoundIndex → Bool
+same_index a b = nat_eq a.number b.number && bytes_eq a.name b.name && same_truth a.unique b.unique && all_same same_part_of_index a.parts b.parts
+
+abbrev pub same_source : BoundSource → BoundSource → Bool
+same_source unit.Given unit.Given = true
+same_source (unit.Table a m) (unit.Table b n) = bytes_eq a b && nat_eq m n
+same_source (unit.Module a m xs) (unit.Module b n ys) = bytes_eq a b && nat_eq m n && same_exprs xs ys
+same_source (unit.View a m) (unit.View b n) = bytes_eq a b && nat_eq m n
+same_source (unit.Query m xs) (unit.Query n ys) = nat_eq m n && same_exprs xs ys
+same_source (unit.With m xs) (unit.With n ys) = nat_eq m n && same_exprs xs ys
+same_source (unit.Recursive m xs) (unit.Recursive n ys) = nat_eq m n && same_exprs xs ys
+same_source unit.Queue unit.Queue = true
+same_source _ _ = false
+
+abbrev pub same_join : JoinKind → JoinKind → Bool
+same_join unit.Inner unit.Inner = true
+same_join unit.Left unit.Left = true
+same_join _ _ = false
+
+abbrev pub same_item : BoundItem → BoundItem → Bool
+same_item a b =
+    same_join a.join b.join && same_exprs a.ons b.ons && same_truth a.ons_made b.ons_made && bytes_eq a.shown b.shown && same_source a.source b.source && all_same same_column a.columns b.columns
+    && both_same nat_eq a.rowid b.rowid && all_same same_index a.indexes b.indexes
+
+abbrev pub same_kind : AggregateKind → AggregateKind → Bool
+same_kind CountRows CountRows = true
+same_kind Count Count = true
+same_kind Sum Sum = true
+same_kind Min Min = true
+same_kind Max Max = true
+same_kind GroupConcat GroupConcat = true
+same_kind (HostAggregate a) (HostAggregate b) = bytes_eq a b
+same_kind _ _ = false
+
+abbrev pub same_aggregate : BoundAggregate → BoundAggregate → Bool
+same_aggregate a b =
+    same_kind a.kind b.kind && same_truth a.distinct b.distinct && same_collation a.collation b.collation && same_exprs a.arguments b.arguments
+    && both_same same_expr a.filter b.filter
+
+abbrev pub same_key : BoundKey → BoundKey → Bool
+same_key a b = same_expr a.expr b.expr && same_collation a.collation b.collation
+
+abbrev pub same_groups : BoundGroups → BoundGroups → Bool
+same_groups a b = all_same same_key a.keys b.keys && all_same same_aggregate a.aggregates b.aggregates && same_exprs a.having b.having
+
+abbrev pub same_core : BoundCore → BoundCore → Bool
+same_core a b =
+    all_same same_item a.items b.items && same_exprs a.conjuncts b.conjuncts && both_same same_groups a.groups b.groups && same_exprs a.results b.results
+    && all_same same_collation a.collations b.collations && same_truth a.distinct b.distinct
+
+abbrev pub same_part : BoundPart → BoundPart → Bool
+same_part (unit.Select a) (unit.Select b) = same_core a b
+same_part (unit.Values a) (unit.Values b) = all_same same_exprs a b
+same_part _ _ = false
+
+abbrev pub same_compound : BoundCompound → BoundCompound → Bool
+same_compound a b = sameb compound_op.the_type a.op b.op && same_part a.part b.part && all_same same_collation a.collations b.collations
+
+abbrev pub same_term_key : TermKey → TermKey → Bool
+same_term_key (unit.Result m) (unit.Result n) = nat_eq m n
+same_term_key (unit.Expression a) (unit.Expression b) = same_expr a b
+same_term_key _ _ = false
+
+abbrev pub same_term : BoundTerm → BoundTerm → Bool
+same_term a b =
+    same_term_key a.key b.key && same_collation a.collation b.collation && same_truth a.descending b.descending && same_truth a.nulls_first b.nulls_first
+
+abbrev pub same_query : BoundQuery → BoundQuery → Bool
+same_query a b =
+    nat_eq a.arguments b.arguments && all_same nat_eq a.tables b.tables && same_part a.first b.first && all_same same_compound a.others b.others
+    && all_same same_term a.order b.order && both_same same_expr a.limit b.limit && both_same same_expr a.offset b.offset && all_same same_column a.columns b.columns
+
+abbrev pub same_recursion : BoundRecursion → BoundRecursion → Bool
+same_recursion a b =
+    nat_eq a.arguments b.arguments && all_same nat_eq a.tables b.tables && same_part a.first b.first && all_same same_compound a.others b.others && same_truth a.all b.all && same_core a.part b.part
+    && all_same same_collation a.collations b.collations && both_same same_expr a.limit b.limit && both_same same_expr a.offset b.offset && all_same same_column a.columns b.columns
+
+abbrev pub same_unit : BoundUnit → BoundUnit → Bool
+same_unit (unit.Queried a) (unit.Queried b) = same_query a b
+same_unit (unit.Recursed a) (unit.Recursed b) = same_recursion a b
+same_unit _ _ = false
