@@ -77,9 +77,9 @@ column_operand c tree = record (over [] tree) { affinity = c.affinity; column = 
 abbrev pub result_operand : BoundExpr → ResultColumn → Operand
 result_operand tree c = record (over [] tree) { affinity = c.affinity; explicit = c.explicit; column = c.column }
 
--- what a name of a result stands for: the result's expression as one condition
+-- what a name of a result stands for: the result's expression in its form, as one condition
 abbrev pub as_one : Operand → Operand
-as_one a = record a { form = Plain; conjuncts = a.tree ∷ [] }
+as_one a = record a { conjuncts = a.tree ∷ [] }
 
 -- ---- operators
 

@@ -1,5 +1,5 @@
 -- Names in queries: which column each stands for, and which refusal comes first.
-use Rattle.std.specs.Prelude.{ℕ, zero, suc, pos, replicate, ◌++◌, ◌≡◌, [], ◌∷◌, Some, None, codes, refl}
+use Rattle.std.specs.Prelude.{ℕ, zero, suc, true, pos, replicate, ◌++◌, ◌≡◌, [], ◌∷◌, Some, None, codes, refl}
 use Rattle.sql_grammar.specs.Marks.{count}
 use Rattle.sql_grammar.specs.Statements.{all_statement_rules}
 use Rattle.sql_lex.specs.Pieces.{word_kind}
@@ -12,6 +12,7 @@ use Rattle.sql_meaning.specs.Spelled.{the_text_test}
 use Rattle.sql_bound.specs.Exprs.{BoundExpr}
 use Rattle.sql_bound.specs.Exprs as e
 use Rattle.eng_value.specs.declared.operators.BinaryOperator.TheVariants as binary
+use Rattle.eng_value.specs.declared.operators.UnaryOperator.TheVariants as unary
 use Rattle.sql_bound.specs.Kinds as kind
 use Rattle.sql_bound.specs.Refusals.{Ambiguous, Arity, Limit, Unknown}
 use Rattle.sql_bound.specs.Samples.{asked_in, both, bound, refused, tables, col, conjuncts_at, core, dot, in_query, lit, named, named_as, names_of, nested, query, refusal_of, res, res_as, results_at, scalar}
@@ -60,6 +61,11 @@ one_condition : conjuncts_at 0 (bound (codes "SELECT a AND b AS x, b AS a FROM t
     ≡ e.Binary binary.And (e.Column 0 0) (e.Column 0 1) ∷ e.Column 0 0 ∷ []
 unfolding all_statement_rules count tokens_of word_kind the_text_test
 one_condition = refl
+
+-- a name of TRUE asks for the truth, as TRUE does
+the_form_of_a_result : conjuncts_at 0 (bound (codes "SELECT TRUE AS y FROM t WHERE b IS y") (λ t. query (core (res_as t (lit t 1) 1 1 3 ∷ []) (named t 5 ∷ []) (Some (both op.Is (col t 7) (col t 9)))))) ≡ e.Unary (unary.IsTruth true) (e.Column 0 1) ∷ []
+unfolding all_statement_rules count tokens_of word_kind the_text_test
+the_form_of_a_result = refl
 
 -- ---- queries in expressions
 
