@@ -10,7 +10,7 @@ use Rattle.sql_bound.specs.Froms.{Found, Inside, QueueTable, items_found, nothin
 use Rattle.sql_bound.specs.Groups.{grouped_checked}
 use Rattle.sql_bound.specs.Kinds as kind
 use Rattle.sql_bound.specs.Operands.{collation_of, collation_of_result}
-use Rattle.sql_bound.specs.Refusals.{Checked, Unknown}
+use Rattle.sql_bound.specs.Refusals.{Unknown}
 use Rattle.sql_bound.specs.Results.{Shown, ShownResult, aliases_of, at_place, nothing_shown, place_named, results_bound, shown_in, text_of}
 use Rattle.sql_bound.specs.Scopes.{Answer, Level, Nowhere, Operand, Outer, Scope, Standing, Taken, Work, scope_over}
 use Rattle.sql_bound.specs.Units.{BoundAggregate, BoundCore, BoundGroups, BoundKey}
@@ -40,13 +40,10 @@ abbrev pub conjuncts_bound : Scope → Option Expression → Work → Answer (Li
 conjuncts_bound s None w = Ok ([], w)
 conjuncts_bound s (Some x) w = x.bound s w >>= λ a. Ok (a.0.conjuncts, a.1)
 
--- no column in it is bare
-abbrev pub all_grouped : List BoundKey → Level → List BoundExpr → Checked (Unit {0})
-all_grouped keys own [] = Ok tt
-all_grouped keys own (x ∷ xs) = grouped_checked true keys own x >>= λ u. all_grouped keys own xs
-
+-- no column in it is bare; a group expression may be all of it, so that it is looked at before it is split
 abbrev pub having_bound : Scope → List BoundKey → Level → Option Expression → Work → Answer (List BoundExpr)
-having_bound s keys own having w = conjuncts_bound s having w >>= λ c. all_grouped keys own c.0 >>= λ u. Ok c
+having_bound s keys own None w = Ok ([], w)
+having_bound s keys own (Some x) w = x.bound s w >>= λ a. grouped_checked true keys own a.0.tree >>= λ u. Ok (a.0.conjuncts, a.1)
 
 -- ---- GROUP BY: a whole number names a result, a name a column before a result
 

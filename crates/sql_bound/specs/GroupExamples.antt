@@ -50,6 +50,11 @@ having_alone : refused (codes "SELECT 1 FROM t HAVING a") (λ t. query (grouped 
 unfolding all_statement_rules count tokens_of word_kind the_text_test
 having_alone = refl
 
+-- a condition that is a group expression is none that is split
+a_whole_condition : refused (codes "SELECT 1 FROM t GROUP BY a AND b HAVING a AND b") (λ t. query (grouped (core (res t (lit t 1) 1 1 ∷ []) (named t 3 ∷ []) None) (span t (both op.And (col t 6) (col t 8)) 6 8 ∷ []) (Some (both op.And (col t 10) (col t 12))))) ≡ None
+unfolding all_statement_rules count tokens_of word_kind the_text_test
+a_whole_condition = refl
+
 -- by the number of a result, and by none
 a_number : refused (codes "SELECT b FROM t GROUP BY 1") (λ t. query (grouped (core (res t (col t 1) 1 1 ∷ []) (named t 3 ∷ []) None) (span t (lit t 6) 6 6 ∷ []) None)) ≡ None
 unfolding all_statement_rules count tokens_of word_kind the_text_test
