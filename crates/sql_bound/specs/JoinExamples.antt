@@ -22,6 +22,15 @@ the_left_one : results_at 0 (bound (codes "SELECT b, u.b FROM t NATURAL JOIN u")
 unfolding all_statement_rules count tokens_of word_kind the_text_test
 the_left_one = refl
 
+-- by a name that both tables have it means the left one, too
+of_one_table_twice : results_at 0 (bound (codes "SELECT t.a FROM t NATURAL JOIN t") (λ t. query (core (res t (dot t 1 3) 1 3 ∷ []) (named t 5 ∷ natural t 8 ∷ []) None))) ≡ e.Column 0 0 ∷ []
+unfolding all_statement_rules count tokens_of word_kind the_text_test
+of_one_table_twice = refl
+
+not_joined : refused (codes "SELECT x.b FROM t x JOIN u x USING (b), u x") (λ t. query (core (res t (dot t 1 3) 1 3 ∷ []) (named_as t 5 6 ∷ record (using t 8 (12 ∷ [])) { alias = Some (token_at t 9) } ∷ named_as t 15 16 ∷ []) None)) ≡ Some (Ambiguous (codes "B"))
+unfolding all_statement_rules count tokens_of word_kind the_text_test
+not_joined = refl
+
 all_of_the_right_one : results_at 0 (bound (codes "SELECT u.* FROM t NATURAL JOIN u") (λ t. query (core (AllOf (token_at t 1) ∷ []) (named t 5 ∷ natural t 8 ∷ []) None))) ≡ e.Column 1 0 ∷ e.Column 1 1 ∷ []
 unfolding all_statement_rules count tokens_of word_kind the_text_test
 all_of_the_right_one = refl

@@ -95,6 +95,11 @@ pub record Sight : Type 0 where
 abbrev pub name_of_ambiguous : List ℕ → ScopeColumn → List ℕ
 name_of_ambiguous name c = if is_same_name c.name name then c.name else folded name
 
+-- columns that USING or NATURAL joins count as one: those that are joined with one in front are no other columns
+abbrev pub counted_once : List ScopeColumn → List ScopeColumn
+counted_once [] = []
+counted_once (c ∷ cs) = c ∷ unjoined cs
+
 abbrev pub nearest_of : List ℕ → ℕ → List ScopeColumn → Checked (Option Sight) → Checked (Option Sight)
 nearest_of name up [] further = further
 nearest_of name up (c ∷ []) further = Ok (Some (record { up = up; column = c }))
@@ -105,7 +110,7 @@ nearest_from up name candidates [] = Ok None
 nearest_from up name candidates (level ∷ levels) = nearest_of name up (candidates level) (nearest_from (suc up) name candidates levels)
 
 abbrev pub nearest : List ℕ → (ScopeItem → List ScopeColumn) → List Level → Checked (Option Sight)
-nearest name candidates levels = nearest_from 0 name (λ level. flat_map candidates level) levels
+nearest name candidates levels = nearest_from 0 name (λ level. counted_once (flat_map candidates level)) levels
 
 -- ---- what is gathered: the units of the statement so far, what the query needs from further out, and the aggregates of the core
 
