@@ -1,6 +1,6 @@
 -- FROM: where the rows of an item come from, what names it brings, and how it is joined with those on its left (SELECT, section 2.1).
 use Rattle.std.specs.Prelude.{ℕ, suc, ◌-◌, nat_eq, nat_lt, nat_le, Bool, true, false, not, ◌&&◌, ◌||◌, List, [], ◌∷◌, ◌++◌, map, length, filter, slice_get, Option, Some, None, Ok, Err, unwrap_or, if◌then◌else◌, codes}
-use Rattle.std.specs.List.{flat_map, list_any}
+use Rattle.std.specs.List.{flat_map}
 use Rattle.eng_entry.specs.Entries.{entry_named}
 use Rattle.eng_entry.specs.Names.{is_same_name}
 use Rattle.eng_entry.specs.declared.entry.Entry.{Entry}
@@ -27,7 +27,7 @@ use Rattle.sql_bound.specs.Kinds as kind
 use Rattle.sql_bound.specs.Limits.{by_column, most_items, within_columns}
 use Rattle.sql_bound.specs.Operands.{collation_of_result, column_operand, compared, trees_of}
 use Rattle.sql_bound.specs.Refusals.{Ambiguous, Arity, Checked, Limit, Misuse, Unknown, Untold}
-use Rattle.sql_bound.specs.Scopes.{Answer, Asked, Bound, Facts, Itself, Level, Outer, ResultColumn, ScopeColumn, ScopeItem, UnitsAnswer, WithEntry, WithMeaning, Work, further, handed, inside, scope_over, unjoined, columns_named, with_named}
+use Rattle.sql_bound.specs.Scopes.{Answer, Asked, Bound, Facts, Itself, Level, Outer, ResultColumn, ScopeColumn, ScopeItem, UnitsAnswer, WithEntry, WithMeaning, Work, further, handed, inside, is_shown, scope_over, unjoined, columns_named, with_named}
 use Rattle.sql_bound.specs.Units.{BoundColumn, BoundIndex, BoundItem, BoundSource, BoundUnit, JoinKind}
 use Rattle.sql_bound.specs.Units as unit
 
@@ -235,43 +235,47 @@ one_of name [] = Err (Unknown kind.Column name)
 one_of name (c ∷ []) = Ok c
 one_of name (c ∷ d ∷ others) = Err (Ambiguous c.name)
 
-abbrev pub on_left : List ℕ → Level → List ScopeColumn
-on_left name left = flat_map (λ item. unjoined (columns_named name item)) left
+-- USING joins by any column, NATURAL passes over those that are hidden
+abbrev pub is_any : ScopeColumn → Bool
+is_any c = true
+
+abbrev pub on_left : (ScopeColumn → Bool) → List ℕ → Level → List ScopeColumn
+on_left counts name left = flat_map (λ item. filter counts (unjoined (columns_named name item))) left
 
 abbrev pub equality_of : ScopeColumn → ScopeColumn → BoundExpr
 equality_of l r = (compared compare.Eq (column_operand l l.tree) (column_operand r r.tree)).tree
 
-abbrev pub joined_if : List ℕ → ScopeColumn → ScopeColumn
-joined_if name c = if is_same_name c.name name then record c { joined = true } else c
+abbrev pub joined_if : (ScopeColumn → Bool) → List ℕ → ScopeColumn → ScopeColumn
+joined_if counts name c = if counts c && is_same_name c.name name then record c { joined = true } else c
 
-abbrev pub with_joined : List ℕ → ScopeItem → ScopeItem
-with_joined name item = record item { columns = map (joined_if name) item.columns }
+abbrev pub with_joined : (ScopeColumn → Bool) → List ℕ → ScopeItem → ScopeItem
+with_joined counts name item = record item { columns = map (joined_if counts name) item.columns }
 
-abbrev pub using_one : Level → List ℕ → Joining → Checked Joining
-using_one left name j =
-    one_of name (on_left name left) >>= λ l. one_of name (columns_named name j.right) >>= λ r.
-    Ok (record { right = with_joined name j.right; ons = j.ons ++ equality_of l r ∷ [] })
+abbrev pub using_one : (ScopeColumn → Bool) → Level → List ℕ → Joining → Checked Joining
+using_one counts left name j =
+    one_of name (on_left counts name left) >>= λ l. one_of name (filter counts (columns_named name j.right)) >>= λ r.
+    Ok (record { right = with_joined counts name j.right; ons = j.ons ++ equality_of l r ∷ [] })
 
 -- the names that NATURAL joins by: those of columns that are shown on both sides
 abbrev pub is_shown_left : Level → ScopeColumn → Bool
-is_shown_left left c = not c.hidden && list_any (λ (l : ScopeColumn). not l.hidden) (on_left c.name left)
+is_shown_left left c = is_shown c && not (is_empty (on_left is_shown c.name left))
 
 abbrev pub common_names : Level → ScopeItem → List (List ℕ)
 common_names left right = map (λ (c : ScopeColumn). c.name) (filter (is_shown_left left) right.columns)
 
-abbrev pub using_all : Level → List (List ℕ) → Joining → Checked Joining
-using_all left names j = by_column (using_one left) names j
+abbrev pub using_all : (ScopeColumn → Bool) → Level → List (List ℕ) → Joining → Checked Joining
+using_all counts left names j = by_column (using_one counts left) names j
 
 -- an ON may name the items up to its own
 abbrev pub on_bound : Inside → Level → Expression → Joining → Work → Answer Joining
 on_bound i left x j w = x.bound (scope_over (left ++ j.right ∷ []) i.outer) w >>= λ c. Ok (record j { ons = c.0.conjuncts }, c.1)
 
 abbrev pub constrained : Inside → Level → Bool → ConstraintParts → Joining → Work → Answer Joining
-constrained i left true Unconstrained j w = with_units (using_all left (common_names left j.right) j) w
+constrained i left true Unconstrained j w = with_units (using_all is_shown left (common_names left j.right) j) w
 constrained i left true other j w = Err (Misuse (codes "NATURAL"))
 constrained i left false Unconstrained j w = Ok (j, w)
 constrained i left false (On x) j w = on_bound i left x j w
-constrained i left false (Using ts) j w = with_units (using_all left (map (name_at i.outer.text) ts) j) w
+constrained i left false (Using ts) j w = with_units (using_all is_any left (map (name_at i.outer.text) ts) j) w
 
 -- ---- items in turn
 

@@ -10,11 +10,11 @@ use Rattle.sql_lex.specs.Pieces.{word_kind}
 use Rattle.sql_lex.specs.Tokens.{tokens_of}
 use Rattle.sql_meaning.specs.declared.bound.Literal.TheVariants as literal
 use Rattle.sql_meaning.specs.Spelled.{the_text_test}
-use Rattle.sql_bound.specs.Carriers.{All}
+use Rattle.sql_bound.specs.Carriers.{All, AllOf}
 use Rattle.sql_bound.specs.Exprs as e
 use Rattle.sql_bound.specs.Kinds as kind
 use Rattle.sql_bound.specs.Refusals.{Arity, Misuse, Unknown}
-use Rattle.sql_bound.specs.Samples.{around_of, bound_over, call, called_with, col, commanded_over, core, delete, dot, lit, no_facts, query, refused_over, res, results_at, sources_at, why}
+use Rattle.sql_bound.specs.Samples.{around_of, bound_over, call, called_with, col, commanded_over, core, delete, dot, lit, named, natural, no_facts, query, refused_over, res, results_at, sources_at, token_at, using, why}
 use Rattle.sql_bound.specs.Scopes.{Around, Facts}
 use Rattle.sql_bound.specs.Units.{Module}
 
@@ -51,6 +51,30 @@ not_of_itself = refl
 shown : results_at 0 (bound_over hosts (codes "SELECT *, stop FROM series AS x") (λ t. query (core (All ∷ res t (col t 3) 3 3 ∷ []) (called_with t 5 [] 7 ∷ []) None))) ≡ e.Column 0 0 ∷ e.Column 0 2 ∷ []
 unfolding all_statement_rules count tokens_of word_kind the_text_test
 shown = refl
+
+-- by its name it shows what is not hidden, which may be nothing
+abbrev hidden_facts : Facts
+hidden_facts = record facts { columns = λ name table. Some (record { name = codes "start"; type_text = []; kind = column_kind.Required } ∷ []) }
+
+abbrev with_hidden : Around
+with_hidden = record (around_of [] []) { facts = hidden_facts }
+
+nothing_shown : refused_over with_hidden (codes "SELECT x.*, 1 FROM series AS x") (λ t. query (core (AllOf (token_at t 1) ∷ res t (lit t 5) 5 5 ∷ []) (called_with t 7 [] 9 ∷ []) None)) ≡ None
+unfolding all_statement_rules count tokens_of word_kind the_text_test
+nothing_shown = refl
+
+-- NATURAL passes over what is hidden, though another column of the name is joined
+abbrev with_start : Around
+with_start = record (around_of (codes "CREATE TABLE w(start)" ∷ []) []) { facts = facts }
+
+natural_by_what_is_shown : results_at 0 (bound_over with_start (codes "SELECT * FROM w, series(1,2) AS g NATURAL JOIN w") (λ t. query (core (All ∷ []) (named t 3 ∷ called_with t 5 (lit t 7 ∷ lit t 9 ∷ []) 12 ∷ natural t 15 ∷ []) None))) ≡ e.Column 0 0 ∷ e.Column 1 0 ∷ []
+unfolding all_statement_rules count tokens_of word_kind the_text_test
+natural_by_what_is_shown = refl
+
+-- USING joins by what is hidden, too
+using_what_is_hidden : results_at 0 (bound_over with_start (codes "SELECT start FROM w JOIN series USING (start)") (λ t. query (core (res t (col t 1) 1 1 ∷ []) (named t 3 ∷ using t 5 (8 ∷ []) ∷ []) None))) ≡ e.Column 0 0 ∷ []
+unfolding all_statement_rules count tokens_of word_kind the_text_test
+using_what_is_hidden = refl
 
 too_many_arguments : refused_over hosts (codes "SELECT 1 FROM series(1,1,1,nosuch) AS x") (λ t. query (core (res t (lit t 1) 1 1 ∷ []) (called_with t 3 (lit t 5 ∷ lit t 7 ∷ lit t 9 ∷ col t 11 ∷ []) 14 ∷ []) None)) ≡ Some (Arity (codes "series"))
 unfolding all_statement_rules count tokens_of word_kind the_text_test

@@ -1,6 +1,6 @@
 -- Result columns: what `*` shows, what each result is, and what it is called (SELECT, section 2.4).
 use Rattle.std.specs.Prelude.{ℕ, zero, suc, ◌-◌, Bool, not, ◌&&◌, List, [], ◌∷◌, ◌++◌, map, filter, take, drop, slice_get, ℤ, pos, negsuc, Option, Some, None, Ok, Err, unwrap_or, if◌then◌else◌, codes}
-use Rattle.std.specs.List.{flat_map}
+use Rattle.std.specs.List.{flat_map, list_any}
 use Rattle.eng_value.specs.declared.value.Value.TheVariants as value
 use Rattle.sql_tree.specs.declared.token.Span.{Span}
 use Rattle.sql_tree.specs.declared.token.Token.{Token}
@@ -15,7 +15,7 @@ use Rattle.sql_bound.specs.Kinds as kind
 use Rattle.sql_bound.specs.Limits.{room_behind}
 use Rattle.sql_bound.specs.Operands.{column_operand}
 use Rattle.sql_bound.specs.Refusals.{Checked, Misuse, Unknown}
-use Rattle.sql_bound.specs.Scopes.{Alias, Answer, Level, Operand, ResultColumn, Scope, ScopeColumn, ScopeItem, Work, is_called}
+use Rattle.sql_bound.specs.Scopes.{Alias, Answer, Level, Operand, ResultColumn, Scope, ScopeColumn, ScopeItem, Work, is_called, is_shown}
 use Rattle.sql_bound.specs.Units.{BoundKey}
 
 -- ---- what `*` shows
@@ -32,11 +32,8 @@ text_of text span = as_text (take (span.end - span.start) (drop span.start text)
 abbrev pub column_shown : ScopeColumn → ShownResult
 column_shown c = record { bound = λ s w. Ok (column_operand c c.tree, w); given = None; text = [] }
 
-abbrev pub is_shown : ScopeColumn → Bool
-is_shown c = not c.hidden
-
 abbrev pub is_shown_bare : ScopeColumn → Bool
-is_shown_bare c = not c.hidden && not c.joined
+is_shown_bare c = is_shown c && not c.joined
 
 -- each column once that USING shows
 abbrev pub all_columns : Level → List ShownResult
@@ -49,9 +46,10 @@ abbrev pub all_shown : Level → Checked (List ShownResult)
 all_shown [] = Err (Misuse (codes "*"))
 all_shown (item ∷ items) = Ok (all_columns (item ∷ items))
 
-abbrev pub some_shown : List ℕ → List ShownResult → Checked (List ShownResult)
-some_shown name [] = Err (Unknown kind.Table name)
-some_shown name (r ∷ rs) = Ok (r ∷ rs)
+-- an item may be there and show nothing
+abbrev pub shown_of : List ℕ → Level → Checked (List ShownResult)
+shown_of name level =
+    if list_any (λ (item : ScopeItem). is_called name item.name) level then Ok (flat_map (columns_of_item name) level) else Err (Unknown kind.Table name)
 
 abbrev pub given_name : List ℕ → Option Token → Option (List ℕ)
 given_name text None = None
@@ -62,7 +60,7 @@ one_shown text x name = record { bound = x.expr.bound; given = given_name text n
 
 abbrev pub shown_by : List ℕ → Level → ResultParts → Checked (List ShownResult)
 shown_by text level All = all_shown level
-shown_by text level (AllOf t) = some_shown (name_at text t) (flat_map (columns_of_item (name_at text t)) level)
+shown_by text level (AllOf t) = shown_of (name_at text t) level
 shown_by text level (One x name) = Ok (one_shown text x name ∷ [])
 
 -- ---- names of results: what one stands for without names of results

@@ -69,6 +69,9 @@ rowid_named name item = if is_rowid_name name && not (has_column name item) then
 abbrev pub columns_named : List ℕ → ScopeItem → List ScopeColumn
 columns_named name item = filter (λ (c : ScopeColumn). is_same_name c.name name) item.columns
 
+abbrev pub is_shown : ScopeColumn → Bool
+is_shown c = not c.hidden
+
 abbrev pub unjoined : List ScopeColumn → List ScopeColumn
 unjoined columns = filter (λ (c : ScopeColumn). not c.joined) columns
 
