@@ -33,7 +33,7 @@ use Rattle.sql_meaning.specs.Binding.{◌>>=◌}
 use Rattle.sql_meaning.specs.Declarations.{type_affinity}
 use Rattle.sql_meaning.specs.Names.{is_reserved_name}
 use Rattle.sql_meaning.specs.Spelled.{name_at}
-use Rattle.sql_bound.specs.Declared.{DeclaredTable, bound_columns, declared_table, definition_of, index_parts, place_of_column, table_in}
+use Rattle.sql_bound.specs.Declared.{DeclaredTable, bound_columns, declared_table, definition_of, index_parts, place_of_column, table_in, table_named}
 use Rattle.sql_bound.specs.Expressions.{collation_called}
 use Rattle.sql_bound.specs.Froms.{Sourced, nothing_found, of_catalog, plain_source, scope_item}
 use Rattle.sql_bound.specs.Kinds as kind
@@ -164,7 +164,7 @@ table_created around text name t =
 -- ---- CREATE INDEX: on the columns of a table
 
 abbrev pub entry_of : Around → List ℕ → Option Entry
-entry_of around name = entry_named name around.catalog.names
+entry_of around name = table_named name around.catalog
 
 abbrev pub index_on : Around → List ℕ → List ℕ → IndexDefinition → Entry → Option TableDefinition → Checked BoundCreation
 index_on around text name i entry None = Err (Misuse entry.name)
@@ -183,11 +183,7 @@ no_entry table other = Err (Unknown kind.Table table)
 -- neither a view nor a table of a module takes an index
 abbrev pub index_by : Around → List ℕ → List ℕ → IndexDefinition → List ℕ → Option Entry → Checked BoundCreation
 index_by around text name i table None = no_entry table (around.facts.host_module table)
-index_by around text name i table (Some entry) = index_by_kind entry.kind
-  where
-    index_by_kind : EntryKind → Checked BoundCreation
-    index_by_kind entry_kind.Index = Err (Unknown kind.Table table)
-    index_by_kind other = index_on around text name i entry (table_in (definition_of entry))
+index_by around text name i table (Some entry) = index_on around text name i entry (table_in (definition_of entry))
 
 abbrev pub index_created : Around → List ℕ → List ℕ → IndexDefinition → Checked BoundCreation
 index_created around text name i = index_by around text name i (name_at text i.table) (entry_of around (name_at text i.table))
@@ -225,7 +221,7 @@ columns_of_event text other = []
 abbrev pub event_fits : Outer → List ℕ → List (List ℕ) → Checked (Unit {0})
 event_fits o table [] = Ok tt
 event_fits o table (n ∷ ns) =
-    of_catalog (inside_write o) table (entry_named table o.around.catalog.names) [] nothing_found (begun []) >>= λ s. by_column (one_is_there s.0) (n ∷ ns) tt
+    of_catalog (inside_write o) table (entry_of o.around table) [] nothing_found (begun []) >>= λ s. by_column (one_is_there s.0) (n ∷ ns) tt
 
 abbrev pub trigger_on : Outer → List ℕ → TriggerDefinition → Option Entry → Checked BoundCreation
 trigger_on o name t None = no_entry (name_at o.text t.table) (o.around.facts.host_module (name_at o.text t.table))

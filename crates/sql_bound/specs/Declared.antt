@@ -3,9 +3,11 @@ use Rattle.std.specs.Prelude.{ℕ, suc, ◌+◌, nat_eq, Bool, true, false, ◌&
 use Rattle.std.specs.Fmt.{decimal}
 use Rattle.std.specs.List.{flat_map, list_any}
 use Rattle.std.specs.Option.{option_map, option_to_list}
-use Rattle.eng_entry.specs.Entries.{Entries}
+use Rattle.eng_entry.specs.Entries.{Entries, entry_named}
 use Rattle.eng_entry.specs.Names.{is_same_name}
 use Rattle.eng_entry.specs.declared.entry.Entry.{Entry}
+use Rattle.eng_entry.specs.declared.entry.EntryKind.{EntryKind}
+use Rattle.eng_entry.specs.declared.entry.EntryKind.TheVariants as entry_kind
 use Rattle.eng_value.specs.declared.collation.Collation.{Collation}
 use Rattle.eng_value.specs.declared.collation.Collation.TheVariants as collation
 use Rattle.sql_tree.specs.declared.expr.Expr.{Expr}
@@ -214,6 +216,19 @@ trigger_in other = None
 
 abbrev pub definition_of : Entry → Option Definition
 definition_of entry = definition_in entry.def.command
+
+-- ---- the table or view of a name: an index has its name from the same space, and is none, so that it hides no module
+
+abbrev pub unless_index : EntryKind → Entry → Option Entry
+unless_index entry_kind.Index entry = None
+unless_index other entry = Some entry
+
+abbrev pub table_or_view : Option Entry → Option Entry
+table_or_view None = None
+table_or_view (Some entry) = unless_index entry.kind entry
+
+abbrev pub table_named : List ℕ → Entries → Option Entry
+table_named name catalog = table_or_view (entry_named name catalog.names)
 
 -- ---- the indexes of a table: those of its keys are older than those that were created
 

@@ -1,7 +1,6 @@
 -- FROM: where the rows of an item come from, what names it brings, and how it is joined with those on its left (SELECT, section 2.1).
 use Rattle.std.specs.Prelude.{ℕ, suc, ◌-◌, nat_eq, nat_lt, nat_le, Bool, true, false, not, ◌&&◌, ◌||◌, List, [], ◌∷◌, ◌++◌, map, length, filter, slice_get, Option, Some, None, Ok, Err, unwrap_or, if◌then◌else◌, codes}
 use Rattle.std.specs.List.{flat_map}
-use Rattle.eng_entry.specs.Entries.{entry_named}
 use Rattle.eng_entry.specs.Names.{is_same_name}
 use Rattle.eng_entry.specs.declared.entry.Entry.{Entry}
 use Rattle.eng_entry.specs.declared.entry.EntryKind.{EntryKind}
@@ -21,7 +20,7 @@ use Rattle.sql_meaning.specs.Binding.{◌>>=◌, affinity_of_words, by_bytes}
 use Rattle.sql_meaning.specs.Spelled.{name_at}
 use Rattle.sql_bound.specs.Carriers.{ConstraintParts, Expression, ItemParts, On, QueryParts, SourceParts, Unconstrained, Using}
 use Rattle.sql_bound.specs.Carriers as parts
-use Rattle.sql_bound.specs.Declared.{DeclaredTable, bound_columns, declared_table, definition_of, indexes_of, is_empty, table_in, view_in}
+use Rattle.sql_bound.specs.Declared.{DeclaredTable, bound_columns, declared_table, definition_of, indexes_of, is_empty, table_in, table_named, view_in}
 use Rattle.sql_bound.specs.Expressions.{all_bound, asked}
 use Rattle.sql_bound.specs.Kinds as kind
 use Rattle.sql_bound.specs.Limits.{by_column, most_items, within_columns}
@@ -185,7 +184,7 @@ of_with i queue t (Bound u recursive needs cs) f w =
 
 abbrev pub of_name : Inside → Option QueueTable → List ℕ → Option WithEntry → List Expression → Found → Work → Answer Sourced
 of_name i queue name (Some t) args f w = without_arguments t.name args >>= λ u. of_with i queue t t.meaning f w
-of_name i queue name None args f w = of_catalog i name (entry_named name i.outer.around.catalog.names) args f w
+of_name i queue name None args f w = of_catalog i name (table_named name i.outer.around.catalog) args f w
 
 abbrev pub or_none : Option (List Expression) → List Expression
 or_none None = []

@@ -84,6 +84,14 @@ read_only : why (commanded_over hosts (codes "DELETE FROM series WHERE nosuch") 
 unfolding all_statement_rules count tokens_of word_kind the_text_test
 read_only = refl
 
+-- an index of its name does not hide it, in a FROM as where it is written
+abbrev with_index : Around
+with_index = record (around_of (codes "CREATE TABLE w(start)" ∷ codes "CREATE INDEX series ON w(start)" ∷ []) []) { facts = facts }
+
+beside_an_index : (sources_at 0 (bound_over with_index (codes "SELECT 1 FROM series") (λ t. query (core (res t (lit t 1) 1 1 ∷ []) (named t 3 ∷ []) None))) ≡ Module (codes "series") 0 [] ∷ []) × (why (commanded_over with_index (codes "DELETE FROM series") (λ t. delete t 2 None)) ≡ Some (Misuse (codes "series")))
+unfolding all_statement_rules count tokens_of word_kind the_text_test
+beside_an_index = (refl, refl)
+
 -- ---- functions of hosts
 
 a_function : results_at 0 (bound_over hosts (codes "SELECT twice(1)") (λ t. query (core (res t (call t 1 (lit t 3 ∷ [])) 1 4 ∷ []) [] None))) ≡ e.HostCall (codes "twice") (one ∷ []) ∷ []

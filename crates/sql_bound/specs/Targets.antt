@@ -1,7 +1,6 @@
 -- What a write writes: a table, a table of a module, or a view that has a trigger for it (INSERT; CREATE TRIGGER, section 3).
 use Rattle.std.specs.Prelude.{ℕ, nat_eq, Bool, true, false, not, ◌&&◌, ◌||◌, List, [], ◌∷◌, map, position, Option, Some, None, Ok, Err, if◌then◌else◌}
 use Rattle.std.specs.List.{list_any}
-use Rattle.eng_entry.specs.Entries.{entry_named}
 use Rattle.eng_entry.specs.Names.{is_same_name}
 use Rattle.eng_entry.specs.declared.entry.Entry.{Entry}
 use Rattle.eng_entry.specs.declared.entry.EntryKind.{EntryKind}
@@ -15,7 +14,7 @@ use Rattle.sql_bound.specs.Exprs.{BoundExpr}
 use Rattle.sql_meaning.specs.Binding.{◌>>=◌}
 use Rattle.sql_meaning.specs.Spelled.{name_at}
 use Rattle.sql_bound.specs.Carriers.{Expression}
-use Rattle.sql_bound.specs.Declared.{DeclaredColumn, DeclaredTable, declared_table, definition_of, is_empty, table_in, trigger_in}
+use Rattle.sql_bound.specs.Declared.{DeclaredColumn, DeclaredTable, declared_table, definition_of, is_empty, table_in, table_named, trigger_in}
 use Rattle.sql_bound.specs.Froms.{Inside, Sourced, nothing_found, of_catalog, plain_item, scope_item}
 use Rattle.sql_bound.specs.Kinds as kind
 use Rattle.sql_bound.specs.Refusals.{Checked, Misuse, Unknown}
@@ -182,6 +181,6 @@ shown_name name (Some shown) = shown
 -- the target comes first: it is there, and can be written so
 abbrev pub target_bound : Outer → List ℕ → Firing → Work → Answer Target
 target_bound o name f w =
-    may_write_module o.around name (entry_named name o.around.catalog.names) >>= λ u.
-    of_catalog (inside_write o) name (entry_named name o.around.catalog.names) [] nothing_found w >>= λ s. may_write_view o.around s.0 f s.0.source >>= λ u.
-    declared_target o.around (shown_name name s.0.name) s.0 (entry_named name o.around.catalog.names) s.1
+    may_write_module o.around name (table_named name o.around.catalog) >>= λ u.
+    of_catalog (inside_write o) name (table_named name o.around.catalog) [] nothing_found w >>= λ s. may_write_view o.around s.0 f s.0.source >>= λ u.
+    declared_target o.around (shown_name name s.0.name) s.0 (table_named name o.around.catalog) s.1
