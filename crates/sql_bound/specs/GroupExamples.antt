@@ -15,7 +15,7 @@ use Rattle.sql_bound.specs.Carriers.{CoreParts, Expression, SpannedExpression}
 use Rattle.sql_bound.specs.Exprs as e
 use Rattle.sql_bound.specs.Kinds as kind
 use Rattle.sql_bound.specs.Refusals.{Arity, BareColumn, Misuse, Unknown}
-use Rattle.sql_bound.specs.Samples.{both, bound, by, call, col, compound, core, dot, lit, named, ordered, query, refused, res, res_as, results_at, scalar, span, starred}
+use Rattle.sql_bound.specs.Samples.{both, bound, by, call, col, compound, core, dot, lit, named, named_as, ordered, query, refused, res, res_as, results_at, scalar, span, starred}
 
 -- grouped by the first, with HAVING if any
 abbrev grouped : CoreParts → List SpannedExpression → Option Expression → CoreParts
@@ -44,6 +44,11 @@ another_expression = refl
 handed_to_a_query : refused (codes "SELECT (SELECT b) FROM t GROUP BY a") (λ t. query (grouped (core (res t (scalar (query (core (res t (col t 3) 3 3 ∷ []) [] None))) 1 4 ∷ []) (named t 6 ∷ []) None) (span t (col t 9) 9 9 ∷ []) None)) ≡ Some (BareColumn (codes "B"))
 unfolding all_statement_rules count tokens_of word_kind the_text_test
 handed_to_a_query = refl
+
+-- a query in another case of its names is the same
+in_another_case : refused (codes "SELECT (SELECT a AS N FROM u x) FROM t GROUP BY (SELECT A AS n FROM u X)") (λ t. query (grouped (core (res t (scalar (query (core (res_as t (col t 3) 3 3 5 ∷ []) (named_as t 7 8 ∷ []) None))) 1 9 ∷ []) (named t 11 ∷ []) None) (span t (scalar (query (core (res_as t (col t 16) 16 16 18 ∷ []) (named_as t 20 21 ∷ []) None))) 14 22 ∷ []) None)) ≡ None
+unfolding all_statement_rules count tokens_of word_kind the_text_test
+in_another_case = refl
 
 -- HAVING groups
 having_alone : refused (codes "SELECT 1 FROM t HAVING a") (λ t. query (grouped (core (res t (lit t 1) 1 1 ∷ []) (named t 3 ∷ []) None) [] (Some (col t 5)))) ≡ Some (BareColumn (codes "a"))

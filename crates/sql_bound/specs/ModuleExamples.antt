@@ -14,7 +14,7 @@ use Rattle.sql_bound.specs.Carriers.{All, AllOf}
 use Rattle.sql_bound.specs.Exprs as e
 use Rattle.sql_bound.specs.Kinds as kind
 use Rattle.sql_bound.specs.Refusals.{Arity, Misuse, Unknown}
-use Rattle.sql_bound.specs.Samples.{around_of, bound_over, call, called_with, col, commanded_over, core, delete, dot, lit, named, natural, no_facts, query, refused_over, res, results_at, sources_at, token_at, using, why}
+use Rattle.sql_bound.specs.Samples.{around_of, bound_over, call, called_with, col, commanded_over, core, delete, dot, lit, named, natural, no_facts, query, refused_over, res, results_at, sources_at, span, token_at, using, why}
 use Rattle.sql_bound.specs.Scopes.{Around, Facts}
 use Rattle.sql_bound.specs.Units.{Module}
 
@@ -101,3 +101,8 @@ a_function = refl
 its_arity : refused_over hosts (codes "SELECT twice(1,2)") (λ t. query (core (res t (call t 1 (lit t 3 ∷ lit t 5 ∷ [])) 1 6 ∷ []) [] None)) ≡ Some (Arity (codes "twice"))
 unfolding all_statement_rules count tokens_of word_kind the_text_test
 its_arity = refl
+
+-- and in whatever case it is written it is one function
+in_another_case : refused_over with_start (codes "SELECT TWICE(start) FROM w GROUP BY twice(start)") (λ t. query (record (core (res t (call t 1 (col t 3 ∷ [])) 1 4 ∷ []) (named t 6 ∷ []) None) { group_by = span t (call t 9 (col t 11 ∷ [])) 9 12 ∷ [] })) ≡ None
+unfolding all_statement_rules count tokens_of word_kind the_text_test
+in_another_case = refl

@@ -3,6 +3,7 @@ use Rattle.std.specs.Prelude.{nat_eq, Bool, true, false, ◌&&◌, List, [], ◌
 use Rattle.std.specs.Ordering.{is_eq}
 use Rattle.std.specs.Str.{bytes_eq}
 use denote.Enum.Bare.{sameb}
+use Rattle.eng_entry.specs.Names.{is_same_name}
 use Rattle.eng_value.specs.Compare.{value_cmp}
 use Rattle.eng_value.specs.CauseText.{text_of}
 use Rattle.eng_value.specs.declared.affinity.Affinity.{Affinity}
@@ -88,7 +89,7 @@ same_binary _ _ = false
 abbrev pub same_builtin : Builtin → Builtin → Bool
 same_builtin = sameb builtin.the_type
 
--- ---- expressions
+-- ---- expressions; names of hosts are kept as they are written, so that they are compared as names
 
 abbrev mutual
   pub same_expr : BoundExpr → BoundExpr → Bool
@@ -108,7 +109,7 @@ abbrev mutual
   same_expr (e.Iif a b c) (e.Iif x y z) = same_expr a x && same_expr b y && same_expr c z
   same_expr (e.CoalesceList f more) (e.CoalesceList g others) = same_builtin f g && same_list more others
   same_expr (e.CallBuiltin f s more) (e.CallBuiltin g t others) = same_builtin f g && same_collation s t && same_list more others
-  same_expr (e.CallHost f more) (e.CallHost g others) = bytes_eq f g && same_list more others
+  same_expr (e.CallHost f more) (e.CallHost g others) = is_same_name f g && same_list more others
   same_expr (e.ScalarOf m more) (e.ScalarOf n others) = nat_eq m n && same_list more others
   same_expr (e.ExistsIn m more) (e.ExistsIn n others) = nat_eq m n && same_list more others
   same_expr (e.InUnit s a m more) (e.InUnit t x n others) = same_sides s t && same_expr a x && nat_eq m n && same_list more others

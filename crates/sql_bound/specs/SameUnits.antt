@@ -1,14 +1,15 @@
--- Whether two units are the same: what is asked twice is one unit, so that two expressions are the same where they ask the same.
+-- Whether two units are the same: what is asked twice is one unit, so that two expressions are the same where they ask the same, in whatever case their names are written.
 use Rattle.std.specs.Prelude.{nat_eq, Bool, true, false, ◌&&◌}
 use Rattle.std.specs.Str.{bytes_eq}
 use denote.Enum.Bare.{sameb}
+use Rattle.eng_entry.specs.Names.{is_same_name}
 use Rattle.sql_tree.specs.contracts.query.CompoundOp as compound_op
 use Rattle.sql_bound.specs.Same.{all_same, both_same, same_affinity, same_collation, same_expr, same_exprs, same_truth}
 use Rattle.sql_bound.specs.Units.{AggregateKind, CountRows, Count, Sum, Min, Max, GroupConcat, HostAggregate, BoundAggregate, BoundColumn, BoundCompound, BoundCore, BoundGroups, BoundIndex, BoundItem, BoundKey, BoundPart, BoundQuery, BoundRecursion, BoundSource, BoundTerm, BoundUnit, IndexPart, JoinKind, TermKey}
 use Rattle.sql_bound.specs.Units as unit
 
 abbrev pub same_column : BoundColumn → BoundColumn → Bool
-same_column a b = bytes_eq a.name b.name && same_affinity a.affinity b.affinity && same_collation a.collation b.collation
+same_column a b = is_same_name a.name b.name && same_affinity a.affinity b.affinity && same_collation a.collation b.collation
 
 abbrev pub same_part_of_index : IndexPart → IndexPart → Bool
 same_part_of_index a b = nat_eq a.column b.column && same_collation a.collation b.collation && same_truth a.descending b.descending
@@ -19,7 +20,7 @@ same_index a b = nat_eq a.number b.number && bytes_eq a.name b.name && same_trut
 abbrev pub same_source : BoundSource → BoundSource → Bool
 same_source unit.Given unit.Given = true
 same_source (unit.Table a m) (unit.Table b n) = bytes_eq a b && nat_eq m n
-same_source (unit.Module a m xs) (unit.Module b n ys) = bytes_eq a b && nat_eq m n && same_exprs xs ys
+same_source (unit.Module a m xs) (unit.Module b n ys) = is_same_name a b && nat_eq m n && same_exprs xs ys
 same_source (unit.View a m) (unit.View b n) = bytes_eq a b && nat_eq m n
 same_source (unit.Query m xs) (unit.Query n ys) = nat_eq m n && same_exprs xs ys
 same_source (unit.With m xs) (unit.With n ys) = nat_eq m n && same_exprs xs ys
@@ -34,7 +35,7 @@ same_join _ _ = false
 
 abbrev pub same_item : BoundItem → BoundItem → Bool
 same_item a b =
-    same_join a.join b.join && same_exprs a.ons b.ons && same_truth a.ons_made b.ons_made && bytes_eq a.shown b.shown && same_source a.source b.source && all_same same_column a.columns b.columns
+    same_join a.join b.join && same_exprs a.ons b.ons && same_truth a.ons_made b.ons_made && is_same_name a.shown b.shown && same_source a.source b.source && all_same same_column a.columns b.columns
     && both_same nat_eq a.rowid b.rowid && all_same same_index a.indexes b.indexes
 
 abbrev pub same_kind : AggregateKind → AggregateKind → Bool
@@ -44,7 +45,7 @@ same_kind Sum Sum = true
 same_kind Min Min = true
 same_kind Max Max = true
 same_kind GroupConcat GroupConcat = true
-same_kind (HostAggregate a) (HostAggregate b) = bytes_eq a b
+same_kind (HostAggregate a) (HostAggregate b) = is_same_name a b
 same_kind _ _ = false
 
 abbrev pub same_aggregate : BoundAggregate → BoundAggregate → Bool
