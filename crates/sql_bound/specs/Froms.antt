@@ -33,7 +33,7 @@ use Rattle.sql_bound.specs.Units as unit
 -- what a query is bound in once it is entered, and how the query of a view is bound there
 pub record Inside : Type 0 where
   pub outer : Outer
-  pub views : List ℕ → Query → List BoundUnit → UnitsAnswer Asked
+  pub views : List ℕ → List ℕ → Query → List BoundUnit → UnitsAnswer Asked
 
 -- a query in FROM, an argument list's beginning, LIMIT and OFFSET see nothing of the own FROM
 abbrev pub beside_from : Outer → Outer
@@ -107,7 +107,7 @@ with_names table (n ∷ ns) cs = if nat_eq (length (n ∷ ns)) (length cs) then 
 abbrev pub of_view : Inside → List ℕ → Entry → Option ViewDefinition → Work → Answer Sourced
 of_view i name entry None w = no_table name
 of_view i name entry (Some v) w =
-    i.views entry.text v.query w.units >>= λ a. with_names entry.name (map (name_at entry.text) v.columns) a.0.columns >>= λ cs.
+    i.views entry.name entry.text v.query w.units >>= λ a. with_names entry.name (map (name_at entry.text) v.columns) a.0.columns >>= λ cs.
     Ok (plain_source (Some entry.name) (unit.View entry.name a.0.unit) (as_columns cs), record w { units = a.1 })
 
 -- ---- tables of modules

@@ -41,9 +41,10 @@ pub record Written : Type 0 where
   pub order : List TermParts
   pub limit : Option LimitParts
 
-abbrev pub query_unit : List ℕ → Gathered → BoundLimit → Work → BoundUnit
-query_unit tables g l w =
+abbrev pub query_unit : Outer → List ℕ → Gathered → BoundLimit → Work → BoundUnit
+query_unit o tables g l w =
     Queried (record {
+      within = o.within;
       arguments = length w.needs;
       tables = tables;
       first = g.first;
@@ -58,7 +59,7 @@ query_unit tables g l w =
 abbrev pub body_bound : Inside → List ℕ → Written → List BoundUnit → UnitsAnswer Asked
 body_bound i tables q units =
     parts_bound i q.first q.others q.order (begun units) >>= λ g. limit_bound i.outer q.limit g.1 >>= λ l.
-    Ok (asked_as (query_unit tables g.0 l.0 l.1) g.0.columns l.1)
+    Ok (asked_as (query_unit i.outer tables g.0 l.0 l.1) g.0.columns l.1)
 
 abbrev pub query_in : Written → Inside → List BoundUnit → UnitsAnswer Asked
 query_in q i units = tables_bound i [] q.tables units >>= λ t. body_bound t.0.0 t.0.1 q t.1

@@ -66,9 +66,10 @@ abbrev pub unordered : List ℕ → List TermParts → Checked (Unit {0})
 unordered name [] = Ok tt
 unordered name (t ∷ ts) = Err (Misuse name)
 
-abbrev pub recursion_unit : List ℕ → Given → List BoundCompound → Recursive → List ResultColumn → BoundSelect → Work → BoundLimit → Work → BoundUnit
-recursion_unit tables g others r columns s x l w =
+abbrev pub recursion_unit : Outer → List ℕ → Given → List BoundCompound → Recursive → List ResultColumn → BoundSelect → Work → BoundLimit → Work → BoundUnit
+recursion_unit o tables g others r columns s x l w =
     Recursed (record {
+      within = o.within;
       arguments = length w.needs;
       tables = tables;
       first = g.part;
@@ -87,7 +88,7 @@ recursion_bound i tables name names q r units =
     part_bound i q.first (begun units) >>= λ g. others_bound i g.0.columns r.front g.1 >>= λ others. with_names name names g.0.columns >>= λ columns.
     recursive_select_bound i (record { name = name; columns = columns }) r.core others.1 >>= λ s.
     width_fits (codes "SELECT") (length columns) (length s.0.shown.columns) >>= λ u. unordered name q.order >>= λ v.
-    limit_bound i.outer q.limit (without_aggregates s.1) >>= λ l. Ok (asked_as (recursion_unit tables g.0 others.0 r columns s.0 s.1 l.0 l.1) columns l.1)
+    limit_bound i.outer q.limit (without_aggregates s.1) >>= λ l. Ok (asked_as (recursion_unit i.outer tables g.0 others.0 r columns s.0 s.1 l.0 l.1) columns l.1)
 
 abbrev pub named_columns : List ℕ → List (List ℕ) → Asked × List BoundUnit → UnitsAnswer Asked
 named_columns name names a = with_names name names a.0.columns >>= λ cs. Ok (record a.0 { columns = cs }, a.1)

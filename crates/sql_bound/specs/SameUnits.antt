@@ -1,5 +1,5 @@
 -- Whether two units are the same: what is asked twice is one unit, so that two expressions are the same where they ask the same, in whatever case their names are written.
-use Rattle.std.specs.Prelude.{nat_eq, Bool, true, false, ◌&&◌}
+use Rattle.std.specs.Prelude.{ℕ, nat_eq, Bool, true, false, ◌&&◌, List, Option}
 use Rattle.std.specs.Str.{bytes_eq}
 use denote.Enum.Bare.{sameb}
 use Rattle.eng_entry.specs.Names.{is_same_name}
@@ -81,14 +81,18 @@ abbrev pub same_term : BoundTerm → BoundTerm → Bool
 same_term a b =
     same_term_key a.key b.key && same_collation a.collation b.collation && same_truth a.descending b.descending && same_truth a.nulls_first b.nulls_first
 
+-- what the authorizer is asked, and so which columns read NULL, depends on the view or trigger
+abbrev pub same_within : Option (List ℕ) → Option (List ℕ) → Bool
+same_within = both_same bytes_eq
+
 abbrev pub same_query : BoundQuery → BoundQuery → Bool
 same_query a b =
-    nat_eq a.arguments b.arguments && all_same nat_eq a.tables b.tables && same_part a.first b.first && all_same same_compound a.others b.others
+    same_within a.within b.within && nat_eq a.arguments b.arguments && all_same nat_eq a.tables b.tables && same_part a.first b.first && all_same same_compound a.others b.others
     && all_same same_term a.order b.order && both_same same_expr a.limit b.limit && both_same same_expr a.offset b.offset && all_same same_column a.columns b.columns
 
 abbrev pub same_recursion : BoundRecursion → BoundRecursion → Bool
 same_recursion a b =
-    nat_eq a.arguments b.arguments && all_same nat_eq a.tables b.tables && same_part a.first b.first && all_same same_compound a.others b.others && same_truth a.all b.all && same_core a.part b.part
+    same_within a.within b.within && nat_eq a.arguments b.arguments && all_same nat_eq a.tables b.tables && same_part a.first b.first && all_same same_compound a.others b.others && same_truth a.all b.all && same_core a.part b.part
     && all_same same_collation a.collations b.collations && both_same same_expr a.limit b.limit && both_same same_expr a.offset b.offset && all_same same_column a.columns b.columns
 
 abbrev pub same_unit : BoundUnit → BoundUnit → Bool

@@ -173,10 +173,10 @@ pub record Asked : Type 0 where
 abbrev pub UnitsAnswer : Type 0 → Type 0
 UnitsAnswer A = Checked (A × List BoundUnit)
 
--- how deep queries may stand, views opened: at the bottom none may be entered, and above it a view's query is bound one level deeper
+-- how deep queries may stand, views opened: at the bottom none may be entered, and above it the query of a view, by its name and text, is bound one level deeper
 pub data Depth : Type 0 where
   Bottom : Depth
-  Deeper : (List ℕ → Query → List BoundUnit → UnitsAnswer Asked) → Depth → Depth
+  Deeper : (List ℕ → List ℕ → Query → List BoundUnit → UnitsAnswer Asked) → Depth → Depth
 
 -- ---- WITH tables
 
@@ -212,9 +212,10 @@ pub record Allowed : Type 0 where
 abbrev pub in_statement : Allowed
 in_statement = record { hosts = true; queries = true; columns = true; parameters = true; raises = false }
 
--- what a query is bound in: the text, what binding goes by, how deep queries may stand, the FROMs around it, nearest first, the WITH tables that it sees, latest first, and what may stand in it
+-- what a query is bound in: the text, the view or trigger whose text it is, what binding goes by, how deep queries may stand, the FROMs around it, nearest first, the WITH tables that it sees, latest first, and what may stand in it
 pub record Outer : Type 0 where
   pub text : List ℕ
+  pub within : Option (List ℕ)
   pub around : Around
   pub depth : Depth
   pub levels : List Level

@@ -20,7 +20,7 @@ use Rattle.sql_bound.specs.Kinds as kind
 use Rattle.sql_bound.specs.Refusals.{Checked, Misuse, Unknown}
 use Rattle.sql_bound.specs.Same.{both_same}
 use Rattle.sql_bound.specs.Scopes.{Allowed, Answer, Around, Level, Outer, Work, is_rowid_name, scope_over}
-use Rattle.sql_bound.specs.Trees.{full_depth, of_expr, of_query, outer_at}
+use Rattle.sql_bound.specs.Trees.{full_depth, of_expr, of_query, outer_at, within}
 use Rattle.sql_bound.specs.Scopes.{in_statement}
 use Rattle.sql_bound.specs.Units.{AtDelete, AtInsert, AtUpdate, BoundSource, BoundTarget, FiringEvent}
 use Rattle.sql_bound.specs.Units as unit
@@ -97,7 +97,7 @@ pub record Target : Type 0 where
 -- a write is no query: a view's query is the outermost
 abbrev pub inside_write : Outer → Inside
 inside_write o =
-    record { outer = o; views = λ text q units. (of_query q).bound (outer_at o.around (full_depth o.around) text [] in_statement) units }
+    record { outer = o; views = λ name text q units. (of_query q).bound (within name (outer_at o.around (full_depth o.around) text [] in_statement)) units }
 
 -- CHECK names columns, DEFAULT none, and both name only what is built in
 abbrev pub in_check : Allowed

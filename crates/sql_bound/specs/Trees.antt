@@ -97,13 +97,17 @@ of_trigger t = record { time = t.time; event = t.event; condition = of_option t.
 
 -- a text with these FROMs around it, in which this may stand
 abbrev pub outer_at : Around → Depth → List ℕ → List Level → Allowed → Outer
-outer_at around depth text levels allowed = record { text = text; around = around; depth = depth; levels = levels; tables = []; allowed = allowed }
+outer_at around depth text levels allowed = record { text = text; within = None; around = around; depth = depth; levels = levels; tables = []; allowed = allowed }
+
+-- in the text of a view or trigger
+abbrev pub within : List ℕ → Outer → Outer
+within name o = record o { within = Some name }
 
 -- what the tree of a text's view comes to is a parameter, so that examples need no tree
 abbrev pub depth_of : (List ℕ → Query → QueryParts) → Around → ℕ → Depth
 depth_of parts around zero = Bottom
 depth_of parts around (suc d) =
-    Deeper (λ text q units. (parts text q).bound (outer_at around (depth_of parts around d) text [] in_statement) units) (depth_of parts around d)
+    Deeper (λ name text q units. (parts text q).bound (within name (outer_at around (depth_of parts around d) text [] in_statement)) units) (depth_of parts around d)
 
 -- of a statement, and of each WHEN and each statement of a trigger's body: these begin anew
 abbrev pub full_depth : Around → Depth

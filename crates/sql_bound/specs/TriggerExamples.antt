@@ -1,5 +1,5 @@
 -- Views and triggers, bound where they are used.
-use Rattle.std.specs.Prelude.{◌≡◌, ℕ, Bool, true, false, List, [], ◌∷◌, Option, Some, None, Ok, Err, map, codes, refl}
+use Rattle.std.specs.Prelude.{◌≡◌, ℕ, Bool, true, false, List, [], ◌∷◌, Option, Some, None, Ok, Err, length, map, codes, refl}
 use Rattle.eng_entry.specs.Names.{is_same_name}
 use Rattle.eng_entry.specs.declared.entry.Entry.{Entry}
 use Rattle.sql_grammar.specs.Marks.{count}
@@ -18,12 +18,12 @@ use Rattle.sql_meaning.specs.Binding.{by_bytes}
 use Rattle.sql_bound.specs.Froms.{Sourced, plain_source}
 use Rattle.sql_bound.specs.Targets.{may_write_view}
 use Rattle.sql_meaning.specs.Spelled.{the_text_test}
-use Rattle.sql_bound.specs.Carriers.{Deletes, Expression, InsertParts, Inserts, Queries, QueryParts, RowParts, TriggerParts, Updates}
+use Rattle.sql_bound.specs.Carriers.{All, Deletes, Expression, InsertParts, Inserts, Queries, QueryParts, RowParts, TriggerParts, Updates}
 use Rattle.sql_bound.specs.Exprs.{BoundExpr}
 use Rattle.sql_bound.specs.Exprs as e
 use Rattle.sql_bound.specs.Kinds as kind
 use Rattle.sql_bound.specs.Refusals.{Checked, Misuse, Refusal, Unknown, Untold}
-use Rattle.sql_bound.specs.Samples.{around_of, asked_by, col, core, dot, insert, lit, named, no_facts, no_token, query, raise_ignore, refusal_of, res, set, sources_at, update, values, why}
+use Rattle.sql_bound.specs.Samples.{around_of, asked_by, asked_in, col, core, dot, insert, lit, named, no_facts, no_token, query, raise_ignore, refusal_of, res, results_at, scalar, set, sources_at, units_of, update, values, why}
 use Rattle.sql_bound.specs.Scopes.{Around, Asked, UnitsAnswer, begun, in_statement}
 use Rattle.sql_bound.specs.Statements.{nothing_opened}
 use Rattle.sql_bound.specs.Trees.{full_depth, outer_at}
@@ -49,6 +49,23 @@ used text tree = asked_by view_query with_view 2 text (tree (tokens_of text))
 a_view : sources_at 1 (used (codes "SELECT x FROM v") (λ t. query (core (res t (col t 1) 1 1 ∷ []) (named t 3 ∷ []) None))) ≡ View (codes "v") 0 ∷ []
 unfolding all_statement_rules count tokens_of word_kind the_text_test
 a_view = refl
+
+-- what is asked in a view or trigger and outside of it is two units, since the authorizer may answer otherwise there
+not_one_with_a_view : results_at 2 (used (codes "SELECT (SELECT a FROM t) FROM v") (λ t. query (core (res t (scalar (query (core (res t (col t 3) 3 3 ∷ []) (named t 5 ∷ []) None))) 1 6 ∷ []) (named t 8 ∷ []) None))) ≡ e.Scalar 1 [] ∷ []
+unfolding all_statement_rules count tokens_of word_kind the_text_test
+not_one_with_a_view = refl
+
+abbrev all_of_t : QueryParts
+all_of_t = query (core (All ∷ []) (named (tokens_of (codes "SELECT * FROM t")) 3 ∷ []) None)
+
+-- how many units there are once a trigger asks this, behind a statement that asks it
+abbrev units_behind : Checked (ℕ × Opened) → ℕ
+units_behind (Ok opened) = length opened.1.units
+units_behind (Err reason) = 0
+
+not_one_with_a_trigger : units_behind (opening_of (λ entry. Some (record { time = time.After; event = event.Insert; condition = None; body = Queries all_of_t ∷ [] })) with_view 1 (plain_source (Some (codes "t")) Given []) (record { kind = entry_kind.Trigger; name = codes "g"; owner = codes "t"; number = 0; text = codes "SELECT * FROM t"; def = record { explain = None; command = command.Transaction transaction.Begin } }) (record { units = units_of (asked_in with_view 20 (codes "SELECT * FROM t") all_of_t); triggers = [] })) ≡ 2
+unfolding all_statement_rules count tokens_of word_kind the_text_test
+not_one_with_a_trigger = refl
 
 -- by the names of its list, and without a rowid
 no_rowid : refusal_of (used (codes "SELECT rowid FROM v") (λ t. query (core (res t (col t 1) 1 1 ∷ []) (named t 3 ∷ []) None))) ≡ Some (Unknown kind.Column (codes "rowid"))

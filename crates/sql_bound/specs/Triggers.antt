@@ -12,7 +12,7 @@ use Rattle.sql_bound.specs.Declared.{definition_of, trigger_in}
 use Rattle.sql_bound.specs.Froms.{Sourced, plain_item, scope_item}
 use Rattle.sql_bound.specs.Refusals.{Checked, Untold}
 use Rattle.sql_bound.specs.Scopes.{Allowed, Answer, Around, Level, Outer, ScopeItem, begun, in_statement, scope_over}
-use Rattle.sql_bound.specs.Trees.{full_depth, of_trigger, outer_at}
+use Rattle.sql_bound.specs.Trees.{full_depth, of_trigger, outer_at, within}
 use Rattle.sql_bound.specs.Units.{Asks, AtDelete, AtInsert, AtUpdate, BoundItem, BoundStep, BoundTrigger, FiringEvent, Given, Writes}
 use Rattle.sql_bound.specs.Writes.{Begun, Opened, Opening, captures_of, delete_begun, insert_begun, update_begun, write_bound}
 
@@ -41,7 +41,7 @@ abbrev pub in_trigger : Allowed
 in_trigger = record in_statement { raises = true }
 
 abbrev pub outer_of : Around → Entry → List Level → Outer
-outer_of around entry levels = outer_at around (full_depth around) entry.text levels in_trigger
+outer_of around entry levels = within entry.name (outer_at around (full_depth around) entry.text levels in_trigger)
 
 abbrev pub condition_bound : Around → Entry → Level → Option Expression → Opened → Checked (Option BoundExpr × Opened)
 condition_bound around entry rows None opened = Ok (None, opened)

@@ -120,8 +120,9 @@ pub record BoundTerm : Type 0 where
   pub descending : Bool
   pub nulls_first : Bool
 
--- how many arguments are handed over, the units of the WITH tables that are written here, the parts, and the columns that it gives
+-- the innermost view or trigger in whose text it stands, which the authorizer is told, how many arguments are handed over, the units of the WITH tables that are written here, the parts, and the columns that it gives
 pub record BoundQuery : Type 0 where
+  pub within : Option (List ℕ)
   pub arguments : ℕ
   pub tables : List ℕ
   pub first : BoundPart
@@ -133,6 +134,7 @@ pub record BoundQuery : Type 0 where
 
 -- `first UNION [ALL] part`, where part takes its row from the queue; first may be a compound
 pub record BoundRecursion : Type 0 where
+  pub within : Option (List ℕ)
   pub arguments : ℕ
   pub tables : List ℕ
   pub first : BoundPart
