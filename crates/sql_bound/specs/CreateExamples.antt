@@ -1,29 +1,37 @@
 -- CREATE, DROP and transactions.
-use Rattle.std.specs.Prelude.{◌≡◌, ℕ, List, [], ◌∷◌, Option, Some, None, codes, refl}
+use Rattle.std.specs.Prelude.{◌≡◌, ℕ, true, false, List, [], ◌∷◌, Option, Some, None, if◌then◌else◌, codes, refl}
+use Rattle.eng_entry.specs.Names.{is_same_name}
 use Rattle.sql_grammar.specs.Answers.{Answer, Tree, Syntax, TooMuch}
 use Rattle.sql_grammar.specs.Marks.{count}
 use Rattle.sql_grammar.specs.Statements.{all_statement_rules}
 use Rattle.sql_lex.specs.Pieces.{word_kind}
 use Rattle.sql_lex.specs.Tokens.{tokens_of}
 use Rattle.sql_tree.specs.declared.statement.Statement.{Statement}
+use Rattle.sql_tree.specs.declared.statement.TableDefinition.{TableDefinition}
+use Rattle.sql_tree.specs.declared.token.Token.{Token}
 use Rattle.sql_meaning.specs.Spelled.{the_text_test}
 use Rattle.sql_meaning.specs.Statement.{answer_of}
+use Rattle.sql_bound.specs.Carriers.{Expression}
+use Rattle.sql_bound.specs.Creates.{level_of}
+use Rattle.sql_bound.specs.Declared.{definition_in, table_in}
 use Rattle.sql_bound.specs.Kinds as kind
-use Rattle.sql_bound.specs.Refusals.{Exists, Misuse, Real, Refusal, Reserved, Unknown}
-use Rattle.sql_bound.specs.Samples.{around_of, why}
-use Rattle.sql_bound.specs.Scopes.{Around}
+use Rattle.sql_bound.specs.Refusals.{Exists, Misuse, Real, Refusal, Reserved, Unknown, Untold}
+use Rattle.sql_bound.specs.Samples.{around_of, col, dot, no_facts, why}
+use Rattle.sql_bound.specs.Scopes.{Around, Level, begun}
 use Rattle.sql_bound.specs.Statements.{bound_of}
+use Rattle.sql_bound.specs.Targets.{constraint_bound, in_check}
 
 abbrev things : Around
 things = around_of (codes "CREATE TABLE t(a, B)" ∷ codes "CREATE VIEW v AS SELECT 1" ∷ codes "CREATE INDEX i ON t(a)" ∷ []) (codes "CREATE TRIGGER g AFTER DELETE ON t BEGIN SELECT 1; END" ∷ [])
 
-abbrev refusal_read : List ℕ → Answer Statement → Option Refusal
-refusal_read text (Tree s) = why (bound_of things text s)
-refusal_read text (Syntax rest) = None
-refusal_read text (TooMuch l rest) = None
+-- what is no statement is refused for nothing that is asked here
+abbrev refusal_read : Around → List ℕ → Answer Statement → Option Refusal
+refusal_read around text (Tree s) = why (bound_of around text s)
+refusal_read around text (Syntax rest) = Some Untold
+refusal_read around text (TooMuch l rest) = Some Untold
 
 abbrev refused : List ℕ → Option Refusal
-refused text = refusal_read text (answer_of text)
+refused text = refusal_read things text (answer_of text)
 
 -- ---- the name comes first; tables, views and indexes share one space, triggers have another
 
@@ -37,6 +45,22 @@ columns : (refused (codes "CREATE TABLE x(a, b REAL, A)") ≡ Some Real) × (ref
 unfolding all_statement_rules count tokens_of word_kind the_text_test
 columns = (refl, refl, refl, refl, refl, refl)
 
+-- a CHECK in front of a second column of a name finds the first one
+abbrev level_read : List ℕ → Answer Statement → Level
+level_read text (Tree s) = level_in (table_in (definition_in s.command))
+  where
+    level_in : Option TableDefinition → Level
+    level_in (Some t) = level_of no_facts text (codes "x") t
+    level_in None = []
+level_read text other = []
+
+abbrev checked : List ℕ → (List Token → Expression) → Option Refusal
+checked text x = why (constraint_bound things text (level_read text (answer_of text)) in_check (x (tokens_of text)) (begun []))
+
+before_a_double : (checked (codes "CREATE TABLE x(a, b, B)") (λ t. col t 6) ≡ None) × (checked (codes "CREATE TABLE x(a, b, B)") (λ t. dot t 2 8) ≡ None)
+unfolding all_statement_rules count tokens_of word_kind the_text_test
+before_a_double = (refl, refl)
+
 -- ---- indexes and triggers on what they may stand on
 
 indexes : (refused (codes "CREATE INDEX x ON v(a)") ≡ Some (Misuse (codes "v"))) × (refused (codes "CREATE INDEX x ON t(a, c)") ≡ Some (Unknown kind.Column (codes "c"))) × (refused (codes "CREATE INDEX x ON i(a)") ≡ Some (Unknown kind.Table (codes "i"))) × (refused (codes "CREATE INDEX x ON t(a, b DESC)") ≡ None)
@@ -46,6 +70,17 @@ indexes = (refl, refl, refl, refl)
 triggers : (refused (codes "CREATE TRIGGER x INSTEAD OF DELETE ON t BEGIN SELECT 1; END") ≡ Some (Misuse (codes "t"))) × (refused (codes "CREATE TRIGGER x AFTER DELETE ON v BEGIN SELECT 1; END") ≡ Some (Misuse (codes "v"))) × (refused (codes "CREATE TRIGGER x AFTER UPDATE OF c ON t BEGIN SELECT 1; END") ≡ Some (Unknown kind.Column (codes "c"))) × (refused (codes "CREATE TRIGGER G AFTER DELETE ON nosuch BEGIN SELECT 1; END") ≡ Some (Exists kind.Trigger (codes "g"))) × (refused (codes "CREATE TRIGGER x AFTER DELETE ON I BEGIN SELECT 1; END") ≡ Some (Unknown kind.Table (codes "I")))
 unfolding all_statement_rules count tokens_of word_kind the_text_test
 triggers = (refl, refl, refl, refl, refl)
+
+-- a module is none of these, also where an index has its name
+abbrev with_module : Around
+with_module = record (around_of (codes "CREATE TABLE t(a)" ∷ codes "CREATE INDEX series ON t(a)" ∷ []) []) { facts = record no_facts { host_module = λ name. if is_same_name name (codes "series") then Some (true, false) else None } }
+
+abbrev refused_beside : List ℕ → Option Refusal
+refused_beside text = refusal_read with_module text (answer_of text)
+
+on_modules : (refused_beside (codes "CREATE INDEX x ON series(a)") ≡ Some (Misuse (codes "series"))) × (refused_beside (codes "CREATE TRIGGER x AFTER DELETE ON series BEGIN SELECT 1; END") ≡ Some (Misuse (codes "series")))
+unfolding all_statement_rules count tokens_of word_kind the_text_test
+on_modules = (refl, refl)
 
 modules : refused (codes "CREATE VIRTUAL TABLE x USING nosuch(?)") ≡ Some (Unknown kind.Module (codes "nosuch"))
 unfolding all_statement_rules count tokens_of word_kind the_text_test

@@ -31,7 +31,7 @@ use Rattle.sql_tree.specs.declared.token.Span.{Span}
 use Rattle.sql_tree.specs.declared.token.Token.{Token}
 use Rattle.sql_meaning.specs.Binding.{◌>>=◌}
 use Rattle.sql_meaning.specs.Declarations.{type_affinity}
-use Rattle.sql_meaning.specs.Names.{is_reserved_name}
+use Rattle.sql_meaning.specs.Names.{is_named_in, is_reserved_name}
 use Rattle.sql_meaning.specs.Spelled.{name_at}
 use Rattle.sql_bound.specs.Declared.{DeclaredTable, bound_columns, declared_table, definition_of, index_parts, place_of_column, table_in, table_named}
 use Rattle.sql_bound.specs.Expressions.{collation_called}
@@ -42,7 +42,7 @@ use Rattle.sql_bound.specs.Limits.{by_column, room_behind, within_columns}
 use Rattle.sql_bound.specs.Parameters.{query_has_parameter, trigger_has_parameter}
 use Rattle.sql_bound.specs.Refusals.{Checked, Exists, Misuse, Real, Reserved, Unknown}
 use Rattle.sql_bound.specs.Results.{text_of}
-use Rattle.sql_bound.specs.Scopes.{Allowed, Around, Facts, Level, Outer, begun}
+use Rattle.sql_bound.specs.Scopes.{Allowed, Around, Facts, Level, Outer, ScopeColumn, ScopeItem, begun}
 use Rattle.sql_bound.specs.Targets.{constraint_bound, found_place, in_check, in_default, inside_write, place_written}
 use Rattle.sql_bound.specs.Trees.{of_expr}
 use Rattle.sql_bound.specs.Units.{AModuleTable, ATable, ATrigger, AView, AnIndex, BoundColumn, BoundCommand, BoundCreation, Created, IndexPart, Nothing, ThingKind}
@@ -77,12 +77,20 @@ creation_of k name owner = record { kind = k; name = name; owner = owner; unique
 
 -- ---- CREATE TABLE: each column with its constraints in turn, then the constraints behind them
 
+-- a column whose name an earlier one has is refused in its turn, so that no CHECK in front of it finds two
+abbrev pub behind_first : List (List ℕ) → List ScopeColumn → List ScopeColumn
+behind_first names [] = []
+behind_first names (c ∷ cs) = record c { joined = is_named_in names c.name } ∷ behind_first (c.name ∷ names) cs
+
+abbrev pub once_each : ScopeItem → ScopeItem
+once_each item = record item { columns = behind_first [] item.columns }
+
 -- the table as CHECKs see it: all its columns
 abbrev pub level_of : Facts → List ℕ → List ℕ → TableDefinition → Level
 level_of facts text name t = level_with (declared_table facts text t)
   where
     level_with : DeclaredTable → Level
-    level_with d = scope_item 0 (Some name) (record (plain_source (Some name) (unit.Table name 0) (bound_columns d.columns)) { has_rowid = true; rowid = d.rowid }) ∷ []
+    level_with d = once_each (scope_item 0 (Some name) (record (plain_source (Some name) (unit.Table name 0) (bound_columns d.columns)) { has_rowid = true; rowid = d.rowid })) ∷ []
 
 -- what the columns so far are called, and whether there is a primary key
 pub record Declaring : Type 0 where
