@@ -23,12 +23,12 @@ use Rattle.sql_bound.specs.Exprs.{BoundExpr}
 use Rattle.sql_bound.specs.Exprs as e
 use Rattle.sql_bound.specs.Kinds as kind
 use Rattle.sql_bound.specs.Refusals.{Checked, Misuse, Refusal, Unknown, Untold}
-use Rattle.sql_bound.specs.Samples.{around_of, asked_by, asked_in, col, core, dot, insert, lit, named, no_facts, no_token, query, raise_ignore, refusal_of, res, results_at, scalar, set, sources_at, units_of, update, values, why}
+use Rattle.sql_bound.specs.Samples.{around_of, asked_by, asked_in, col, common, core, dot, insert, lit, named, no_facts, no_token, query, raise_ignore, refusal_of, res, results_at, scalar, set, sources_at, units_of, update, values, why, with_tables}
 use Rattle.sql_bound.specs.Scopes.{Around, Asked, UnitsAnswer, begun, in_statement}
 use Rattle.sql_bound.specs.Statements.{nothing_opened}
 use Rattle.sql_bound.specs.Trees.{full_depth, outer_at}
 use Rattle.sql_bound.specs.Triggers.{opening_of}
-use Rattle.sql_bound.specs.Units.{Asks, AtUpdate, BoundStep, BoundTrigger, BoundWrite, Given, View, Writes}
+use Rattle.sql_bound.specs.Units.{Asks, AtUpdate, BoundStep, BoundTrigger, BoundWrite, Given, Table, View, Writes}
 use Rattle.sql_bound.specs.Writes.{Opened, delete_begun, insert_begun, update_begun, write_bound}
 
 -- ---- a view: its query is bound in its own text, and its list of columns must fit
@@ -71,6 +71,27 @@ not_one_with_a_trigger = refl
 no_rowid : refusal_of (used (codes "SELECT rowid FROM v") (λ t. query (core (res t (col t 1) 1 1 ∷ []) (named t 3 ∷ []) None))) ≡ Some (Unknown kind.Column (codes "rowid"))
 unfolding all_statement_rules count tokens_of word_kind the_text_test
 no_rowid = refl
+
+-- it sees nothing of the place where it is used: no WITH table that has the name of its table, and no column of a FROM around it
+with_tables_unseen : sources_at 1 (used (codes "WITH t AS (SELECT 1) SELECT x FROM v") (λ t. with_tables (common t 1 [] (query (core (res t (lit t 5) 5 5 ∷ []) [] None)) ∷ []) (core (res t (col t 8) 8 8 ∷ []) (named t 10 ∷ []) None))) ≡ Table (codes "t") 0 ∷ []
+unfolding all_statement_rules count tokens_of word_kind the_text_test
+with_tables_unseen = refl
+
+abbrev with_another_view : Around
+with_another_view = around_of (codes "CREATE TABLE t(a, b)" ∷ codes "CREATE VIEW w AS SELECT a" ∷ []) []
+
+abbrev another_view_query : QueryParts
+another_view_query = query (core (res view_tokens (col view_tokens 5) 5 5 ∷ []) [] None)
+  where
+    view_tokens : List Token
+    view_tokens = tokens_of (codes "CREATE VIEW w AS SELECT a")
+
+abbrev another_used : List ℕ → (List Token → QueryParts) → UnitsAnswer Asked
+another_used text tree = asked_by another_view_query with_another_view 3 text (tree (tokens_of text))
+
+columns_unseen : refusal_of (another_used (codes "SELECT (SELECT 1 FROM w) FROM t") (λ t. query (core (res t (scalar (query (core (res t (lit t 3) 3 3 ∷ []) (named t 5 ∷ []) None))) 1 6 ∷ []) (named t 8 ∷ []) None))) ≡ Some (Unknown kind.Column (codes "a"))
+unfolding all_statement_rules count tokens_of word_kind the_text_test
+columns_unseen = refl
 
 -- ---- triggers: one that fires another and itself
 
