@@ -131,7 +131,7 @@ columns_told facts name table = told (facts.columns name table) >>= λ cs. withi
 
 abbrev pub module_source : List ℕ → List ℕ → ℕ → List ModColumn → List BoundExpr → Sourced
 module_source shown name table cs args =
-    record (plain_source (Some shown) (unit.Module name table args) (map module_column cs)) { hidden = map (λ (c : ModColumn). is_hidden c.kind) cs; has_rowid = true }
+    record (plain_source (Some shown) (unit.Module shown name table args) (map module_column cs)) { hidden = map (λ (c : ModColumn). is_hidden c.kind) cs; has_rowid = true }
 
 -- as many arguments as there are hidden columns, or fewer
 abbrev pub arguments_fit : List ℕ → List ModColumn → List Expression → Checked (Unit {0})
@@ -152,10 +152,16 @@ without_arguments name (x ∷ xs) = Err (Arity name)
 abbrev pub with_units : {A : Type 0} → Checked A → Work → Answer A
 with_units answer w = answer >>= λ a. Ok (a, w)
 
+-- hosts may have gone since the table was created
+abbrev pub module_there : Entry → Option (Bool × Bool) → Checked (Unit {0})
+module_there entry None = Err (Unknown kind.Module entry.owner)
+module_there entry (Some m) = Ok tt
+
 abbrev pub of_entry : Inside → List ℕ → Entry → EntryKind → List Expression → Found → Work → Answer Sourced
 of_entry i name entry entry_kind.Table args f w = without_arguments entry.name args >>= λ u. with_units (of_table i.outer name entry (table_in (definition_of entry))) w
 of_entry i name entry entry_kind.View args f w = without_arguments entry.name args >>= λ u. of_view i name entry (view_in (definition_of entry)) w
-of_entry i name entry entry_kind.Module args f w = of_module i entry.name entry.owner entry.number args f w
+of_entry i name entry entry_kind.Module args f w =
+    module_there entry (i.outer.around.facts.host_module entry.owner) >>= λ u. of_module i entry.name entry.owner entry.number args f w
 of_entry i name entry other args f w = no_table name
 
 abbrev pub of_eponymous : Inside → List ℕ → Option (Bool × Bool) → List Expression → Found → Work → Answer Sourced

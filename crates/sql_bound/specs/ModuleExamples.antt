@@ -14,7 +14,7 @@ use Rattle.sql_bound.specs.Carriers.{All, AllOf}
 use Rattle.sql_bound.specs.Exprs as e
 use Rattle.sql_bound.specs.Kinds as kind
 use Rattle.sql_bound.specs.Refusals.{Arity, Misuse, Unknown}
-use Rattle.sql_bound.specs.Samples.{around_of, bound_over, call, called_with, col, commanded_over, core, delete, dot, lit, named, natural, no_facts, query, refused_over, res, results_at, sources_at, span, token_at, using, why}
+use Rattle.sql_bound.specs.Samples.{around_of, bound_over, call, called_with, col, commanded_over, core, delete, dot, lit, named, named_as, natural, no_facts, query, refused_over, res, results_at, sources_at, span, token_at, using, why}
 use Rattle.sql_bound.specs.Scopes.{Around, Facts}
 use Rattle.sql_bound.specs.Units.{Module}
 
@@ -40,7 +40,7 @@ one = e.Literal (literal.Value (value.Integer (pos 1)))
 
 -- an argument may name the items on the left, and `*` shows no argument
 arguments_on_the_left : sources_at 0 (bound_over hosts (codes "SELECT 1 FROM series(1,1) AS x, series(x.value,1) AS y") (λ t. query (core (res t (lit t 1) 1 1 ∷ []) (called_with t 3 (lit t 5 ∷ lit t 7 ∷ []) 10 ∷ called_with t 12 (dot t 14 16 ∷ lit t 18 ∷ []) 21 ∷ []) None)))
-    ≡ Module (codes "series") 0 (one ∷ one ∷ []) ∷ Module (codes "series") 0 (e.Column 0 0 ∷ one ∷ []) ∷ []
+    ≡ Module (codes "series") (codes "series") 0 (one ∷ one ∷ []) ∷ Module (codes "series") (codes "series") 0 (e.Column 0 0 ∷ one ∷ []) ∷ []
 unfolding all_statement_rules count tokens_of word_kind the_text_test
 arguments_on_the_left = refl
 
@@ -88,9 +88,21 @@ read_only = refl
 abbrev with_index : Around
 with_index = record (around_of (codes "CREATE TABLE w(start)" ∷ codes "CREATE INDEX series ON w(start)" ∷ []) []) { facts = facts }
 
-beside_an_index : (sources_at 0 (bound_over with_index (codes "SELECT 1 FROM series") (λ t. query (core (res t (lit t 1) 1 1 ∷ []) (named t 3 ∷ []) None))) ≡ Module (codes "series") 0 [] ∷ []) × (why (commanded_over with_index (codes "DELETE FROM series") (λ t. delete t 2 None)) ≡ Some (Misuse (codes "series")))
+beside_an_index : (sources_at 0 (bound_over with_index (codes "SELECT 1 FROM series") (λ t. query (core (res t (lit t 1) 1 1 ∷ []) (named t 3 ∷ []) None))) ≡ Module (codes "series") (codes "series") 0 [] ∷ []) × (why (commanded_over with_index (codes "DELETE FROM series") (λ t. delete t 2 None)) ≡ Some (Misuse (codes "series")))
 unfolding all_statement_rules count tokens_of word_kind the_text_test
 beside_an_index = (refl, refl)
+
+-- a table of a module keeps its name beside an alias, and is refused where the module has gone
+abbrev with_table : Facts → Around
+with_table hosts = record (around_of (codes "CREATE VIRTUAL TABLE k USING series" ∷ []) []) { facts = hosts }
+
+beside_an_alias : sources_at 0 (bound_over (with_table facts) (codes "SELECT 1 FROM k AS x") (λ t. query (core (res t (lit t 1) 1 1 ∷ []) (named_as t 3 5 ∷ []) None))) ≡ Module (codes "k") (codes "series") 0 [] ∷ []
+unfolding all_statement_rules count tokens_of word_kind the_text_test
+beside_an_alias = refl
+
+its_module_has_gone : (refused_over (with_table no_facts) (codes "SELECT 1 FROM k") (λ t. query (core (res t (lit t 1) 1 1 ∷ []) (named t 3 ∷ []) None)) ≡ Some (Unknown kind.Module (codes "series"))) × (why (commanded_over (with_table no_facts) (codes "DELETE FROM k") (λ t. delete t 2 None)) ≡ Some (Unknown kind.Module (codes "series")))
+unfolding all_statement_rules count tokens_of word_kind the_text_test
+its_module_has_gone = (refl, refl)
 
 -- ---- functions of hosts
 

@@ -20,7 +20,7 @@ same_index a b = nat_eq a.number b.number && bytes_eq a.name b.name && same_trut
 abbrev pub same_source : BoundSource → BoundSource → Bool
 same_source unit.Given unit.Given = true
 same_source (unit.Table a m) (unit.Table b n) = bytes_eq a b && nat_eq m n
-same_source (unit.Module a m xs) (unit.Module b n ys) = is_same_name a b && nat_eq m n && same_exprs xs ys
+same_source (unit.Module a h m xs) (unit.Module b i n ys) = is_same_name a b && is_same_name h i && nat_eq m n && same_exprs xs ys
 same_source (unit.View a m) (unit.View b n) = bytes_eq a b && nat_eq m n
 same_source (unit.Query m xs) (unit.Query n ys) = nat_eq m n && same_exprs xs ys
 same_source (unit.With m xs) (unit.With n ys) = nat_eq m n && same_exprs xs ys

@@ -138,13 +138,15 @@ table_target around text s t name w =
     defaults_bound around text t.columns w >>= λ d. checks_bound around text (scope_item 0 (Some name) s ∷ []) t.checks d.1 >>= λ c.
     Ok (target_of name s (record (plain_target s name) { defaults = d.0; not_nulls = map (λ (x : DeclaredColumn). x.not_null) t.columns; checks = c.0 }), c.1)
 
-abbrev pub declared_target : Around → List ℕ → Sourced → Option Entry → Work → Answer Target
-declared_target around name s None w = Ok (target_of name s (plain_target s name), w)
-declared_target around name s (Some entry) w = table_by (table_in (definition_of entry))
+-- a DELETE puts no row, and so asks for neither
+abbrev pub declared_target : Around → FiringEvent → List ℕ → Sourced → Option Entry → Work → Answer Target
+declared_target around AtDelete name s entry w = Ok (target_of name s (plain_target s name), w)
+declared_target around other name s None w = Ok (target_of name s (plain_target s name), w)
+declared_target around other name s (Some entry) w = table_by (table_in (definition_of entry))
   where
     table_by : Option TableDefinition → Answer Target
-    table_by None = Ok (target_of entry.name s (plain_target s entry.name), w)
-    table_by (Some t) = table_target around entry.text s (declared_table around.facts entry.text t) entry.name w
+    table_by None = Ok (target_of name s (plain_target s name), w)
+    table_by (Some t) = table_target around entry.text s (declared_table around.facts entry.text t) name w
 
 -- ---- whether it can be written
 
@@ -152,16 +154,16 @@ abbrev pub if_writable : List ℕ → Bool → Checked (Unit {0})
 if_writable name true = Ok tt
 if_writable name false = Err (Misuse name)
 
-abbrev pub is_writable_module : Option (Bool × Bool) → Bool
-is_writable_module None = false
-is_writable_module (Some m) = m.1
+abbrev pub writable_entry : Entry → Option (Bool × Bool) → Checked (Unit {0})
+writable_entry entry None = Err (Unknown kind.Module entry.owner)
+writable_entry entry (Some m) = if_writable entry.name m.1
 
 -- a table of a module, before the module is asked for its columns
 abbrev pub may_write_module : Around → List ℕ → Option Entry → Checked (Unit {0})
 may_write_module around name (Some entry) = by_kind entry.kind
   where
     by_kind : EntryKind → Checked (Unit {0})
-    by_kind entry_kind.Module = if_writable entry.name (is_writable_module (around.facts.host_module entry.owner))
+    by_kind entry_kind.Module = writable_entry entry (around.facts.host_module entry.owner)
     by_kind other = Ok tt
 may_write_module around name None = by_module (around.facts.host_module name)
   where
@@ -183,4 +185,4 @@ abbrev pub target_bound : Outer → List ℕ → Firing → Work → Answer Targ
 target_bound o name f w =
     may_write_module o.around name (table_named name o.around.catalog) >>= λ u.
     of_catalog (inside_write o) name (table_named name o.around.catalog) [] nothing_found w >>= λ s. may_write_view o.around s.0 f s.0.source >>= λ u.
-    declared_target o.around (shown_name name s.0.name) s.0 (table_named name o.around.catalog) s.1
+    declared_target o.around f.event (shown_name name s.0.name) s.0 (table_named name o.around.catalog) s.1

@@ -34,8 +34,8 @@ pub data BoundSource : Type 0 where
   Given : BoundSource
   -- a table by its name and number
   Table : List ℕ → ℕ → BoundSource
-  -- a table of a module: the module, the table's number there, and the arguments
-  Module : List ℕ → ℕ → List BoundExpr → BoundSource
+  -- a table of a module: its name, the module, the table's number there, and the arguments
+  Module : List ℕ → List ℕ → ℕ → List BoundExpr → BoundSource
   View : List ℕ → ℕ → BoundSource
   Query : ℕ → List BoundExpr → BoundSource
   With : ℕ → List BoundExpr → BoundSource
@@ -152,7 +152,7 @@ pub data BoundUnit : Type 0 where
 
 -- ---- writes
 
--- what a write writes: its item, for each column its default and whether it may be NULL, and the CHECKs in order of text, all over the item as item 0. Its keys are the unique indexes of the item
+-- what a write writes: its item, for each column its default and whether it may be NULL, and the CHECKs in order of text, all over the item as item 0. Its keys are the unique indexes of the item. A DELETE puts no row, so that its target has neither defaults nor tests
 pub record BoundTarget : Type 0 where
   pub item : BoundItem
   pub defaults : List (Option BoundExpr)

@@ -70,3 +70,11 @@ by_the_key = refl
 an_index_is_no_table : why (commanded_over keyed (codes "DELETE FROM kv") (λ t. delete t 2 None)) ≡ Some (Unknown kind.Table (codes "kv"))
 unfolding all_statement_rules count tokens_of word_kind the_text_test
 an_index_is_no_table = refl
+
+-- a DELETE tests nothing, whatever the CHECKs of its table hold
+abbrev checked : Around
+checked = around_of (codes "CREATE TABLE c(a CHECK (a COLLATE gone > 1))" ∷ []) []
+
+without_tests : why (commanded_over checked (codes "DELETE FROM c") (λ t. delete t 2 None)) ≡ None
+unfolding all_statement_rules count tokens_of word_kind the_text_test
+without_tests = refl
