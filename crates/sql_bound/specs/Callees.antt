@@ -39,7 +39,7 @@ built_aggregator name how given =
     if is_same_name name (codes "min") && is_one how given then Some (one_of Min (codes "min")) else
     if is_same_name name (codes "max") && is_one how given then Some (one_of Max (codes "max")) else None
 
--- ---- any callee: what is built in comes first, then a function of a host, then an aggregate of a host
+-- ---- any callee: what is built in comes first, then a function of a host, then an aggregate of a host, both by the name as it is written, since hosts do not tell how they declare it
 
 pub data Callee : Type 0 where
   Scalar : List ℕ → Builtin → (ℕ → Bool) → Callee

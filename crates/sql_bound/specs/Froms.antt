@@ -164,6 +164,7 @@ of_entry i name entry entry_kind.Module args f w =
     module_there entry (i.outer.around.facts.host_module entry.owner) >>= λ u. of_module i entry.name entry.owner entry.number args f w
 of_entry i name entry other args f w = no_table name
 
+-- by the name as it is written, since hosts do not tell how they declare it
 abbrev pub of_eponymous : Inside → List ℕ → Option (Bool × Bool) → List Expression → Found → Work → Answer Sourced
 of_eponymous i name (Some (true, writable)) args f w = of_module i name name 0 args f w
 of_eponymous i name other args f w = no_table name
@@ -275,6 +276,7 @@ using_all counts left names j = by_column (using_one counts left) names j
 abbrev pub on_bound : Inside → Level → Expression → Joining → Work → Answer Joining
 on_bound i left x j w = x.bound (scope_over (left ++ j.right ∷ []) i.outer) w >>= λ c. Ok (record j { ons = c.0.conjuncts }, c.1)
 
+-- NATURAL beside ON or USING is refused where these stand, behind the item's table
 abbrev pub constrained : Inside → Level → Bool → ConstraintParts → Joining → Work → Answer Joining
 constrained i left true Unconstrained j w = with_units (using_all is_shown left (common_names left j.right) j) w
 constrained i left true other j w = Err (Misuse (codes "NATURAL"))

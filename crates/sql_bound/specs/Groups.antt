@@ -35,7 +35,7 @@ is_key keys tree = list_any (λ (k : BoundKey). same_expr k.expr tree) keys
 abbrev pub unless_key : List BoundKey → BoundExpr → Option (List ℕ) → Option (List ℕ)
 unless_key keys tree bare = if is_key keys tree then None else bare
 
--- what is handed over to a query is a part of its own
+-- what is handed over to a query is a part of its own; a rowid that is no column is called rowid, since the tree does not keep which of its names is written
 abbrev mutual
   pub bare_column : List BoundKey → Level → BoundExpr → Option (List ℕ)
   bare_column keys own (e.Literal l) = None

@@ -82,7 +82,7 @@ shown_or_none (Err why) = []
 abbrev pub shown_in : List ℕ → Level → List ResultParts → List ShownResult
 shown_in text level results = flat_map (λ r. shown_or_none (shown_by text level r)) results
 
--- a whole number, from 1 on, as a place; a number that is none of 64 bits is no whole number
+-- a whole number, from 1 on, as a place; a number that is none of 64 bits is no whole number, and so an expression
 abbrev pub place_of_integer : ℤ → Option ℕ
 place_of_integer (pos zero) = None
 place_of_integer (pos (suc place)) = Some place

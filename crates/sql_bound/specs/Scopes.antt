@@ -94,7 +94,7 @@ pub record Sight : Type 0 where
   pub up : ℕ
   pub column : ScopeColumn
 
--- a column by its name as declared, a rowid by the name that is written
+-- a column by its name as declared, a rowid by the name that is written: it is ambiguous over any two tables, also where USING joins the columns that are their rowids
 abbrev pub name_of_ambiguous : List ℕ → ScopeColumn → List ℕ
 name_of_ambiguous name c = if is_same_name c.name name then c.name else folded name
 

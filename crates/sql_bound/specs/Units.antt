@@ -152,7 +152,7 @@ pub data BoundUnit : Type 0 where
 
 -- ---- writes
 
--- what a write writes: its item, for each column its default and whether it may be NULL, and the CHECKs in order of text, all over the item as item 0. Its keys are the unique indexes of the item. A DELETE puts no row, so that its target has neither defaults nor tests
+-- what a write writes: its item, for each column its default and whether it may be NULL, and the CHECKs in order of text, all over the item as item 0, which they read without what is ignored, since nothing asks about them. Its keys are the unique indexes of the item. A DELETE puts no row, so that its target has neither defaults nor tests
 pub record BoundTarget : Type 0 where
   pub item : BoundItem
   pub defaults : List (Option BoundExpr)
