@@ -38,6 +38,7 @@ use Rattle.sql_bound.specs.Expressions.{collation_called}
 use Rattle.sql_bound.specs.Froms.{Sourced, nothing_found, of_catalog, plain_source, scope_item}
 use Rattle.sql_bound.specs.Kinds as kind
 use Rattle.sql_bound.specs.Kinds.{Named}
+use Rattle.sql_bound.specs.Lasting.{collations_kept}
 use Rattle.sql_bound.specs.Limits.{by_column, room_behind, within_columns}
 use Rattle.sql_bound.specs.Parameters.{query_has_parameter, trigger_has_parameter}
 use Rattle.sql_bound.specs.Refusals.{Checked, Exists, Misuse, Real, Reserved, Unknown}
@@ -176,7 +177,7 @@ entry_of around name = table_named name around.catalog
 
 abbrev pub index_on : Around → List ℕ → List ℕ → IndexDefinition → Entry → Option TableDefinition → Checked BoundCreation
 index_on around text name i entry None = Err (Misuse entry.name)
-index_on around text name i entry (Some t) = created_on (bound_columns (declared_table around.facts entry.text t).columns)
+index_on around text name i entry (Some t) = collations_kept around entry t >>= λ u. created_on (bound_columns (declared_table around.facts entry.text t).columns)
   where
     created_on : List BoundColumn → Checked BoundCreation
     created_on columns =

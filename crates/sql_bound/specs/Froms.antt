@@ -23,6 +23,7 @@ use Rattle.sql_bound.specs.Carriers as parts
 use Rattle.sql_bound.specs.Declared.{DeclaredTable, bound_columns, declared_table, definition_of, indexes_of, is_empty, table_in, table_named, view_in}
 use Rattle.sql_bound.specs.Expressions.{all_bound, asked}
 use Rattle.sql_bound.specs.Kinds as kind
+use Rattle.sql_bound.specs.Lasting.{collations_kept}
 use Rattle.sql_bound.specs.Limits.{by_column, most_items, within_columns}
 use Rattle.sql_bound.specs.Operands.{collation_of_result, column_operand, compared, trees_of}
 use Rattle.sql_bound.specs.Refusals.{Ambiguous, Arity, Checked, Limit, Misuse, Unknown, Untold}
@@ -91,7 +92,7 @@ no_table name = Err (Unknown kind.Table name)
 
 abbrev pub of_table : Outer → List ℕ → Entry → Option TableDefinition → Checked Sourced
 of_table o name entry None = no_table name
-of_table o name entry (Some t) = Ok (declared_source o entry (declared_table o.around.facts entry.text t))
+of_table o name entry (Some t) = collations_kept o.around entry t >>= λ u. Ok (declared_source o entry (declared_table o.around.facts entry.text t))
 
 -- the names of a list of columns, where there is one, in the place of a query's own; else it does not fit the table or view
 abbrev pub renamed : List (List ℕ) → List ResultColumn → List ResultColumn

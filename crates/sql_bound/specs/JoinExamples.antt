@@ -75,6 +75,12 @@ a_key : results_at 0 (bound_over keyed (codes "SELECT rowid, _rowid_ FROM k") (�
 unfolding all_statement_rules count tokens_of word_kind the_text_test
 a_key = refl
 
+-- a collation of a host that has gone since, of a column and of an index
+its_collation_has_gone : (refused_over (around_of (codes "CREATE TABLE c(a COLLATE gone)" ∷ []) []) (codes "SELECT 1 FROM c") (λ t. query (core (res t (lit t 1) 1 1 ∷ []) (named t 3 ∷ []) None)) ≡ Some (Unknown kind.Collation (codes "gone")))
+    × (refused_over (around_of (codes "CREATE TABLE c(a COLLATE gone COLLATE binary)" ∷ codes "CREATE INDEX i ON C(a COLLATE lost)" ∷ []) []) (codes "SELECT 1 FROM c") (λ t. query (core (res t (lit t 1) 1 1 ∷ []) (named t 3 ∷ []) None)) ≡ Some (Unknown kind.Collation (codes "lost")))
+unfolding all_statement_rules count tokens_of word_kind the_text_test
+its_collation_has_gone = (refl, refl)
+
 no_arguments : refused_over keyed (codes "SELECT 1 FROM k(1)") (λ t. query (core (res t (lit t 1) 1 1 ∷ []) (called t 3 ∷ []) None)) ≡ Some (Arity (codes "k"))
 unfolding all_statement_rules count tokens_of word_kind the_text_test
 no_arguments = refl

@@ -13,6 +13,7 @@ pub mod Expressions
 pub mod Groups
 pub mod Limits
 pub mod Declared
+pub mod Lasting
 pub mod Froms
 pub mod Results
 pub mod Cores

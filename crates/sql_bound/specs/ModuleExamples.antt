@@ -14,7 +14,7 @@ use Rattle.sql_bound.specs.Carriers.{All, AllOf}
 use Rattle.sql_bound.specs.Exprs as e
 use Rattle.sql_bound.specs.Kinds as kind
 use Rattle.sql_bound.specs.Refusals.{Arity, Misuse, Unknown}
-use Rattle.sql_bound.specs.Samples.{around_of, bound_over, call, called_with, col, commanded_over, core, delete, dot, lit, named, named_as, natural, no_facts, query, refused_over, res, results_at, sources_at, span, token_at, using, why}
+use Rattle.sql_bound.specs.Samples.{around_of, bound_over, call, called_with, col, commanded_over, core, delete, dot, lit, named, named_as, natural, no_facts, query, refused_over, res, results_at, scalar, sources_at, span, token_at, using, why}
 use Rattle.sql_bound.specs.Scopes.{Around, Facts}
 use Rattle.sql_bound.specs.Units.{Module}
 
@@ -28,6 +28,7 @@ series_columns =
 abbrev facts : Facts
 facts = record no_facts {
   scalar = λ name. if is_same_name name (codes "twice") then Some (pos 1, false) else None;
+  aggregate = λ name. if is_same_name name (codes "median") then Some (pos 1) else None;
   host_module = λ name. if is_same_name name (codes "series") then Some (true, false) else None;
   columns = λ name table. Some series_columns;
 }
@@ -118,3 +119,8 @@ its_arity = refl
 in_another_case : refused_over with_start (codes "SELECT TWICE(start) FROM w GROUP BY twice(start)") (λ t. query (record (core (res t (call t 1 (col t 3 ∷ [])) 1 4 ∷ []) (named t 6 ∷ []) None) { group_by = span t (call t 9 (col t 11 ∷ [])) 9 12 ∷ [] })) ≡ None
 unfolding all_statement_rules count tokens_of word_kind the_text_test
 in_another_case = refl
+
+-- so are an aggregate and a table of a host
+one_unit_in_another_case : results_at 1 (bound_over hosts (codes "SELECT (SELECT median(value) FROM series AS x), (SELECT MEDIAN(value) FROM SERIES AS x)") (λ t. query (core (res t (scalar (query (core (res t (call t 3 (col t 5 ∷ [])) 3 6 ∷ []) (called_with t 8 [] 10 ∷ []) None))) 1 11 ∷ res t (scalar (query (core (res t (call t 15 (col t 17 ∷ [])) 15 18 ∷ []) (called_with t 20 [] 22 ∷ []) None))) 13 23 ∷ []) [] None))) ≡ e.Scalar 0 [] ∷ e.Scalar 0 [] ∷ []
+unfolding all_statement_rules count tokens_of word_kind the_text_test
+one_unit_in_another_case = refl
