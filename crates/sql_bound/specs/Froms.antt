@@ -60,6 +60,7 @@ pub record Sourced : Type 0 where
   pub name : Option (List ℕ)
   pub source : BoundSource
   pub columns : List BoundColumn
+  pub kinds : List ColumnKind
   pub hidden : List Bool
   pub has_rowid : Bool
   pub rowid : Option ℕ
@@ -69,7 +70,7 @@ pub record Sourced : Type 0 where
 -- columns that are all shown, without a rowid
 abbrev pub plain_source : Option (List ℕ) → BoundSource → List BoundColumn → Sourced
 plain_source name source columns =
-    record { name = name; source = source; columns = columns; hidden = map (λ c. false) columns; has_rowid = false; rowid = None; indexes = []; is_queue = false }
+    record { name = name; source = source; columns = columns; kinds = []; hidden = map (λ c. false) columns; has_rowid = false; rowid = None; indexes = []; is_queue = false }
 
 -- a result as a column: BINARY where it has no collation
 abbrev pub as_column : ResultColumn → BoundColumn
@@ -132,7 +133,7 @@ columns_told facts name table = told (facts.columns name table) >>= λ cs. withi
 
 abbrev pub module_source : List ℕ → List ℕ → ℕ → List ModColumn → List BoundExpr → Sourced
 module_source shown name table cs args =
-    record (plain_source (Some shown) (unit.Module shown name table args) (map module_column cs)) { hidden = map (λ (c : ModColumn). is_hidden c.kind) cs; has_rowid = true }
+    record (plain_source (Some shown) (unit.Module shown name table args) (map module_column cs)) { kinds = map (λ (c : ModColumn). c.kind) cs; hidden = map (λ (c : ModColumn). is_hidden c.kind) cs; has_rowid = true }
 
 -- as many arguments as there are hidden columns, or fewer
 abbrev pub arguments_fit : List ℕ → List ModColumn → List Expression → Checked (Unit {0})
@@ -299,7 +300,7 @@ are_made other = true
 -- an item without conjuncts
 abbrev pub plain_item : Option (List ℕ) → Sourced → BoundItem
 plain_item name s =
-    record { join = unit.Inner; ons = []; ons_made = true; shown = unwrap_or name []; source = s.source; columns = s.columns; rowid = s.rowid; indexes = s.indexes; ignored = [] }
+    record { join = unit.Inner; ons = []; ons_made = true; shown = unwrap_or name []; source = s.source; columns = s.columns; kinds = s.kinds; rowid = s.rowid; indexes = s.indexes; ignored = [] }
 
 abbrev pub with_item : ItemParts → Option (List ℕ) → Sourced → Found → Joining → Found
 with_item item name s f j =

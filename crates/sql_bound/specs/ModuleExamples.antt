@@ -1,6 +1,7 @@
 -- Tables of modules and functions of hosts.
-use Rattle.std.specs.Prelude.{◌≡◌, true, false, List, [], ◌∷◌, pos, Some, None, if◌then◌else◌, codes, refl}
+use Rattle.std.specs.Prelude.{◌≡◌, true, false, List, [], ◌∷◌, map, pos, Option, Some, None, if◌then◌else◌, codes, refl}
 use Rattle.eng_entry.specs.Names.{is_same_name}
+use Rattle.eng_value.specs.declared.modules.ColumnKind.{ColumnKind}
 use Rattle.eng_value.specs.declared.modules.ColumnKind.TheVariants as column_kind
 use Rattle.eng_value.specs.declared.modules.ModColumn.{ModColumn}
 use Rattle.eng_value.specs.declared.value.Value.TheVariants as value
@@ -14,9 +15,9 @@ use Rattle.sql_bound.specs.Carriers.{All, AllOf}
 use Rattle.sql_bound.specs.Exprs as e
 use Rattle.sql_bound.specs.Kinds as kind
 use Rattle.sql_bound.specs.Refusals.{Arity, Misuse, Unknown}
-use Rattle.sql_bound.specs.Samples.{around_of, bound_over, call, called_with, col, commanded_over, core, delete, dot, lit, named, named_as, natural, no_facts, query, refused_over, res, results_at, scalar, sources_at, span, token_at, using, why}
+use Rattle.sql_bound.specs.Samples.{around_of, bound_over, call, called_with, col, commanded_over, core, core_at, delete, dot, lit, named, named_as, natural, no_facts, query, refused_over, res, results_at, scalar, sources_at, span, token_at, using, why}
 use Rattle.sql_bound.specs.Scopes.{Around, Facts}
-use Rattle.sql_bound.specs.Units.{Module}
+use Rattle.sql_bound.specs.Units.{BoundCore, BoundItem, Module}
 
 -- ---- a module whose name is a table: value, and the arguments start, stop and step; and a function of one argument
 
@@ -71,6 +72,15 @@ with_start = record (around_of (codes "CREATE TABLE w(start)" ∷ []) []) { fact
 natural_by_what_is_shown : results_at 0 (bound_over with_start (codes "SELECT * FROM w, series(1,2) AS g NATURAL JOIN w") (λ t. query (core (All ∷ []) (named t 3 ∷ called_with t 5 (lit t 7 ∷ lit t 9 ∷ []) 12 ∷ natural t 15 ∷ []) None))) ≡ e.Column 0 0 ∷ e.Column 1 0 ∷ []
 unfolding all_statement_rules count tokens_of word_kind the_text_test
 natural_by_what_is_shown = refl
+
+-- an item tells which arguments its module must have
+abbrev kinds_of : Option BoundCore → List (List ColumnKind)
+kinds_of None = []
+kinds_of (Some c) = map (λ (i : BoundItem). i.kinds) c.items
+
+arguments_by_kind : kinds_of (core_at 0 (bound_over with_start (codes "SELECT 1 FROM series, w") (λ t. query (core (res t (lit t 1) 1 1 ∷ []) (named t 3 ∷ named t 5 ∷ []) None)))) ≡ (column_kind.Shown ∷ column_kind.Required ∷ column_kind.Required ∷ column_kind.Optional ∷ []) ∷ [] ∷ []
+unfolding all_statement_rules count tokens_of word_kind the_text_test
+arguments_by_kind = refl
 
 -- USING joins by what is hidden, too
 using_what_is_hidden : results_at 0 (bound_over with_start (codes "SELECT start FROM w JOIN series USING (start)") (λ t. query (core (res t (col t 1) 1 1 ∷ []) (named t 3 ∷ using t 5 (8 ∷ []) ∷ []) None))) ≡ e.Column 0 0 ∷ []

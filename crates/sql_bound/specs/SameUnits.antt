@@ -3,6 +3,7 @@ use Rattle.std.specs.Prelude.{ℕ, nat_eq, Bool, true, false, ◌&&◌, List, Op
 use Rattle.std.specs.Str.{bytes_eq}
 use denote.Enum.Bare.{sameb}
 use Rattle.eng_entry.specs.Names.{is_same_name}
+use Rattle.eng_value.specs.contracts.modules.ColumnKind as column_kind
 use Rattle.sql_tree.specs.contracts.query.CompoundOp as compound_op
 use Rattle.sql_bound.specs.Same.{all_same, both_same, same_affinity, same_collation, same_expr, same_exprs, same_truth}
 use Rattle.sql_bound.specs.Units.{AggregateKind, CountRows, Count, Sum, Min, Max, GroupConcat, HostAggregate, BoundAggregate, BoundColumn, BoundCompound, BoundCore, BoundGroups, BoundIndex, BoundItem, BoundKey, BoundPart, BoundQuery, BoundRecursion, BoundSource, BoundTerm, BoundUnit, IndexPart, JoinKind, TermKey}
@@ -36,7 +37,7 @@ same_join _ _ = false
 abbrev pub same_item : BoundItem → BoundItem → Bool
 same_item a b =
     same_join a.join b.join && same_exprs a.ons b.ons && same_truth a.ons_made b.ons_made && is_same_name a.shown b.shown && same_source a.source b.source && all_same same_column a.columns b.columns
-    && both_same nat_eq a.rowid b.rowid && all_same same_index a.indexes b.indexes
+    && all_same (sameb column_kind.the_type) a.kinds b.kinds && both_same nat_eq a.rowid b.rowid && all_same same_index a.indexes b.indexes
 
 abbrev pub same_kind : AggregateKind → AggregateKind → Bool
 same_kind CountRows CountRows = true

@@ -2,6 +2,7 @@
 use Rattle.std.specs.Prelude.{ℕ, Bool, List, Option}
 use Rattle.eng_value.specs.declared.affinity.Affinity.{Affinity}
 use Rattle.eng_value.specs.declared.collation.Collation.{Collation}
+use Rattle.eng_value.specs.declared.modules.ColumnKind.{ColumnKind}
 use Rattle.sql_tree.specs.declared.query.CompoundOp.{CompoundOp}
 use Rattle.sql_tree.specs.declared.statement.ConflictChoice.{ConflictChoice}
 use Rattle.sql_tree.specs.declared.statement.Explain.{Explain}
@@ -48,7 +49,7 @@ pub data JoinKind : Type 0 where
   Inner : JoinKind
   Left : JoinKind
 
--- an item of a FROM: the conjuncts of its ON, or those that USING and NATURAL make, which read nothing that is named; the name by which it is called, its columns, which of them is the rowid, its indexes, oldest first, and which columns read NULL since the authorizer ignores them; without a place that is the rowid
+-- an item of a FROM: the conjuncts of its ON, or those that USING and NATURAL make, which read nothing that is named; the name by which it is called, its columns, of a module's table the kinds of these, which tell what is hidden and which arguments it must have, which of them is the rowid, its indexes, oldest first, and which columns read NULL since the authorizer ignores them; without a place that is the rowid
 pub record BoundItem : Type 0 where
   pub join : JoinKind
   pub ons : List BoundExpr
@@ -56,6 +57,7 @@ pub record BoundItem : Type 0 where
   pub shown : List ℕ
   pub source : BoundSource
   pub columns : List BoundColumn
+  pub kinds : List ColumnKind
   pub rowid : Option ℕ
   pub indexes : List BoundIndex
   pub ignored : List (Option ℕ)
