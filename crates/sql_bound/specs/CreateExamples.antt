@@ -1,5 +1,5 @@
 -- CREATE, DROP and transactions.
-use Rattle.std.specs.Prelude.{◌≡◌, ℕ, true, false, List, [], ◌∷◌, Option, Some, None, if◌then◌else◌, codes, refl}
+use Rattle.std.specs.Prelude.{◌≡◌, ℕ, true, false, List, [], ◌∷◌, Option, Some, None, Ok, Err, if◌then◌else◌, codes, refl}
 use Rattle.eng_entry.specs.Names.{is_same_name}
 use Rattle.sql_grammar.specs.Answers.{Answer, Tree, Syntax, TooMuch}
 use Rattle.sql_grammar.specs.Marks.{count}
@@ -15,11 +15,12 @@ use Rattle.sql_bound.specs.Carriers.{Expression}
 use Rattle.sql_bound.specs.Creates.{level_of}
 use Rattle.sql_bound.specs.Declared.{definition_in, table_in}
 use Rattle.sql_bound.specs.Kinds as kind
-use Rattle.sql_bound.specs.Refusals.{Exists, Misuse, Real, Refusal, Reserved, Unknown, Untold}
+use Rattle.sql_bound.specs.Refusals.{Checked, Exists, Misuse, Real, Refusal, Reserved, Unknown, Untold}
 use Rattle.sql_bound.specs.Samples.{around_of, col, dot, no_facts, why}
 use Rattle.sql_bound.specs.Scopes.{Around, Level, begun}
 use Rattle.sql_bound.specs.Statements.{bound_of}
 use Rattle.sql_bound.specs.Targets.{constraint_bound, in_check}
+use Rattle.sql_bound.specs.Units.{ATable, AView, AnIndex, BoundCommand, BoundStatement, Nothing, Removed}
 
 abbrev things : Around
 things = around_of (codes "CREATE TABLE t(a, B)" ∷ codes "CREATE VIEW v AS SELECT 1" ∷ codes "CREATE INDEX i ON t(a)" ∷ []) (codes "CREATE TRIGGER g AFTER DELETE ON t BEGIN SELECT 1; END" ∷ [])
@@ -91,6 +92,22 @@ modules = refl
 drops : (refused (codes "DROP TABLE v") ≡ Some (Unknown kind.Table (codes "v"))) × (refused (codes "DROP VIEW IF EXISTS t") ≡ None) × (refused (codes "DROP TRIGGER t") ≡ Some (Unknown kind.Trigger (codes "t")))
 unfolding all_statement_rules count tokens_of word_kind the_text_test
 drops = (refl, refl, refl)
+
+-- what does nothing tells what it touches, by names as they are declared
+abbrev command_read : List ℕ → Answer Statement → Option BoundCommand
+command_read text (Tree s) = command_in (bound_of things text s)
+  where
+    command_in : Checked BoundStatement → Option BoundCommand
+    command_in (Ok b) = Some b.command
+    command_in (Err reason) = None
+command_read text other = None
+
+abbrev commanded : List ℕ → Option BoundCommand
+commanded text = command_read text (answer_of text)
+
+nothing_done : (commanded (codes "CREATE TABLE IF NOT EXISTS T(a)") ≡ Some (Nothing ATable (codes "t") [])) × (commanded (codes "CREATE INDEX IF NOT EXISTS I ON T(a)") ≡ Some (Nothing AnIndex (codes "i") (codes "t"))) × (commanded (codes "DROP VIEW IF EXISTS T") ≡ Some (Nothing AView (codes "t") [])) × (commanded (codes "DROP INDEX i") ≡ Some (Removed (record { kind = AnIndex; name = codes "i"; owner = codes "t" })))
+unfolding all_statement_rules count tokens_of word_kind the_text_test
+nothing_done = (refl, refl, refl, refl)
 
 others : (refused (codes "RELEASE p") ≡ Some (Unknown kind.Savepoint (codes "p"))) × (refused (codes "PRAGMA foreign_keys=ON") ≡ Some (Unknown kind.Pragma (codes "foreign_keys"))) × (refused (codes "BEGIN") ≡ None)
 unfolding all_statement_rules count tokens_of word_kind the_text_test

@@ -258,9 +258,24 @@ created_by o name (definition.View v) = view_created o.text name v
 created_by o name (definition.Trigger t) = trigger_on o name t (entry_of o.around (name_at o.text t.table))
 created_by o name (definition.VirtualTable v) = module_created o.text name v (o.around.facts.host_module (name_at o.text v.module_name))
 
+-- what is there keeps its name, and so does the table of an index or a trigger
+abbrev pub name_of_entry : List ℕ → Option Entry → List ℕ
+name_of_entry name None = name
+name_of_entry name (Some entry) = entry.name
+
+abbrev pub table_called : Outer → Token → List ℕ
+table_called o t = name_of_entry (name_at o.text t) (entry_of o.around (name_at o.text t))
+
+abbrev pub nothing_created : Outer → List ℕ → Definition → BoundCommand
+nothing_created o name (definition.Table t) = Nothing ATable name []
+nothing_created o name (definition.Index i) = Nothing AnIndex name (table_called o i.table)
+nothing_created o name (definition.View v) = Nothing AView name []
+nothing_created o name (definition.Trigger t) = Nothing ATrigger name (table_called o t.table)
+nothing_created o name (definition.VirtualTable v) = Nothing AModuleTable name (name_at o.text v.module_name)
+
 abbrev pub create_there : Outer → Create → List ℕ → Option Entry → Checked BoundCommand
 create_there o c name there =
-    if c.if_not_exists && is_some there then Ok (Nothing name)
+    if c.if_not_exists && is_some there then Ok (nothing_created o (name_of_entry name there) c.definition)
     else (is_free name there >>= λ u. created_by o name c.definition >>= λ made. Ok (Created made))
 
 abbrev pub create_bound : Outer → Create → Checked BoundCommand

@@ -19,7 +19,7 @@ use Rattle.sql_meaning.specs.Binding.{◌>>=◌}
 use Rattle.sql_meaning.specs.Spelled.{name_at}
 use Rattle.sql_meaning.specs.Statement.{is_off}
 use Rattle.sql_bound.specs.Carriers.{Deletes, Inserts, Queries, RowParts, Updates}
-use Rattle.sql_bound.specs.Creates.{create_bound}
+use Rattle.sql_bound.specs.Creates.{create_bound, name_of_entry}
 use Rattle.sql_bound.specs.Kinds as kind
 use Rattle.sql_bound.specs.Kinds.{Named}
 use Rattle.sql_bound.specs.Refusals.{Checked, Unknown}
@@ -66,10 +66,16 @@ thing_of object.View entry_kind.View = Some AView
 thing_of object.Trigger entry_kind.Trigger = Some ATrigger
 thing_of other there = None
 
-abbrev pub removed : Bool → Named → List ℕ → Option (ThingKind × Entry) → Checked BoundCommand
-removed if_exists k name (Some t) = Ok (Removed (record { kind = t.0; name = t.1.name; owner = t.1.owner }))
-removed true k name None = Ok (Nothing name)
-removed false k name None = Err (Unknown k name)
+abbrev pub thing_meant : ObjectKind → ThingKind
+thing_meant object.Table = ATable
+thing_meant object.Index = AnIndex
+thing_meant object.View = AView
+thing_meant object.Trigger = ATrigger
+
+abbrev pub removed : Bool → ObjectKind → List ℕ → Option Entry → Option (ThingKind × Entry) → Checked BoundCommand
+removed if_exists k name there (Some t) = Ok (Removed (record { kind = t.0; name = t.1.name; owner = t.1.owner }))
+removed true k name there None = Ok (Nothing (thing_meant k) (name_of_entry name there) [])
+removed false k name there None = Err (Unknown (removed_kind k) name)
 
 abbrev pub thing_with : Entry → Option ThingKind → Option (ThingKind × Entry)
 thing_with entry None = None
@@ -83,9 +89,11 @@ abbrev pub entries_of : Around → ObjectKind → List Entry
 entries_of around object.Trigger = around.catalog.triggers
 entries_of around other = around.catalog.names
 
+abbrev pub remove_of : Bool → ObjectKind → List ℕ → Option Entry → Checked BoundCommand
+remove_of if_exists k name there = removed if_exists k name there (thing_there k there)
+
 abbrev pub remove_bound : Outer → Remove → Checked BoundCommand
-remove_bound o r =
-    removed r.if_exists (removed_kind r.kind) (name_at o.text r.name) (thing_there r.kind (entry_named (name_at o.text r.name) (entries_of o.around r.kind)))
+remove_bound o r = remove_of r.if_exists r.kind (name_at o.text r.name) (entry_named (name_at o.text r.name) (entries_of o.around r.kind))
 
 -- ---- transactions: a savepoint that is named is there
 

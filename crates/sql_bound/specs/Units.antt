@@ -257,8 +257,8 @@ pub data BoundCommand : Type 0 where
   Removed : BoundRemoval → BoundCommand
   Transacted : BoundTransaction → BoundCommand
   Pragma : List ℕ → BoundCommand
-  -- IF [NOT] EXISTS: the name that it touches
-  Nothing : List ℕ → BoundCommand
+  -- IF [NOT] EXISTS: the kind of the thing, and what it touches: its name and, where that is told, that of its table or module
+  Nothing : ThingKind → List ℕ → List ℕ → BoundCommand
 
 pub record BoundStatement : Type 0 where
   pub explain : Option Explain
