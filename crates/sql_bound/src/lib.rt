@@ -1,4 +1,8 @@
-//! What every statement comes to where its names are bound: the definitions in specs/, and nothing that runs.
+//! What every statement comes to where its names are bound, or the first refusal: a definition, and nothing that runs.
+//!
+//! `bound_of` (specs/Statements.antt) is the whole, over a catalog and what hosts tell: a flat list of units, each query, use of a
+//! view and WITH table once, the triggers that writes open, and the command. What runs is bound by the definitions of the library
+//! sql_meaning, of which this is to take the place. Read on in the order of specs/Lib.antt; beside each topic stand worked examples.
 #![tactic(auto)]
 
 mod laws;
