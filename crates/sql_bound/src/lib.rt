@@ -7,4 +7,4 @@
 
 mod laws;
 
-pub use laws::trees_come_to_their_parts;
+pub use laws::{the_nearest_from_decides, trees_come_to_their_parts};
