@@ -1,2 +1,4 @@
+pub mod ColumnLaws
+pub mod HandLaws
 pub mod NameLaws
 pub mod TreeLaws

@@ -7,8 +7,11 @@ ghost use Rattle.sql_tree.specs.declared.expr.Expr.TheOpen.{Expr-F};
 ghost use Rattle.sql_tree.specs.declared.expr.Expr.TheVariants as e;
 ghost use Rattle.sql_tree.specs.declared.query.Query.{Query};
 ghost use Rattle.sql_bound.specs.Expressions.{expr_step};
-ghost use Rattle.sql_bound.specs.Refusals.{Ambiguous};
-ghost use Rattle.sql_bound.specs.Scopes.{Level, ScopeColumn, ScopeItem, name_of_ambiguous, nearest};
+ghost use Rattle.sql_bound.specs.Columns.{alias_named, column_bound, name_shown};
+ghost use Rattle.sql_bound.specs.Kinds as kind;
+ghost use Rattle.sql_bound.specs.Operands.{as_one, column_operand};
+ghost use Rattle.sql_bound.specs.Refusals.{Ambiguous, Misuse, Refusal, Unknown};
+ghost use Rattle.sql_bound.specs.Scopes.{Alias, Level, Need, Operand, Scope, ScopeColumn, ScopeItem, Work, bare_in, counted_once, handed, name_of_ambiguous, nearest, needed};
 ghost use Rattle.sql_bound.specs.Trees.{of_expr, of_query};
 
 /// An expression comes to what its parts come to, by one step, and so does one that asks a query.
@@ -24,4 +27,24 @@ pub fn the_nearest_from_decides()
     ensures two { (name : List ℕ) (candidates : ScopeItem → List ScopeColumn) (nearer : List Level) (own : Level) (outer : List Level) (c d : ScopeColumn) (between others : List ScopeColumn) → All (λ level. flat_map candidates level ≡ []) nearer → flat_map candidates own ≡ c ∷ (between ++ d ∷ others) → d.joined ≡ false → nearest name candidates (nearer ++ own ∷ outer) ≡ Err (Ambiguous (name_of_ambiguous name c)) }
     ensures one { (name : List ℕ) (candidates : ScopeItem → List ScopeColumn) (nearer : List Level) (own : Level) (outer : List Level) (c : ScopeColumn) (others : List ScopeColumn) → All (λ level. flat_map candidates level ≡ []) nearer → flat_map candidates own ≡ c ∷ others → All (λ (d : ScopeColumn). d.joined ≡ true) others → nearest name candidates (nearer ++ own ∷ outer) ≡ Ok (Some (record { up = length nearer; column = c })) }
     ensures none { (name : List ℕ) (candidates : ScopeItem → List ScopeColumn) (levels : List Level) → All (λ level. flat_map candidates level ≡ []) levels → nearest name candidates levels ≡ Ok None }
+{}
+
+/// A name is a column of the own FROM, if one has it, whatever results have its name and whatever stands further out; else a result
+/// of the name; else a column of the nearest FROM further out, which comes as an argument, so many FROMs out; else it is unknown.
+pub fn a_column_comes_before_a_result()
+    ensures own { (s : Scope) (own : Level) (outer : List Level) (name : List ℕ) (w : Work) (c : ScopeColumn) → s.outer.allowed.columns ≡ true → s.outer.levels ≡ own ∷ outer → counted_once (flat_map (bare_in name) own) ≡ c ∷ [] → column_bound s name w ≡ Ok (column_operand c c.tree, w) }
+    ensures result { (s : Scope) (own : Level) (outer : List Level) (name : List ℕ) (w : Work) (a : Alias) (x : Operand) (v : Work) → s.outer.allowed.columns ≡ true → s.outer.levels ≡ own ∷ outer → flat_map (bare_in name) own ≡ [] → alias_named name s.aliases ≡ Some a → a.shown s.aggregates w ≡ Ok (x, v) → column_bound s name w ≡ Ok (as_one x, v) }
+    ensures refused_result { (s : Scope) (own : Level) (outer : List Level) (name : List ℕ) (w : Work) (a : Alias) (why : Refusal) → s.outer.allowed.columns ≡ true → s.outer.levels ≡ own ∷ outer → flat_map (bare_in name) own ≡ [] → alias_named name s.aliases ≡ Some a → a.shown s.aggregates w ≡ Err why → column_bound s name w ≡ Err why }
+    ensures further_out { (s : Scope) (own : Level) (outer : List Level) (name : List ℕ) (w : Work) (up : ℕ) (c : ScopeColumn) → s.outer.allowed.columns ≡ true → s.outer.levels ≡ own ∷ outer → flat_map (bare_in name) own ≡ [] → alias_named name s.aliases ≡ None → nearest name (bare_in name) outer ≡ Ok (Some (record { up = up; column = c })) → column_bound s name w ≡ Ok (column_operand c (needed (record { up = up; tree = c.tree }) w).0, (needed (record { up = up; tree = c.tree }) w).1) }
+    ensures unknown { (s : Scope) (own : Level) (outer : List Level) (name : List ℕ) (w : Work) → s.outer.allowed.columns ≡ true → s.outer.levels ≡ own ∷ outer → flat_map (bare_in name) own ≡ [] → alias_named name s.aliases ≡ None → nearest name (bare_in name) outer ≡ Ok None → column_bound s name w ≡ Err (Unknown kind.Column name) }
+    ensures misused { (s : Scope) (name : List ℕ) (w : Work) → s.outer.allowed.columns ≡ false → column_bound s name w ≡ Err (Misuse (name_shown s.outer.levels name)) }
+{}
+
+/// What a query is handed over is as many expressions as it has needs; the units and the aggregates stay as they are, and what was
+/// needed before is needed still, in its place.
+pub fn as_much_is_handed_over_as_is_needed()
+    ensures count { (needs : List Need) (w : Work) → length (handed needs w).0 ≡ length needs }
+    ensures units { (needs : List Need) (w : Work) → (handed needs w).1.units ≡ w.units }
+    ensures aggregates { (needs : List Need) (w : Work) → (handed needs w).1.aggregates ≡ w.aggregates }
+    ensures kept { (needs : List Need) (w : Work) → (more : List Need) × ((handed needs w).1.needs ≡ w.needs ++ more) }
 {}
