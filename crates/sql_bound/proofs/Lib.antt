@@ -1,4 +1,5 @@
 pub mod ColumnLaws
 pub mod HandLaws
+pub mod JoinLaws
 pub mod NameLaws
 pub mod TreeLaws

@@ -1,18 +1,22 @@
 // What is promised of the definitions. Nothing here runs: the contract is the law.
 ghost use Rattle.std.specs.List.{All, flat_map};
-ghost use Rattle.std.specs.Prelude.{◌≡◌, ℕ, true, false, List, [], ◌∷◌, ◌++◌, length, map, Some, None, Ok, Err};
+ghost use Rattle.std.specs.Prelude.{◌≡◌, ℕ, codes, true, false, List, [], ◌∷◌, ◌++◌, length, map, Some, None, Ok, Err};
 ghost use Rattle.sql_tree.specs.declared.expr.BinaryOp.{BinaryOp};
 ghost use Rattle.sql_tree.specs.declared.expr.Expr.{Expr};
 ghost use Rattle.sql_tree.specs.declared.expr.Expr.TheOpen.{Expr-F};
 ghost use Rattle.sql_tree.specs.declared.expr.Expr.TheVariants as e;
 ghost use Rattle.sql_tree.specs.declared.query.Query.{Query};
+ghost use Rattle.sql_tree.specs.declared.token.Token.{Token};
 ghost use Rattle.sql_bound.specs.Expressions.{expr_step};
+ghost use Rattle.sql_bound.specs.Carriers.{ConstraintParts, Expression, On, Unconstrained, Using};
 ghost use Rattle.sql_bound.specs.Columns.{alias_named, column_bound, name_shown};
+ghost use Rattle.sql_bound.specs.Froms.{Inside, Joining, common_names, constrained};
 ghost use Rattle.sql_bound.specs.Kinds as kind;
 ghost use Rattle.sql_bound.specs.Operands.{as_one, column_operand};
 ghost use Rattle.sql_bound.specs.Refusals.{Ambiguous, Misuse, Refusal, Unknown};
 ghost use Rattle.sql_bound.specs.Scopes.{Alias, Level, Need, Operand, Scope, ScopeColumn, ScopeItem, Work, bare_in, counted_once, handed, name_of_ambiguous, nearest, needed};
 ghost use Rattle.sql_bound.specs.Trees.{of_expr, of_query};
+ghost use Rattle.sql_meaning.specs.Spelled.{name_at};
 
 /// An expression comes to what its parts come to, by one step, and so does one that asks a query.
 pub fn trees_come_to_their_parts()
@@ -47,4 +51,12 @@ pub fn as_much_is_handed_over_as_is_needed()
     ensures units { (needs : List Need) (w : Work) → (handed needs w).1.units ≡ w.units }
     ensures aggregates { (needs : List Need) (w : Work) → (handed needs w).1.aggregates ≡ w.aggregates }
     ensures kept { (needs : List Need) (w : Work) → (more : List Need) × ((handed needs w).1.needs ≡ w.needs ++ more) }
+{}
+
+/// NATURAL joins as USING with the names that both sides have, in the order of those on the right, where neither side hides a column.
+/// With an ON or a USING of its own it is refused.
+pub fn natural_joins_by_the_common_columns()
+    ensures as_using { (i : Inside) (left : Level) (names : List Token) (j : Joining) (w : Work) → map (name_at i.outer.text) names ≡ common_names left j.right → All (λ (item : ScopeItem). All (λ (c : ScopeColumn). c.hidden ≡ false) item.columns) left → All (λ (c : ScopeColumn). c.hidden ≡ false) j.right.columns → constrained i left true Unconstrained j w ≡ constrained i left false (Using names) j w }
+    ensures not_with_on { (i : Inside) (left : Level) (x : Expression) (j : Joining) (w : Work) → constrained i left true (On x) j w ≡ Err (Misuse (codes "NATURAL")) }
+    ensures not_with_using { (i : Inside) (left : Level) (names : List Token) (j : Joining) (w : Work) → constrained i left true (Using names) j w ≡ Err (Misuse (codes "NATURAL")) }
 {}
