@@ -1,3 +1,4 @@
+pub mod CaseLaws
 pub mod ColumnLaws
 pub mod HandLaws
 pub mod JoinLaws

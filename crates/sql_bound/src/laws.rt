@@ -1,6 +1,7 @@
 // What is promised of the definitions. Nothing here runs: the contract is the law.
 ghost use Rattle.std.specs.List.{All, flat_map};
 ghost use Rattle.std.specs.Prelude.{◌≡◌, ℕ, codes, true, false, List, [], ◌∷◌, ◌++◌, length, map, Some, None, Ok, Err};
+ghost use Rattle.eng_entry.specs.Names.{is_same_name};
 ghost use Rattle.sql_tree.specs.declared.expr.BinaryOp.{BinaryOp};
 ghost use Rattle.sql_tree.specs.declared.expr.Expr.{Expr};
 ghost use Rattle.sql_tree.specs.declared.expr.Expr.TheOpen.{Expr-F};
@@ -9,12 +10,12 @@ ghost use Rattle.sql_tree.specs.declared.query.Query.{Query};
 ghost use Rattle.sql_tree.specs.declared.token.Token.{Token};
 ghost use Rattle.sql_bound.specs.Expressions.{expr_step};
 ghost use Rattle.sql_bound.specs.Carriers.{ConstraintParts, Expression, On, Unconstrained, Using};
-ghost use Rattle.sql_bound.specs.Columns.{alias_named, column_bound, name_shown};
+ghost use Rattle.sql_bound.specs.Columns.{alias_named, called_column_bound, column_bound, name_shown};
 ghost use Rattle.sql_bound.specs.Froms.{Inside, Joining, common_names, constrained};
 ghost use Rattle.sql_bound.specs.Kinds as kind;
 ghost use Rattle.sql_bound.specs.Operands.{as_one, column_operand};
 ghost use Rattle.sql_bound.specs.Refusals.{Ambiguous, Misuse, Refusal, Unknown};
-ghost use Rattle.sql_bound.specs.Scopes.{Alias, Level, Need, Operand, Scope, ScopeColumn, ScopeItem, Work, bare_in, counted_once, handed, name_of_ambiguous, nearest, needed};
+ghost use Rattle.sql_bound.specs.Scopes.{Alias, Level, Need, Operand, Scope, ScopeColumn, ScopeItem, WithEntry, Work, bare_in, called_in, counted_once, handed, name_of_ambiguous, nearest, needed, with_named};
 ghost use Rattle.sql_bound.specs.Trees.{of_expr, of_query};
 ghost use Rattle.sql_meaning.specs.Spelled.{name_at};
 
@@ -59,4 +60,15 @@ pub fn natural_joins_by_the_common_columns()
     ensures as_using { (i : Inside) (left : Level) (names : List Token) (j : Joining) (w : Work) → map (name_at i.outer.text) names ≡ common_names left j.right → All (λ (item : ScopeItem). All (λ (c : ScopeColumn). c.hidden ≡ false) item.columns) left → All (λ (c : ScopeColumn). c.hidden ≡ false) j.right.columns → constrained i left true Unconstrained j w ≡ constrained i left false (Using names) j w }
     ensures not_with_on { (i : Inside) (left : Level) (x : Expression) (j : Joining) (w : Work) → constrained i left true (On x) j w ≡ Err (Misuse (codes "NATURAL")) }
     ensures not_with_using { (i : Inside) (left : Level) (names : List Token) (j : Joining) (w : Work) → constrained i left true (Using names) j w ≡ Err (Misuse (codes "NATURAL")) }
+{}
+
+/// The same name with letters of ASCII in the other case means the same: the same column or rowid, or the same ambiguity, the same
+/// result and the same WITH table. So what is bound by a name is bound alike by the other.
+pub fn the_case_of_a_name_does_not_count()
+    ensures alone { (a b : List ℕ) (levels : List Level) → is_same_name a b ≡ true → nearest a (bare_in a) levels ≡ nearest b (bare_in b) levels }
+    ensures called { (t u a b : List ℕ) (levels : List Level) → is_same_name t u ≡ true → is_same_name a b ≡ true → nearest a (called_in t a) levels ≡ nearest b (called_in u b) levels }
+    ensures result { (a b : List ℕ) (results : List Alias) → is_same_name a b ≡ true → alias_named a results ≡ alias_named b results }
+    ensures with_table { (a b : List ℕ) (tables : List WithEntry) → is_same_name a b ≡ true → with_named a tables ≡ with_named b tables }
+    ensures bound { (s : Scope) (a b : List ℕ) (w v : Work) (x : Operand) → is_same_name a b ≡ true → column_bound s a w ≡ Ok (x, v) → column_bound s b w ≡ Ok (x, v) }
+    ensures bound_of_its_item { (s : Scope) (t u a b : List ℕ) (w v : Work) (x : Operand) → is_same_name t u ≡ true → is_same_name a b ≡ true → called_column_bound s t a w ≡ Ok (x, v) → called_column_bound s u b w ≡ Ok (x, v) }
 {}
