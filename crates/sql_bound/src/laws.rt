@@ -1,6 +1,6 @@
 // What is promised of the definitions. Nothing here runs: the contract is the law.
 ghost use Rattle.std.specs.List.{All, flat_map};
-ghost use Rattle.std.specs.Prelude.{◌≡◌, ℕ, codes, true, false, List, [], ◌∷◌, ◌++◌, length, map, Some, None, Ok, Err};
+ghost use Rattle.std.specs.Prelude.{◌≡◌, ℕ, ◌≤◌, Option, codes, true, false, List, [], ◌∷◌, ◌++◌, length, map, Some, None, Ok, Err};
 ghost use Rattle.eng_entry.specs.Names.{is_same_name};
 ghost use Rattle.sql_tree.specs.declared.expr.BinaryOp.{BinaryOp};
 ghost use Rattle.sql_tree.specs.declared.expr.Expr.{Expr};
@@ -9,12 +9,14 @@ ghost use Rattle.sql_tree.specs.declared.expr.Expr.TheVariants as e;
 ghost use Rattle.sql_tree.specs.declared.query.Query.{Query};
 ghost use Rattle.sql_tree.specs.declared.token.Token.{Token};
 ghost use Rattle.sql_bound.specs.Expressions.{expr_step};
-ghost use Rattle.sql_bound.specs.Carriers.{ConstraintParts, Expression, On, Unconstrained, Using};
+ghost use Rattle.sql_bound.specs.Carriers.{ConstraintParts, Expression, ItemParts, On, ResultParts, Unconstrained, Using};
 ghost use Rattle.sql_bound.specs.Columns.{alias_named, called_column_bound, column_bound, name_shown};
-ghost use Rattle.sql_bound.specs.Froms.{Inside, Joining, common_names, constrained};
+ghost use Rattle.sql_bound.specs.Compounds.{row_bound};
+ghost use Rattle.sql_bound.specs.Froms.{Found, Inside, Joining, QueueTable, common_names, constrained, items_found, nothing_found};
 ghost use Rattle.sql_bound.specs.Kinds as kind;
 ghost use Rattle.sql_bound.specs.Operands.{as_one, column_operand};
 ghost use Rattle.sql_bound.specs.Refusals.{Ambiguous, Misuse, Refusal, Unknown};
+ghost use Rattle.sql_bound.specs.Results.{ResultScope, Shown, nothing_shown, results_bound};
 ghost use Rattle.sql_bound.specs.Scopes.{Alias, Level, Need, Operand, Scope, ScopeColumn, ScopeItem, WithEntry, Work, bare_in, called_in, counted_once, handed, name_of_ambiguous, nearest, needed, with_named};
 ghost use Rattle.sql_bound.specs.Trees.{of_expr, of_query};
 ghost use Rattle.sql_meaning.specs.Spelled.{name_at};
@@ -71,4 +73,12 @@ pub fn the_case_of_a_name_does_not_count()
     ensures with_table { (a b : List ℕ) (tables : List WithEntry) → is_same_name a b ≡ true → with_named a tables ≡ with_named b tables }
     ensures bound { (s : Scope) (a b : List ℕ) (w v : Work) (x : Operand) → is_same_name a b ≡ true → column_bound s a w ≡ Ok (x, v) → column_bound s b w ≡ Ok (x, v) }
     ensures bound_of_its_item { (s : Scope) (t u a b : List ℕ) (w v : Work) (x : Operand) → is_same_name t u ≡ true → is_same_name a b ≡ true → called_column_bound s t a w ≡ Ok (x, v) → called_column_bound s u b w ≡ Ok (x, v) }
+{}
+
+/// No more than 100 values stand in a row that is bound, each one as it is written; a query shows no more than 100 columns, with those
+/// that `*` stands for; and a FROM has no more than 16 items. Whatever else is refused in what is longer, it is never bound.
+pub fn what_is_bound_keeps_the_limits()
+    ensures row { (s : Scope) (values : List Expression) (w v : Work) (row : List Operand) → row_bound s values ([], w) ≡ Ok (row, v) → (length row ≡ length values) × (length row ≤ 100) }
+    ensures results { (s : ResultScope) (results : List ResultParts) (w v : Work) (shown : Shown) → results_bound s results (nothing_shown, w) ≡ Ok (shown, v) → length shown.trees ≤ 100 }
+    ensures from { (i : Inside) (queue : Option QueueTable) (items : List ItemParts) (w v : Work) (found : Found) → items_found i queue items nothing_found w ≡ Ok (found, v) → (length found.items ≡ length items) × (length found.items ≤ 16) }
 {}
