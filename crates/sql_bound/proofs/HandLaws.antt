@@ -1,7 +1,13 @@
 -- What is handed over to a query, and what it leaves as it was.
-use Rattle.std.proofs.Common.{◌≡◌, ◌∙◌, ℕ, zero, suc, Option, List, [], ◌∷◌, ◌++◌, length, position, Some, None, refl, sym, ap, append_assoc, append-nil}
+use Rattle.std.proofs.Common.{◌≡◌, ◌∙◌, ℕ, zero, suc, ◌+◌, ◌<◌, ◌≤◌, Bool, true, false, not, cond, nat_eq, nat_lt, arith, Option, List, [], ◌∷◌, ◌++◌, length, position, Some, None, refl, sym, ap, append_assoc, append-nil}
+use Rattle.std.specs.List.{position_or_len}
+use Rattle.std.proofs.lemmas.Bool.Decides.{Decides-eqb, Decides-ltb}
+use Rattle.std.proofs.lemmas.List.Folds.{position_or_len_push}
+use Rattle.std.proofs.lemmas.List.Sums.{prefix_len-le-length}
+use Rattle.std.proofs.Math.ListN.{length-append}
+use Rattle.sql_bound.proofs.SameLaws.{both, expr_itself}
 use Rattle.sql_bound.specs.Exprs.{BoundExpr}
-use Rattle.sql_bound.specs.Scopes.{Need, Work, argument_at, brought, handed, is_need}
+use Rattle.sql_bound.specs.Scopes.{Need, Work, argument_at, brought, handed, is_need, needed}
 
 pub as_many : (needs : List Need) (w : Work) → length (handed needs w).0 ≡ length needs
 as_many [] w = refl
@@ -52,3 +58,30 @@ needs_kept (n ∷ needs) w =
     let first = brought_needs n.up n.tree w in
     let rest = needs_kept needs (brought n.up n.tree w).1 in
     (first.0 ++ rest.0, rest.1 ∙ ap (λ l. l ++ rest.0) first.1 ∙ append_assoc w.needs first.0 rest.0)
+
+-- ---- what is needed already is found again
+
+found_behind : {A : Type 0} (passes : A → Bool) (xs : List A) (x : A) → passes x ≡ true → position passes xs ≡ None → position passes (xs ++ x ∷ []) ≡ Some (length xs)
+found_behind passes xs x h none =
+    let short = prefix_len-le-length (λ a. not (passes a)) xs in
+    let long = not_below (position_or_len passes xs) (length xs) none in
+    let at_end : position_or_len passes xs ≡ length xs = omega arith in
+    let same : nat_eq (length xs) (length xs) ≡ true = (Decides-eqb (length xs) (length xs)).1 refl in
+    let here : position_or_len passes (xs ++ x ∷ []) ≡ length xs + 0 = position_or_len_push passes xs x ∙ rw (at_end, same, h) refl in
+    let place : position_or_len passes (xs ++ x ∷ []) ≡ length xs = omega arith in
+    let room : nat_lt (length xs) (length (xs ++ x ∷ [])) ≡ true = (Decides-ltb (length xs) (length (xs ++ x ∷ []))).1 (omega (arith, length-append xs (x ∷ []))) in
+    ap (λ n. cond (nat_lt n (length (xs ++ x ∷ []))) (Some n) None) place ∙ rw room refl where
+  not_below : (n m : ℕ) → cond (nat_lt n m) (Some n) None ≡ None → m ≤ n
+  not_below n m = go (nat_lt n m) (Decides-ltb n m).1 where
+    go : (t : Bool) → (n < m → t ≡ true) → cond t (Some n) None ≡ None → m ≤ n
+    go true above k = cc
+    go false above k = let never : n < m → ⊥ = λ l. let bad = above l in cc in omega (arith, never)
+
+pub again : (n : Need) (w : Work) → needed n (needed n w).1 ≡ needed n w
+again n w = go (position (is_need n) w.needs) refl where
+  itself : is_need n n ≡ true
+  itself = both ((Decides-eqb n.up n.up).1 refl) (expr_itself n.tree)
+
+  go : (place : Option ℕ) → position (is_need n) w.needs ≡ place → needed n (argument_at place n w).1 ≡ argument_at place n w
+  go (Some place) h = ap (λ p. argument_at p n w) h
+  go None h = ap (λ p. argument_at p n (argument_at None n w).1) (found_behind (is_need n) w.needs n itself h)

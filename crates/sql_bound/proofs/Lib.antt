@@ -4,4 +4,5 @@ pub mod HandLaws
 pub mod JoinLaws
 pub mod LimitLaws
 pub mod NameLaws
+pub mod SameLaws
 pub mod TreeLaws

@@ -12,11 +12,13 @@ ghost use Rattle.sql_bound.specs.Expressions.{expr_step};
 ghost use Rattle.sql_bound.specs.Carriers.{ConstraintParts, Expression, ItemParts, On, ResultParts, Unconstrained, Using};
 ghost use Rattle.sql_bound.specs.Columns.{alias_named, called_column_bound, column_bound, name_shown};
 ghost use Rattle.sql_bound.specs.Compounds.{row_bound};
+ghost use Rattle.sql_bound.specs.Exprs.{BoundExpr};
 ghost use Rattle.sql_bound.specs.Froms.{Found, Inside, Joining, QueueTable, common_names, constrained, items_found, nothing_found};
 ghost use Rattle.sql_bound.specs.Kinds as kind;
 ghost use Rattle.sql_bound.specs.Operands.{as_one, column_operand};
 ghost use Rattle.sql_bound.specs.Refusals.{Ambiguous, Misuse, Refusal, Unknown};
 ghost use Rattle.sql_bound.specs.Results.{ResultScope, Shown, nothing_shown, results_bound};
+ghost use Rattle.sql_bound.specs.Same.{same_expr};
 ghost use Rattle.sql_bound.specs.Scopes.{Alias, Level, Need, Operand, Scope, ScopeColumn, ScopeItem, WithEntry, Work, bare_in, called_in, counted_once, handed, name_of_ambiguous, nearest, needed, with_named};
 ghost use Rattle.sql_bound.specs.Trees.{of_expr, of_query};
 ghost use Rattle.sql_meaning.specs.Spelled.{name_at};
@@ -81,4 +83,11 @@ pub fn what_is_bound_keeps_the_limits()
     ensures row { (s : Scope) (values : List Expression) (w v : Work) (row : List Operand) → row_bound s values ([], w) ≡ Ok (row, v) → (length row ≡ length values) × (length row ≤ 100) }
     ensures results { (s : ResultScope) (results : List ResultParts) (w v : Work) (shown : Shown) → results_bound s results (nothing_shown, w) ≡ Ok (shown, v) → length shown.trees ≤ 100 }
     ensures from { (i : Inside) (queue : Option QueueTable) (items : List ItemParts) (w v : Work) (found : Found) → items_found i queue items nothing_found w ≡ Ok (found, v) → (length found.items ≡ length items) × (length found.items ≤ 16) }
+{}
+
+/// Each bound expression is the same as itself. So what is needed is not brought twice: where it is asked for again, it is the same
+/// argument, and nothing more is needed.
+pub fn a_need_is_brought_once()
+    ensures itself { (x : BoundExpr) → same_expr x x ≡ true }
+    ensures again { (n : Need) (w : Work) → needed n (needed n w).1 ≡ needed n w }
 {}

@@ -1,0 +1,9 @@
+use Rattle.sql_bound.proofs.HandLaws.{again}
+use Rattle.sql_bound.proofs.SameLaws.{expr_itself}
+use Rattle.sql_bound.proofs.laws.a_need_is_brought_once.Goals as goal
+
+pub returns-clause-itself : goal.returns-clause-itself
+returns-clause-itself c = expr_itself
+
+pub returns-clause-again : goal.returns-clause-again
+returns-clause-again c = again
