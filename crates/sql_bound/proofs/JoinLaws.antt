@@ -1,5 +1,5 @@
 -- NATURAL joins as USING where no column is hidden.
-use Rattle.std.proofs.Common.{◌≡◌, ◌∙◌, ℕ, zero, suc, Bool, true, false, not, cond, ◌&&◌, filter, List, [], ◌∷◌, ◌++◌, map, Ok, Err, refl, ap, arith}
+use Rattle.std.proofs.Common.{◌≡◌, ◌∙◌, ℕ, zero, suc, Bool, true, false, not, cond, ◌&&◌, filter, List, [], ◌∷◌, ◌++◌, map, Ok, Err, refl, sym, ap, arith}
 use Rattle.std.specs.List.{All, flat_map}
 use Rattle.std.proofs.lemmas.List.Elements.{All-filter, All-map, All-tail}
 use Rattle.eng_entry.specs.Names.{is_same_name}
@@ -70,3 +70,19 @@ all_alike left (suc n) (name ∷ names) j all right = ap (λ c. c >>= λ k. walk
   go rest (Err why) b = refl
   go rest (Ok l) (Err why) = refl
   go rest (Ok l) (Ok r) = rest (joined_by j name l r) (joined_shown name j.right right)
+
+-- ---- what USING joins is no other column any more
+
+joined_gone : (name : List ℕ) (columns : List ScopeColumn) → unjoined (filter (λ (c : ScopeColumn). is_same_name c.name name) (map (joined_if is_any name) columns)) ≡ []
+joined_gone name [] = refl
+joined_gone name (c ∷ columns) = go (is_same_name c.name name) refl (joined_gone name columns) where
+  go : (b : Bool) → is_same_name c.name name ≡ b → unjoined (filter (λ (x : ScopeColumn). is_same_name x.name name) (map (joined_if is_any name) columns)) ≡ [] → unjoined (filter (λ (x : ScopeColumn). is_same_name x.name name) (joined_if is_any name c ∷ map (joined_if is_any name) columns)) ≡ []
+  go true h rest = simp h rest
+  go false h rest = simp h rest
+
+pub using_joins : (left : Level) (name : List ℕ) (j k : Joining) → using_one is_any left name j ≡ Ok k → unjoined (columns_named name k.right) ≡ []
+using_joins left name j k e = go (one_of name (on_left is_any name left)) (one_of name (filter is_any (columns_named name j.right))) e where
+  go : (a b : Checked ScopeColumn) → one_by j name a b ≡ Ok k → unjoined (columns_named name k.right) ≡ []
+  go (Err why) b h = cc
+  go (Ok l) (Err why) h = cc
+  go (Ok l) (Ok r) h = let same : joined_by j name l r ≡ k = cc in ap (λ (x : Joining). unjoined (columns_named name x.right)) (sym same) ∙ joined_gone name j.right.columns

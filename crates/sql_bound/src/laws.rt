@@ -13,13 +13,13 @@ ghost use Rattle.sql_bound.specs.Carriers.{ConstraintParts, Expression, ItemPart
 ghost use Rattle.sql_bound.specs.Columns.{alias_named, called_column_bound, column_bound, name_shown};
 ghost use Rattle.sql_bound.specs.Compounds.{row_bound};
 ghost use Rattle.sql_bound.specs.Exprs.{BoundExpr};
-ghost use Rattle.sql_bound.specs.Froms.{Found, Inside, Joining, QueueTable, common_names, constrained, items_found, nothing_found};
+ghost use Rattle.sql_bound.specs.Froms.{Found, Inside, Joining, QueueTable, common_names, constrained, is_any, items_found, nothing_found, using_one};
 ghost use Rattle.sql_bound.specs.Kinds as kind;
 ghost use Rattle.sql_bound.specs.Operands.{as_one, column_operand};
 ghost use Rattle.sql_bound.specs.Refusals.{Ambiguous, Misuse, Refusal, Unknown};
 ghost use Rattle.sql_bound.specs.Results.{ResultScope, Shown, nothing_shown, results_bound};
 ghost use Rattle.sql_bound.specs.Same.{same_expr};
-ghost use Rattle.sql_bound.specs.Scopes.{Alias, Level, Need, Operand, Scope, ScopeColumn, ScopeItem, WithEntry, Work, bare_in, called_in, counted_once, handed, name_of_ambiguous, nearest, needed, with_named};
+ghost use Rattle.sql_bound.specs.Scopes.{Alias, Level, Need, Operand, Scope, ScopeColumn, ScopeItem, WithEntry, Work, bare_in, called_in, columns_named, counted_once, handed, name_of_ambiguous, nearest, needed, unjoined, with_named};
 ghost use Rattle.sql_bound.specs.Trees.{of_expr, of_query};
 ghost use Rattle.sql_meaning.specs.Spelled.{name_at};
 
@@ -38,14 +38,17 @@ pub fn the_nearest_from_decides()
     ensures none { (name : List ℕ) (candidates : ScopeItem → List ScopeColumn) (levels : List Level) → All (λ level. flat_map candidates level ≡ []) levels → nearest name candidates levels ≡ Ok None }
 {}
 
-/// A name is a column of the own FROM, if one has it, whatever results have its name and whatever stands further out; else a result
-/// of the name; else a column of the nearest FROM further out, which comes as an argument, so many FROMs out; else it is unknown.
+/// A name is a column of the own FROM, if one has it, and ambiguous if two have it, whatever results have its name and whatever stands
+/// further out; else a result of the name; else a column of the nearest FROM further out, which comes as an argument, so many FROMs
+/// out; else it is unknown. Behind the name of a table it is never a result.
 pub fn a_column_comes_before_a_result()
     ensures own { (s : Scope) (own : Level) (outer : List Level) (name : List ℕ) (w : Work) (c : ScopeColumn) → s.outer.allowed.columns ≡ true → s.outer.levels ≡ own ∷ outer → counted_once (flat_map (bare_in name) own) ≡ c ∷ [] → column_bound s name w ≡ Ok (column_operand c c.tree, w) }
+    ensures ambiguous { (s : Scope) (own : Level) (outer : List Level) (name : List ℕ) (w : Work) (c d : ScopeColumn) (others : List ScopeColumn) → s.outer.allowed.columns ≡ true → s.outer.levels ≡ own ∷ outer → counted_once (flat_map (bare_in name) own) ≡ c ∷ (d ∷ others) → column_bound s name w ≡ Err (Ambiguous (name_of_ambiguous name c)) }
     ensures result { (s : Scope) (own : Level) (outer : List Level) (name : List ℕ) (w : Work) (a : Alias) (x : Operand) (v : Work) → s.outer.allowed.columns ≡ true → s.outer.levels ≡ own ∷ outer → flat_map (bare_in name) own ≡ [] → alias_named name s.aliases ≡ Some a → a.shown s.aggregates w ≡ Ok (x, v) → column_bound s name w ≡ Ok (as_one x, v) }
     ensures refused_result { (s : Scope) (own : Level) (outer : List Level) (name : List ℕ) (w : Work) (a : Alias) (why : Refusal) → s.outer.allowed.columns ≡ true → s.outer.levels ≡ own ∷ outer → flat_map (bare_in name) own ≡ [] → alias_named name s.aliases ≡ Some a → a.shown s.aggregates w ≡ Err why → column_bound s name w ≡ Err why }
     ensures further_out { (s : Scope) (own : Level) (outer : List Level) (name : List ℕ) (w : Work) (up : ℕ) (c : ScopeColumn) → s.outer.allowed.columns ≡ true → s.outer.levels ≡ own ∷ outer → flat_map (bare_in name) own ≡ [] → alias_named name s.aliases ≡ None → nearest name (bare_in name) outer ≡ Ok (Some (record { up = up; column = c })) → column_bound s name w ≡ Ok (column_operand c (needed (record { up = up; tree = c.tree }) w).0, (needed (record { up = up; tree = c.tree }) w).1) }
     ensures unknown { (s : Scope) (own : Level) (outer : List Level) (name : List ℕ) (w : Work) → s.outer.allowed.columns ≡ true → s.outer.levels ≡ own ∷ outer → flat_map (bare_in name) own ≡ [] → alias_named name s.aliases ≡ None → nearest name (bare_in name) outer ≡ Ok None → column_bound s name w ≡ Err (Unknown kind.Column name) }
+    ensures behind_a_table { (s : Scope) (results : List Alias) (table name : List ℕ) (w : Work) → called_column_bound (record s { aliases = results }) table name w ≡ called_column_bound s table name w }
     ensures misused { (s : Scope) (name : List ℕ) (w : Work) → s.outer.allowed.columns ≡ false → column_bound s name w ≡ Err (Misuse (name_shown s.outer.levels name)) }
 {}
 
@@ -90,4 +93,9 @@ pub fn what_is_bound_keeps_the_limits()
 pub fn a_need_is_brought_once()
     ensures itself { (x : BoundExpr) → same_expr x x ≡ true }
     ensures again { (n : Need) (w : Work) → needed n (needed n w).1 ≡ needed n w }
+{}
+
+/// What USING joins is no other column: on its right no column of the name is left that is not joined with the one on the left.
+pub fn using_joins_all_of_the_name()
+    ensures { (left : Level) (name : List ℕ) (before after : Joining) → using_one is_any left name before ≡ Ok after → unjoined (columns_named name after.right) ≡ [] }
 {}

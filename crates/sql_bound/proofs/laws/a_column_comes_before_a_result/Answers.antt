@@ -1,5 +1,5 @@
 use Rattle.std.proofs.Common.{refl}
-use Rattle.sql_bound.proofs.ColumnLaws.{else_unknown, own_first, result_next, result_refused, then_further_out}
+use Rattle.sql_bound.proofs.ColumnLaws.{else_unknown, own_ambiguous, own_first, result_next, result_refused, then_further_out}
 use Rattle.sql_bound.proofs.laws.a_column_comes_before_a_result.Goals as goal
 
 pub returns-clause-own : goal.returns-clause-own
@@ -19,3 +19,9 @@ returns-clause-unknown c s own outer name w may levels = else_unknown s own oute
 
 pub returns-clause-misused : goal.returns-clause-misused
 returns-clause-misused c s name w may = rw may refl
+
+pub returns-clause-ambiguous : goal.returns-clause-ambiguous
+returns-clause-ambiguous c s own outer name w column other others may levels = own_ambiguous s own outer name w may levels column other others
+
+pub returns-clause-behind_a_table : goal.returns-clause-behind_a_table
+returns-clause-behind_a_table c s results table name w = refl
