@@ -3,6 +3,7 @@ use Rattle.std.proofs.Common.{◌≡◌, ◌∙◌, ℕ, zero, suc, Bool, true, 
 use Rattle.std.specs.List.{All, flat_map}
 use Rattle.std.proofs.lemmas.List.Elements.{All-filter, All-map, All-tail}
 use Rattle.eng_entry.specs.Names.{is_same_name}
+use Rattle.sql_bound.proofs.NameLaws.{head_of}
 use Rattle.sql_bound.specs.Froms.{Joining, equality_of, is_any, joined_if, on_left, one_of, using_one, with_joined}
 use Rattle.sql_bound.specs.Limits.{walked}
 use Rattle.sql_bound.specs.Refusals.{Checked}
@@ -14,9 +15,6 @@ IsShown c = c.hidden ≡ false
 
 abbrev pub ShowsAll : ScopeItem → Type 0
 ShowsAll item = All IsShown item.columns
-
-head_of : {A : Type 0} (P : A → Type 0) (x : A) (xs : List A) → All P (x ∷ xs) → P x
-head_of P x xs all = all 0 x (omega arith)
 
 -- ---- columns count alike
 

@@ -5,7 +5,7 @@ use Rattle.std.proofs.Math.ListN.{length-append}
 use Rattle.eng_value.specs.declared.limits.TheConstants.{MAX_COLUMNS}
 use Rattle.sql_bound.specs.Carriers.{Expression, ItemParts, ResultParts}
 use Rattle.sql_bound.specs.Compounds.{row_bound}
-use Rattle.sql_bound.specs.Froms.{Found, Inside, Joining, QueueTable, Sourced, called_by, constrained, has_room, item_found, items_found, joined_to, of_source, scope_item, with_item}
+use Rattle.sql_bound.specs.Froms.{are_made, kind_of_join, plain_item, Found, Inside, Joining, QueueTable, Sourced, called_by, constrained, has_room, item_found, items_found, joined_to, of_source, scope_item, with_item}
 use Rattle.sql_bound.specs.Groups.{grouped_checked}
 use Rattle.sql_bound.specs.Kinds as kind
 use Rattle.sql_bound.specs.Limits.{most_items, room_behind}
@@ -78,7 +78,7 @@ found_one_more i queue item f w g e =
     let name = called_by i.outer.text item.alias q.0.0.name in
     let r = bound_by (constrained i f.level item.join.natural item.constraint (record { right = scope_item (length f.items) name q.0.0; ons = [] }) q.0.1) (λ j. Ok (with_item item name q.0.0 f j.0, j.1)) g q.2 in
     let same : (with_item item name q.0.0 f r.0.0, r.0.1) ≡ g = one_answer (Ok (with_item item name q.0.0 f r.0.0, r.0.1)) (with_item item name q.0.0 f r.0.0, r.0.1) g refl r.2 in
-    (room, sym (ap (λ (x : Found × Work). length x.0.items) same) ∙ longer f.items _)
+    (room, sym (ap (λ (x : Found × Work). length x.0.items) same) ∙ longer f.items (record (plain_item name q.0.0) { join = kind_of_join item.join.left; ons = r.0.0.ons; ons_made = are_made item.constraint }))
 
 pub items_kept : (i : Inside) (queue : Option QueueTable) (items : List ItemParts) (f : Found) (w : Work) (g : Found × Work) → length f.items ≤ 16 → items_found i queue items f w ≡ Ok g → (length g.0.items ≡ length f.items + length items) × (length g.0.items ≤ 16)
 items_kept i queue [] f w g l e = let same : (f, w) ≡ g = cc in let h = ap (λ (x : Found × Work). length x.0.items) same in (omega arith, omega arith)

@@ -5,7 +5,7 @@ use Rattle.std.proofs.lemmas.List.Elements.{All-tail}
 use Rattle.sql_bound.specs.Refusals.{Ambiguous, Checked}
 use Rattle.sql_bound.specs.Scopes.{Level, ScopeColumn, ScopeItem, Sight, counted_once, name_of_ambiguous, nearest_from, nearest_of, unjoined}
 
-head_of : {A : Type 0} (P : A → Type 0) (x : A) (xs : List A) → All P (x ∷ xs) → P x
+pub head_of : {A : Type 0} (P : A → Type 0) (x : A) (xs : List A) → All P (x ∷ xs) → P x
 head_of P x xs all = all 0 x (omega arith)
 
 -- ---- what is left of the columns of one FROM
