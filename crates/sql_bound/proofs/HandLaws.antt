@@ -1,13 +1,19 @@
 -- What is handed over to a query, and what it leaves as it was.
-use Rattle.std.proofs.Common.{◌≡◌, ◌∙◌, ℕ, zero, suc, ◌+◌, ◌<◌, ◌≤◌, Bool, true, false, not, cond, nat_eq, nat_lt, arith, Option, List, [], ◌∷◌, ◌++◌, length, position, Some, None, refl, sym, ap, append_assoc, append-nil}
+use Rattle.std.proofs.Common.{◌≡◌, ◌∙◌, ℕ, zero, suc, ◌+◌, ◌<◌, ◌≤◌, Bool, true, false, not, cond, nat_eq, nat_lt, arith, Option, List, [], ◌∷◌, ◌++◌, length, position, slice_index_or, Some, None, Ok, Err, refl, sym, ap, append_assoc, append-nil}
 use Rattle.std.specs.List.{position_or_len}
 use Rattle.std.proofs.lemmas.Bool.Decides.{Decides-eqb, Decides-ltb}
 use Rattle.std.proofs.lemmas.List.Folds.{position_or_len_push}
 use Rattle.std.proofs.lemmas.List.Sums.{prefix_len-le-length}
 use Rattle.std.proofs.Math.ListN.{length-append}
 use Rattle.sql_bound.proofs.SameLaws.{both, expr_itself}
+use Rattle.std.proofs.Math.Seq.{get_or-append_seam}
+use Rattle.std.proofs.lemmas.List.Quantifiers.{position-Some}
 use Rattle.sql_bound.specs.Exprs.{BoundExpr}
-use Rattle.sql_bound.specs.Scopes.{Need, Work, argument_at, brought, handed, is_need, needed}
+use Rattle.sql_bound.specs.Exprs as e
+use Rattle.sql_bound.specs.Expressions.{asked}
+use Rattle.sql_bound.specs.Refusals.{Checked}
+use Rattle.sql_bound.specs.Units.{BoundUnit}
+use Rattle.sql_bound.specs.Scopes.{Asked, UnitsAnswer, Need, Work, argument_at, brought, handed, is_need, needed}
 
 pub as_many : (needs : List Need) (w : Work) → length (handed needs w).0 ≡ length needs
 as_many [] w = refl
@@ -77,11 +83,48 @@ found_behind passes xs x h none =
     go true above k = cc
     go false above k = let never : n < m → ⊥ = λ l. let bad = above l in cc in omega (arith, never)
 
+is_itself : (n : Need) → is_need n n ≡ true
+is_itself n = both ((Decides-eqb n.up n.up).1 refl) (expr_itself n.tree)
+
 pub again : (n : Need) (w : Work) → needed n (needed n w).1 ≡ needed n w
 again n w = go (position (is_need n) w.needs) refl where
-  itself : is_need n n ≡ true
-  itself = both ((Decides-eqb n.up n.up).1 refl) (expr_itself n.tree)
-
   go : (place : Option ℕ) → position (is_need n) w.needs ≡ place → needed n (argument_at place n w).1 ≡ argument_at place n w
   go (Some place) h = ap (λ p. argument_at p n w) h
-  go None h = ap (λ p. argument_at p n (argument_at None n w).1) (found_behind (is_need n) w.needs n itself h)
+  go None h = ap (λ p. argument_at p n (argument_at None n w).1) (found_behind (is_need n) w.needs n (is_itself n) h)
+
+abbrev IsArgumentOf : Need → BoundExpr × Work → Type 0
+IsArgumentOf n b = (place : ℕ) × (b.0 ≡ e.Argument place) × (place < length b.1.needs) × (is_need n (slice_index_or b.1.needs place n) ≡ true)
+
+pub argument_of : (n : Need) (w : Work) → IsArgumentOf n (needed n w)
+argument_of n w = go (position (is_need n) w.needs) (λ place h. position-Some (is_need n) w.needs place n h) where
+  go : (found : Option ℕ) → ((place : ℕ) → found ≡ Some place → (place < length w.needs) × (is_need n (slice_index_or w.needs place n) ≡ true) × ((k : ℕ) → k < place → is_need n (slice_index_or w.needs k n) ≡ false)) → IsArgumentOf n (argument_at found n w)
+  go (Some place) at = let h = at place refl in (place, refl, h.0, h.1)
+  go None at = (length w.needs, refl, omega (arith, length-append w.needs (n ∷ [])), ap (is_need n) (get_or-append_seam w.needs n [] n) ∙ is_itself n)
+
+-- ---- where a query is asked
+
+abbrev Handing : Type 0
+Handing = (Asked × List BoundExpr) × Work
+
+abbrev handed_to : Asked → Work → Handing
+handed_to a w = ((a, (handed a.needs w).0), (handed a.needs w).1)
+
+abbrev told : Asked → List BoundUnit → UnitsAnswer Asked
+told a units = Ok (a, units)
+
+abbrev answered : {A : Type 0} → A → Checked A
+answered a = Ok a
+
+one_value : {A : Type 0} (a b : A) → answered a ≡ answered b → a ≡ b
+one_value a b h = cc
+
+pub asked_with_all : (w v : Work) (answer : UnitsAnswer Asked) (a : Asked) (arguments : List BoundExpr) → asked w answer ≡ Ok ((a, arguments), v) → (answer ≡ Ok (a, v.units)) × (length arguments ≡ length a.needs)
+asked_with_all w v (Err why) a arguments h = cc
+asked_with_all w v (Ok b) a arguments h =
+    let begun : Work = record w { units = b.1 } in
+    let whole : handed_to b.0 begun ≡ ((a, arguments), v) = one_value (handed_to b.0 begun) ((a, arguments), v) h in
+    let same : b.0 ≡ a = ap (λ (x : Handing). x.0.0) whole in
+    let all : (handed b.0.needs begun).0 ≡ arguments = ap (λ (x : Handing). x.0.1) whole in
+    let left : (handed b.0.needs begun).1 ≡ v = ap (λ (x : Handing). x.1) whole in
+    let units : b.1 ≡ v.units = sym (same_units b.0.needs begun) ∙ ap (λ (x : Work). x.units) left in
+    (ap (λ (x : Asked). told x b.1) same ∙ ap (λ u. told a u) units, ap length (sym all) ∙ as_many b.0.needs begun ∙ ap (λ (x : Asked). length x.needs) same)

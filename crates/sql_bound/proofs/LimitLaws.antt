@@ -70,6 +70,12 @@ results_kept s (r ∷ rs) so_far shown l e =
 
 -- ---- items of FROM
 
+abbrev the_answer : Found × Work → Answer Found
+the_answer a = Ok a
+
+items_after : (a b : Found × Work) (n : ℕ) → length a.0.items ≡ n → the_answer a ≡ Ok b → length b.0.items ≡ n
+items_after a b n h e = let same : a ≡ b = cc in sym (ap (λ (x : Found × Work). length x.0.items) same) ∙ h
+
 found_one_more : (i : Inside) (queue : Option QueueTable) (item : ItemParts) (f : Found) (w : Work) (g : Found × Work) → item_found i queue item f w ≡ Ok g → (length f.items < 16) × (length g.0.items ≡ suc (length f.items))
 found_one_more i queue item f w g e =
     let p = bound_by (has_room f) (λ u. of_source i queue item.source f w >>= λ s. joined_to i item (called_by i.outer.text item.alias s.0.name) s.0 f s.1) g e in
@@ -77,8 +83,8 @@ found_one_more i queue item f w g e =
     let q = bound_by (of_source i queue item.source f w) (λ s. joined_to i item (called_by i.outer.text item.alias s.0.name) s.0 f s.1) g p.2 in
     let name = called_by i.outer.text item.alias q.0.0.name in
     let r = bound_by (constrained i f.level item.join.natural item.constraint (record { right = scope_item (length f.items) name q.0.0; ons = [] }) q.0.1) (λ j. Ok (with_item item name q.0.0 f j.0, j.1)) g q.2 in
-    let same : (with_item item name q.0.0 f r.0.0, r.0.1) ≡ g = one_answer (Ok (with_item item name q.0.0 f r.0.0, r.0.1)) (with_item item name q.0.0 f r.0.0, r.0.1) g refl r.2 in
-    (room, sym (ap (λ (x : Found × Work). length x.0.items) same) ∙ longer f.items (record (plain_item name q.0.0) { join = kind_of_join item.join.left; ons = r.0.0.ons; ons_made = are_made item.constraint }))
+    let all : Found = with_item item name q.0.0 f r.0.0 in
+    (room, items_after (all, r.0.1) g (suc (length f.items)) (longer f.items (record (plain_item name q.0.0) { join = kind_of_join item.join.left; ons = r.0.0.ons; ons_made = are_made item.constraint })) r.2)
 
 pub items_kept : (i : Inside) (queue : Option QueueTable) (items : List ItemParts) (f : Found) (w : Work) (g : Found × Work) → length f.items ≤ 16 → items_found i queue items f w ≡ Ok g → (length g.0.items ≡ length f.items + length items) × (length g.0.items ≤ 16)
 items_kept i queue [] f w g l e = let same : (f, w) ≡ g = cc in let h = ap (λ (x : Found × Work). length x.0.items) same in (omega arith, omega arith)

@@ -1,6 +1,6 @@
 // What is promised of the definitions. Nothing here runs: the contract is the law.
 ghost use Rattle.std.specs.List.{All, flat_map};
-ghost use Rattle.std.specs.Prelude.{◌≡◌, ℕ, ◌≤◌, Option, codes, true, false, List, [], ◌∷◌, ◌++◌, length, map, Some, None, Ok, Err};
+ghost use Rattle.std.specs.Prelude.{◌≡◌, ℕ, ◌<◌, ◌≤◌, slice_index_or, Option, codes, true, false, List, [], ◌∷◌, ◌++◌, length, map, Some, None, Ok, Err};
 ghost use Rattle.eng_entry.specs.Names.{is_same_name};
 ghost use Rattle.sql_tree.specs.declared.expr.BinaryOp.{BinaryOp};
 ghost use Rattle.sql_tree.specs.declared.expr.Expr.{Expr};
@@ -8,18 +8,19 @@ ghost use Rattle.sql_tree.specs.declared.expr.Expr.TheOpen.{Expr-F};
 ghost use Rattle.sql_tree.specs.declared.expr.Expr.TheVariants as e;
 ghost use Rattle.sql_tree.specs.declared.query.Query.{Query};
 ghost use Rattle.sql_tree.specs.declared.token.Token.{Token};
-ghost use Rattle.sql_bound.specs.Expressions.{expr_step};
+ghost use Rattle.sql_bound.specs.Expressions.{asked, expr_step};
 ghost use Rattle.sql_bound.specs.Carriers.{ConstraintParts, Expression, ItemParts, On, ResultParts, Unconstrained, Using};
 ghost use Rattle.sql_bound.specs.Columns.{alias_named, called_column_bound, column_bound, name_shown};
 ghost use Rattle.sql_bound.specs.Compounds.{row_bound};
 ghost use Rattle.sql_bound.specs.Exprs.{BoundExpr};
+ghost use Rattle.sql_bound.specs.Exprs as bound;
 ghost use Rattle.sql_bound.specs.Froms.{Found, Inside, Joining, QueueTable, common_names, constrained, is_any, items_found, nothing_found, using_one};
 ghost use Rattle.sql_bound.specs.Kinds as kind;
 ghost use Rattle.sql_bound.specs.Operands.{as_one, column_operand};
 ghost use Rattle.sql_bound.specs.Refusals.{Ambiguous, Misuse, Refusal, Unknown};
 ghost use Rattle.sql_bound.specs.Results.{ResultScope, Shown, nothing_shown, results_bound};
 ghost use Rattle.sql_bound.specs.Same.{same_expr};
-ghost use Rattle.sql_bound.specs.Scopes.{Alias, Level, Need, Operand, Scope, ScopeColumn, ScopeItem, WithEntry, Work, bare_in, called_in, columns_named, counted_once, handed, name_of_ambiguous, nearest, needed, unjoined, with_named};
+ghost use Rattle.sql_bound.specs.Scopes.{Alias, Asked, Level, Need, Operand, Scope, ScopeColumn, ScopeItem, UnitsAnswer, WithEntry, Work, bare_in, called_in, columns_named, counted_once, handed, is_need, name_of_ambiguous, nearest, needed, unjoined, with_named};
 ghost use Rattle.sql_bound.specs.Trees.{of_expr, of_query};
 ghost use Rattle.sql_meaning.specs.Spelled.{name_at};
 
@@ -52,12 +53,13 @@ pub fn a_column_comes_before_a_result()
     ensures misused { (s : Scope) (name : List ℕ) (w : Work) → s.outer.allowed.columns ≡ false → column_bound s name w ≡ Err (Misuse (name_shown s.outer.levels name)) }
 {}
 
-/// What a query is handed over is as many expressions as it has needs; the units and the aggregates stay as they are, and what was
+/// What a query is handed over where it is asked is as many expressions as it has needs; the units and the aggregates stay as they are, and what was
 /// needed before is needed still, in its place.
 pub fn as_much_is_handed_over_as_is_needed()
     ensures count { (needs : List Need) (w : Work) → length (handed needs w).0 ≡ length needs }
     ensures units { (needs : List Need) (w : Work) → (handed needs w).1.units ≡ w.units }
     ensures aggregates { (needs : List Need) (w : Work) → (handed needs w).1.aggregates ≡ w.aggregates }
+    ensures asked { (w v : Work) (answer : UnitsAnswer Asked) (a : Asked) (arguments : List BoundExpr) → asked w answer ≡ Ok ((a, arguments), v) → (answer ≡ Ok (a, v.units)) × (length arguments ≡ length a.needs) }
     ensures kept { (needs : List Need) (w : Work) → (more : List Need) × ((handed needs w).1.needs ≡ w.needs ++ more) }
 {}
 
@@ -89,9 +91,10 @@ pub fn what_is_bound_keeps_the_limits()
 {}
 
 /// Each bound expression is the same as itself. So what is needed is not brought twice: where it is asked for again, it is the same
-/// argument, and nothing more is needed.
+/// argument, and nothing more is needed. The argument's place is that of the need.
 pub fn a_need_is_brought_once()
     ensures itself { (x : BoundExpr) → same_expr x x ≡ true }
+    ensures argument { (n : Need) (w : Work) → (place : ℕ) × ((needed n w).0 ≡ bound.Argument place) × (place < length (needed n w).1.needs) × (is_need n (slice_index_or (needed n w).1.needs place n) ≡ true) }
     ensures again { (n : Need) (w : Work) → needed n (needed n w).1 ≡ needed n w }
 {}
 
