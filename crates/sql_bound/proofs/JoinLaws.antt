@@ -10,7 +10,7 @@ use Rattle.sql_bound.specs.Refusals.{Checked}
 use Rattle.sql_bound.specs.Scopes.{Level, ScopeColumn, ScopeItem, columns_named, is_shown, unjoined}
 use Rattle.sql_meaning.specs.Binding.{◌>>=◌}
 
-abbrev IsShown : ScopeColumn → Type 0
+abbrev pub IsShown : ScopeColumn → Type 0
 IsShown c = c.hidden ≡ false
 
 abbrev pub ShowsAll : ScopeItem → Type 0

@@ -1,6 +1,7 @@
 pub mod CaseLaws
 pub mod ColumnLaws
 pub mod HandLaws
+pub mod ItemLaws
 pub mod JoinLaws
 pub mod LimitLaws
 pub mod NameLaws

@@ -14,7 +14,7 @@ ghost use Rattle.sql_bound.specs.Columns.{alias_named, called_column_bound, colu
 ghost use Rattle.sql_bound.specs.Compounds.{row_bound};
 ghost use Rattle.sql_bound.specs.Exprs.{BoundExpr};
 ghost use Rattle.sql_bound.specs.Exprs as bound;
-ghost use Rattle.sql_bound.specs.Froms.{Found, Inside, Joining, QueueTable, common_names, constrained, is_any, items_found, nothing_found, using_one};
+ghost use Rattle.sql_bound.specs.Froms.{Found, Inside, Joining, QueueTable, Sourced, common_names, constrained, is_any, items_found, joined_to, nothing_found, scope_item, using_one};
 ghost use Rattle.sql_bound.specs.Kinds as kind;
 ghost use Rattle.sql_bound.specs.Operands.{as_one, column_operand};
 ghost use Rattle.sql_bound.specs.Refusals.{Ambiguous, Misuse, Refusal, Unknown};
@@ -64,9 +64,11 @@ pub fn as_much_is_handed_over_as_is_needed()
 {}
 
 /// NATURAL joins as USING with the names that both sides have, in the order of those on the right, where neither side hides a column.
-/// With an ON or a USING of its own it is refused.
+/// So an item of a FROM that is joined in the one way is bound as if it were joined in the other. With an ON or a USING of its own
+/// NATURAL is refused.
 pub fn natural_joins_by_the_common_columns()
     ensures as_using { (i : Inside) (left : Level) (names : List Token) (j : Joining) (w : Work) → map (name_at i.outer.text) names ≡ common_names left j.right → All (λ (item : ScopeItem). All (λ (c : ScopeColumn). c.hidden ≡ false) item.columns) left → All (λ (c : ScopeColumn). c.hidden ≡ false) j.right.columns → constrained i left true Unconstrained j w ≡ constrained i left false (Using names) j w }
+    ensures item_as_using { (i : Inside) (item : ItemParts) (names : List Token) (name : Option (List ℕ)) (s : Sourced) (f : Found) (w : Work) → map (name_at i.outer.text) names ≡ common_names f.level (scope_item (length f.items) name s) → All (λ (x : ScopeItem). All (λ (c : ScopeColumn). c.hidden ≡ false) x.columns) f.level → All (λ hidden. hidden ≡ false) s.hidden → joined_to i (record item { join = record item.join { natural = true }; constraint = Unconstrained }) name s f w ≡ joined_to i (record item { join = record item.join { natural = false }; constraint = Using names }) name s f w }
     ensures not_with_on { (i : Inside) (left : Level) (x : Expression) (j : Joining) (w : Work) → constrained i left true (On x) j w ≡ Err (Misuse (codes "NATURAL")) }
     ensures not_with_using { (i : Inside) (left : Level) (names : List Token) (j : Joining) (w : Work) → constrained i left true (Using names) j w ≡ Err (Misuse (codes "NATURAL")) }
 {}

@@ -1,11 +1,12 @@
-use Rattle.std.proofs.Common.{refl, ap}
-use Rattle.eng_value.specs.declared.limits.TheConstants.{MAX_COLUMNS}
-use Rattle.sql_bound.specs.Froms.{common_names, with_units}
-use Rattle.sql_bound.proofs.JoinLaws.{all_alike}
+use Rattle.std.proofs.Common.{refl}
+use Rattle.sql_bound.proofs.ItemLaws.{as_using, item_as_using}
 use Rattle.sql_bound.proofs.laws.natural_joins_by_the_common_columns.Goals as goal
 
 pub returns-clause-as_using : goal.returns-clause-as_using
-returns-clause-as_using c i left names j w h all right = rw h (ap (λ a. with_units a w) (all_alike left MAX_COLUMNS (common_names left j.right) j all right))
+returns-clause-as_using c = as_using
+
+pub returns-clause-item_as_using : goal.returns-clause-item_as_using
+returns-clause-item_as_using c = item_as_using
 
 pub returns-clause-not_with_on : goal.returns-clause-not_with_on
 returns-clause-not_with_on c i left x j w = refl
