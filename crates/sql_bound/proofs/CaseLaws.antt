@@ -1,12 +1,12 @@
 -- Names that are the same but for the case of letters are looked up alike.
-use Rattle.std.proofs.Common.{◌≡◌, ◌∙◌, ℕ, zero, suc, Bool, true, false, cond, Option, List, [], ◌∷◌, ◌++◌, Some, None, Ok, Err, refl, sym, ap}
+use Rattle.std.proofs.Common.{◌≡◌, ◌∙◌, ℕ, suc, Bool, true, false, cond, Option, List, [], ◌∷◌, ◌++◌, Some, None, Ok, Err, refl, sym, ap}
 use Rattle.std.specs.List.{flat_map}
 use Rattle.std.proofs.lemmas.Slice.Eq.{bytes_eq-Decides}
 use Rattle.eng_entry.specs.Names.{is_same_name}
 use Rattle.eng_text.specs.Texts.{folded}
 use Rattle.sql_bound.specs.Columns.{alias_named, called_column_bound, column_bound, further_out, name_shown, named_in, of_alias, of_outer, of_own, seen_or_unknown}
-use Rattle.sql_bound.specs.Refusals.{Ambiguous, Checked, Misuse}
-use Rattle.sql_bound.specs.Scopes.{Alias, Answer, Level, Operand, Scope, ScopeColumn, ScopeItem, Sight, Standing, WithEntry, Work, bare_in, called_in, counted_once, name_of_ambiguous, nearest, nearest_from, nearest_of, with_named}
+use Rattle.sql_bound.specs.Refusals.{Checked, Misuse}
+use Rattle.sql_bound.specs.Scopes.{Alias, Level, Operand, Scope, ScopeColumn, ScopeItem, Sight, Standing, WithEntry, Work, bare_in, called_in, counted_once, nearest, nearest_from, nearest_of, with_named}
 use Rattle.sql_meaning.specs.Binding.{◌>>=◌, dotted}
 
 pub folds_alike : (a b : List ℕ) → is_same_name a b ≡ true → folded a ≡ folded b
@@ -35,7 +35,7 @@ module _ (a b : List ℕ) (same : folded a ≡ folded b) where
   pub called_alike : (t u : List ℕ) → folded t ≡ folded u → (levels : List Level) → nearest a (called_in t a) levels ≡ nearest b (called_in u b) levels
   called_alike t u tables levels = levels_alike (called_in t a) (called_in u b) (item_alike t u tables) 0 levels where
     item_alike : (t u : List ℕ) → folded t ≡ folded u → (item : ScopeItem) → called_in t a item ≡ called_in u b item
-    item_alike t u tables item = elim (item.name) as (λ n. called_in t a (record item { name = n }) ≡ called_in u b (record item { name = n })) [ | None ↦ refl | Some name ↦ rw (same, tables) refl ]
+    item_alike t u tables item = elim (item.name) as (λ n. called_in t a (record item { name = n }) ≡ called_in u b (record item { name = n })) [ None ↦ refl | Some name ↦ rw (same, tables) refl ]
 
   pub result_alike : (results : List Alias) → alias_named a results ≡ alias_named b results
   result_alike results = rw same refl

@@ -1,5 +1,5 @@
 -- In which order a name is looked up.
-use Rattle.std.proofs.Common.{◌≡◌, ℕ, suc, true, List, [], ◌∷◌, Some, None, Ok, Err, refl}
+use Rattle.std.proofs.Common.{◌≡◌, ℕ, true, List, [], ◌∷◌, Some, None, Ok, Err, refl}
 use Rattle.std.specs.List.{flat_map}
 use Rattle.sql_bound.specs.Columns.{alias_named, column_bound}
 use Rattle.sql_bound.specs.Kinds as kind

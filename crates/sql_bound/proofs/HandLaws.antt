@@ -77,11 +77,11 @@ found_behind passes xs x h none =
     let place : position_or_len passes (xs ++ x ∷ []) ≡ length xs = omega arith in
     let room : nat_lt (length xs) (length (xs ++ x ∷ [])) ≡ true = (Decides-ltb (length xs) (length (xs ++ x ∷ []))).1 (omega (arith, length-append xs (x ∷ []))) in
     ap (λ n. cond (nat_lt n (length (xs ++ x ∷ []))) (Some n) None) place ∙ rw room refl where
-  not_below : (n m : ℕ) → cond (nat_lt n m) (Some n) None ≡ None → m ≤ n
-  not_below n m = go (nat_lt n m) (Decides-ltb n m).1 where
-    go : (t : Bool) → (n < m → t ≡ true) → cond t (Some n) None ≡ None → m ≤ n
-    go true above k = cc
-    go false above k = let never : n < m → ⊥ = λ l. let bad = above l in cc in omega (arith, never)
+      not_below : (n m : ℕ) → cond (nat_lt n m) (Some n) None ≡ None → m ≤ n
+      not_below n m = go (nat_lt n m) (Decides-ltb n m).1 where
+        go : (t : Bool) → (n < m → t ≡ true) → cond t (Some n) None ≡ None → m ≤ n
+        go true above k = cc
+        go false above k = let never : n < m → ⊥ = λ l. let bad = above l in cc in omega (arith, never)
 
 is_itself : (n : Need) → is_need n n ≡ true
 is_itself n = both ((Decides-eqb n.up n.up).1 refl) (expr_itself n.tree)

@@ -1,5 +1,5 @@
 -- An item that is joined by NATURAL is bound as one that is joined by USING.
-use Rattle.std.proofs.Common.{◌≡◌, ◌<◌, ℕ, suc, Bool, true, false, Option, List, [], ◌∷◌, length, map, Ok, refl, ap, arith}
+use Rattle.std.proofs.Common.{◌≡◌, ℕ, suc, Bool, true, false, Option, List, [], ◌∷◌, length, map, Ok, ap, arith}
 use Rattle.std.specs.List.{All}
 use Rattle.std.proofs.lemmas.List.Elements.{All-cons, All-tail}
 use Rattle.eng_value.specs.declared.limits.TheConstants.{MAX_COLUMNS}
@@ -8,7 +8,7 @@ use Rattle.sql_bound.proofs.JoinLaws.{IsShown, ShowsAll, all_alike}
 use Rattle.sql_bound.proofs.NameLaws.{head_of}
 use Rattle.sql_bound.specs.Carriers.{ItemParts, Unconstrained, Using}
 use Rattle.sql_bound.specs.Froms.{Found, Inside, Joining, Sourced, columns_from, common_names, constrained, joined_to, scope_item, with_item, with_units}
-use Rattle.sql_bound.specs.Scopes.{Level, ScopeColumn, Work}
+use Rattle.sql_bound.specs.Scopes.{Level, Work}
 use Rattle.sql_bound.specs.Units.{BoundColumn}
 use Rattle.sql_meaning.specs.Binding.{◌>>=◌}
 use Rattle.sql_meaning.specs.Spelled.{name_at}

@@ -1,6 +1,6 @@
 -- NATURAL joins as USING where no column is hidden.
-use Rattle.std.proofs.Common.{◌≡◌, ◌∙◌, ℕ, zero, suc, Bool, true, false, not, cond, ◌&&◌, filter, List, [], ◌∷◌, ◌++◌, map, Ok, Err, refl, sym, ap, arith}
-use Rattle.std.specs.List.{All, flat_map}
+use Rattle.std.proofs.Common.{◌≡◌, ◌∙◌, ℕ, zero, suc, Bool, true, false, not, cond, ◌&&◌, filter, List, [], ◌∷◌, ◌++◌, map, Ok, Err, refl, sym, ap}
+use Rattle.std.specs.List.{All}
 use Rattle.std.proofs.lemmas.List.Elements.{All-filter, All-map, All-tail}
 use Rattle.eng_entry.specs.Names.{is_same_name}
 use Rattle.sql_bound.proofs.NameLaws.{head_of}
@@ -43,7 +43,7 @@ right_alike : (name : List ℕ) (item : ScopeItem) → ShowsAll item → with_jo
 right_alike name item all = ap (λ l. record item { columns = l }) (joined_alike name item.columns all)
 
 still_shown : (name : List ℕ) (c : ScopeColumn) → (joined_if is_any name c).hidden ≡ c.hidden
-still_shown name c = elim (is_same_name c.name name) as (λ b. (cond b (record c { joined = true }) c).hidden ≡ c.hidden) [ | true ↦ refl | false ↦ refl ]
+still_shown name c = elim (is_same_name c.name name) as (λ b. (cond b (record c { joined = true }) c).hidden ≡ c.hidden) [ true ↦ refl | false ↦ refl ]
 
 joined_shown : (name : List ℕ) (item : ScopeItem) → ShowsAll item → ShowsAll (with_joined is_any name item)
 joined_shown name item all = All-map IsShown (joined_if is_any name) item.columns (λ k d l. still_shown name _ ∙ all k d l)

@@ -1,11 +1,11 @@
 -- What is bound keeps the limits.
-use Rattle.std.proofs.Common.{◌≡◌, ◌∙◌, ℕ, zero, suc, ◌+◌, ◌<◌, ◌≤◌, Bool, true, false, nat_lt, cond, Option, List, [], ◌∷◌, ◌++◌, length, Some, None, Ok, Err, refl, sym, ap, arith}
+use Rattle.std.proofs.Common.{◌≡◌, ◌∙◌, ℕ, suc, ◌+◌, ◌<◌, ◌≤◌, Bool, true, false, nat_lt, cond, Option, List, [], ◌∷◌, ◌++◌, length, Ok, Err, refl, sym, ap, arith}
 use Rattle.std.proofs.lemmas.Bool.Decides.{Decides-ltb}
 use Rattle.std.proofs.Math.ListN.{length-append}
 use Rattle.eng_value.specs.declared.limits.TheConstants.{MAX_COLUMNS}
 use Rattle.sql_bound.specs.Carriers.{Expression, ItemParts, ResultParts}
 use Rattle.sql_bound.specs.Compounds.{row_bound}
-use Rattle.sql_bound.specs.Froms.{are_made, kind_of_join, plain_item, Found, Inside, Joining, QueueTable, Sourced, called_by, constrained, has_room, item_found, items_found, joined_to, of_source, scope_item, with_item}
+use Rattle.sql_bound.specs.Froms.{are_made, kind_of_join, plain_item, Found, Inside, QueueTable, called_by, constrained, has_room, item_found, items_found, joined_to, of_source, scope_item, with_item}
 use Rattle.sql_bound.specs.Groups.{grouped_checked}
 use Rattle.sql_bound.specs.Kinds as kind
 use Rattle.sql_bound.specs.Limits.{most_items, room_behind}
