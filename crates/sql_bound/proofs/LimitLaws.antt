@@ -1,17 +1,17 @@
 -- What is bound keeps the limits.
-use Rattle.std.proofs.Common.{◌≡◌, ◌∙◌, ℕ, suc, ◌+◌, ◌<◌, ◌≤◌, Bool, true, false, nat_lt, cond, Option, List, [], ◌∷◌, ◌++◌, length, Ok, Err, refl, sym, ap, arith}
+use Rattle.std.proofs.Common.{◌≡◌, ◌∙◌, ℕ, zero, suc, ◌+◌, ◌<◌, ◌≤◌, Bool, true, false, nat_lt, cond, Option, List, [], ◌∷◌, ◌++◌, length, Ok, Err, refl, sym, ap, arith}
 use Rattle.std.proofs.lemmas.Bool.Decides.{Decides-ltb}
 use Rattle.std.proofs.Math.ListN.{length-append}
 use Rattle.eng_value.specs.declared.limits.TheConstants.{MAX_COLUMNS}
 use Rattle.sql_bound.specs.Carriers.{Expression, ItemParts, ResultParts}
 use Rattle.sql_bound.specs.Compounds.{row_bound}
-use Rattle.sql_bound.specs.Froms.{are_made, kind_of_join, plain_item, Found, Inside, QueueTable, called_by, constrained, has_room, item_found, items_found, joined_to, of_source, scope_item, with_item}
+use Rattle.sql_bound.specs.Froms.{Found, Inside, Joining, QueueTable, are_made, kind_of_join, plain_item, called_by, constrained, has_room, item_found, items_found, joined_to, of_source, scope_item, using_all, using_one, with_item}
 use Rattle.sql_bound.specs.Groups.{grouped_checked}
 use Rattle.sql_bound.specs.Kinds as kind
-use Rattle.sql_bound.specs.Limits.{most_items, room_behind}
+use Rattle.sql_bound.specs.Limits.{most_items, room_behind, walked}
 use Rattle.sql_bound.specs.Refusals.{Checked, Limit, Refusal}
 use Rattle.sql_bound.specs.Results.{ResultScope, Shown, ShownResult, column_result, columns_result, results_bound, shown_by, with_result}
-use Rattle.sql_bound.specs.Scopes.{Answer, Operand, Scope, Work}
+use Rattle.sql_bound.specs.Scopes.{Answer, Level, Operand, Scope, ScopeColumn, Work}
 use Rattle.sql_meaning.specs.Binding.{◌>>=◌}
 
 -- what is bound is bound part by part
@@ -95,3 +95,15 @@ items_kept i queue (item ∷ items) f w g l e =
     let room = one.0 in
     let rest = items_kept i queue items p.0.0 p.0.1 g (omega arith) p.2 in
     let n = rest.0 in (omega arith, rest.1)
+
+-- ---- what is walked member by member
+
+walked_kept : {A B : Type 0} (f : A → B → Checked B) (n : ℕ) (xs : List A) (b c : B) → walked f n xs b ≡ Ok c → length xs ≤ n
+walked_kept f n [] b c e = omega arith
+walked_kept f zero (x ∷ xs) b c e = cc
+walked_kept f (suc n) (x ∷ xs) b c e =
+    let p = bound_by (f x b) (λ d. walked f n xs d) c e in
+    let rest = walked_kept f n xs p.0 c p.2 in omega arith
+
+pub joined_kept : (counts : ScopeColumn → Bool) (left : Level) (names : List (List ℕ)) (j k : Joining) → using_all counts left names j ≡ Ok k → length names ≤ 100
+joined_kept counts left names j k e = walked_kept (using_one counts left) MAX_COLUMNS names j k e

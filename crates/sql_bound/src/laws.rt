@@ -1,6 +1,6 @@
 // What is promised of the definitions. Nothing here runs: the contract is the law.
 ghost use Rattle.std.specs.List.{All, flat_map};
-ghost use Rattle.std.specs.Prelude.{◌≡◌, ℕ, ◌<◌, ◌≤◌, slice_index_or, Option, codes, true, false, List, [], ◌∷◌, ◌++◌, length, map, Some, None, Ok, Err};
+ghost use Rattle.std.specs.Prelude.{◌≡◌, ℕ, ◌<◌, ◌≤◌, slice_index_or, Bool, Option, codes, true, false, List, [], ◌∷◌, ◌++◌, length, map, Some, None, Ok, Err};
 ghost use Rattle.eng_entry.specs.Names.{is_same_name};
 ghost use Rattle.sql_tree.specs.declared.expr.BinaryOp.{BinaryOp};
 ghost use Rattle.sql_tree.specs.declared.expr.Expr.{Expr};
@@ -14,7 +14,7 @@ ghost use Rattle.sql_bound.specs.Columns.{alias_named, called_column_bound, colu
 ghost use Rattle.sql_bound.specs.Compounds.{row_bound};
 ghost use Rattle.sql_bound.specs.Exprs.{BoundExpr};
 ghost use Rattle.sql_bound.specs.Exprs as bound;
-ghost use Rattle.sql_bound.specs.Froms.{Found, Inside, Joining, QueueTable, Sourced, common_names, constrained, is_any, items_found, joined_to, nothing_found, scope_item, using_one};
+ghost use Rattle.sql_bound.specs.Froms.{Found, Inside, Joining, QueueTable, Sourced, common_names, constrained, is_any, items_found, joined_to, nothing_found, scope_item, using_all, using_one};
 ghost use Rattle.sql_bound.specs.Kinds as kind;
 ghost use Rattle.sql_bound.specs.Operands.{as_one, column_operand};
 ghost use Rattle.sql_bound.specs.Refusals.{Ambiguous, Misuse, Refusal, Unknown};
@@ -85,10 +85,11 @@ pub fn the_case_of_a_name_does_not_count()
 {}
 
 /// No more than 100 values stand in a row that is bound, each one as it is written; a query shows no more than 100 columns, with those
-/// that `*` stands for; and a FROM has no more than 16 items. Whatever else is refused in what is longer, it is never bound.
+/// that `*` stands for; USING and NATURAL join by no more than 100; and a FROM has no more than 16 items. Whatever else is refused in what is longer, it is never bound.
 pub fn what_is_bound_keeps_the_limits()
     ensures row { (s : Scope) (values : List Expression) (w v : Work) (row : List Operand) → row_bound s values ([], w) ≡ Ok (row, v) → (length row ≡ length values) × (length row ≤ 100) }
     ensures results { (s : ResultScope) (results : List ResultParts) (w v : Work) (shown : Shown) → results_bound s results (nothing_shown, w) ≡ Ok (shown, v) → length shown.trees ≤ 100 }
+    ensures joined_by { (counts : ScopeColumn → Bool) (left : Level) (names : List (List ℕ)) (before after : Joining) → using_all counts left names before ≡ Ok after → length names ≤ 100 }
     ensures from { (i : Inside) (queue : Option QueueTable) (items : List ItemParts) (w v : Work) (found : Found) → items_found i queue items nothing_found w ≡ Ok (found, v) → (length found.items ≡ length items) × (length found.items ≤ 16) }
 {}
 
