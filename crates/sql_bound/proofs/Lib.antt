@@ -5,5 +5,6 @@ pub mod ItemLaws
 pub mod JoinLaws
 pub mod LimitLaws
 pub mod NameLaws
+pub mod NeedLaws
 pub mod SameLaws
 pub mod TreeLaws

@@ -1,4 +1,4 @@
-use Rattle.sql_bound.proofs.HandLaws.{again, argument_of}
+use Rattle.sql_bound.proofs.NeedLaws.{again, argument_of}
 use Rattle.sql_bound.proofs.SameLaws.{expr_itself}
 use Rattle.sql_bound.proofs.laws.a_need_is_brought_once.Goals as goal
 
