@@ -53,8 +53,8 @@ pub fn a_column_comes_before_a_result()
     ensures misused { (s : Scope) (name : List ℕ) (w : Work) → s.outer.allowed.columns ≡ false → column_bound s name w ≡ Err (Misuse (name_shown s.outer.levels name)) }
 {}
 
-/// What a query is handed over where it is asked is as many expressions as it has needs; the units and the aggregates stay as they are, and what was
-/// needed before is needed still, in its place.
+/// What a query is handed over where it is asked is as many expressions as it has needs; the units and the aggregates stay as they
+/// are, and what was needed before is needed still, in its place.
 pub fn as_much_is_handed_over_as_is_needed()
     ensures count { (needs : List Need) (w : Work) → length (handed needs w).0 ≡ length needs }
     ensures units { (needs : List Need) (w : Work) → (handed needs w).1.units ≡ w.units }
@@ -85,7 +85,8 @@ pub fn the_case_of_a_name_does_not_count()
 {}
 
 /// No more than 100 values stand in a row that is bound, each one as it is written; a query shows no more than 100 columns, with those
-/// that `*` stands for; USING and NATURAL join by no more than 100; and a FROM has no more than 16 items. Whatever else is refused in what is longer, it is never bound.
+/// that `*` stands for; USING and NATURAL join by no more than 100; and a FROM has no more than 16 items. Whatever else is refused in
+/// what is longer, it is never bound.
 pub fn what_is_bound_keeps_the_limits()
     ensures row { (s : Scope) (values : List Expression) (w v : Work) (row : List Operand) → row_bound s values ([], w) ≡ Ok (row, v) → (length row ≡ length values) × (length row ≤ 100) }
     ensures results { (s : ResultScope) (results : List ResultParts) (w v : Work) (shown : Shown) → results_bound s results (nothing_shown, w) ≡ Ok (shown, v) → length shown.trees ≤ 100 }
