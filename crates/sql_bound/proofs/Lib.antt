@@ -1,1 +1,10 @@
+pub mod CaseLaws
+pub mod ColumnLaws
+pub mod HandLaws
+pub mod ItemLaws
+pub mod JoinLaws
+pub mod LimitLaws
+pub mod NameLaws
+pub mod NeedLaws
+pub mod SameLaws
 pub mod TreeLaws

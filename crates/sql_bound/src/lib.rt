@@ -7,4 +7,9 @@
 
 mod laws;
 
-pub use laws::trees_come_to_their_parts;
+pub use laws::{
+    a_column_comes_before_a_result, a_need_is_brought_once, as_much_is_handed_over_as_is_needed,
+    natural_joins_by_the_common_columns, the_case_of_a_name_does_not_count,
+    the_nearest_from_decides, trees_come_to_their_parts, using_joins_all_of_the_name,
+    what_is_bound_keeps_the_limits,
+};
