@@ -9,7 +9,7 @@ use Rattle.std.specs.Cmp.{Equal-is}
 use Rattle.std.proofs.lemmas.List.{append_assoc, map-append}
 use Rattle.std.specs.declared.cmp.Ordering.TheVariants.{Equal}
 use Rattle.eng_value.specs.declared.cause.Cause.{Cause}
-use Rattle.eng_value.specs.declared.cause.Cause.TheVariants.{NotYet, Mem, Interrupted, SinkFault, Real, Overflow, NotText, Escape, TooBig, Full, Unknown, Exists, Reserved, Arity, Misuse, Limit, Syntax, Skip}
+use Rattle.eng_value.specs.declared.cause.Cause.TheVariants.{NotYet, Mem, Interrupted, SinkFault, Real, Overflow, NotText, Escape, TooBig, Full, Unknown, Exists, Reserved, Arity, Misuse, Limit, Syntax, Skip, Ambiguous, BareColumn, Fault}
 use Rattle.eng_value.specs.declared.cause.LimitKind.{LimitKind}
 use Rattle.eng_value.specs.declared.cause.LimitKind.TheVariants as limit
 use Rattle.eng_value.specs.declared.cause.NameKind.{NameKind}
@@ -55,10 +55,11 @@ union-assoc s t u = same_causes _ _ (λ q. simp (set.contains-union nat_list_cmp
 
 -- the cause of a number, a detail and a name
 abbrev kind_of : ℕ → NameKind
-kind_of n = if nat_eq n 0 then kind.Table else if nat_eq n 1 then kind.Column else if nat_eq n 2 then kind.Function else if nat_eq n 3 then kind.Collation else kind.Pragma
+kind_of n = if nat_eq n 0 then kind.Table else if nat_eq n 1 then kind.Column else if nat_eq n 2 then kind.Function else if nat_eq n 3 then kind.Collation else if nat_eq n 4 then kind.Pragma else
+    if nat_eq n 5 then kind.Module else if nat_eq n 6 then kind.Index else if nat_eq n 7 then kind.View else if nat_eq n 8 then kind.Trigger else kind.Savepoint
 
 abbrev limit_of : ℕ → LimitKind
-limit_of n = if nat_eq n 0 then limit.Columns else if nat_eq n 1 then limit.Nestings else if nat_eq n 2 then limit.Operators else limit.Parts
+limit_of n = if nat_eq n 0 then limit.Columns else if nat_eq n 1 then limit.Nestings else if nat_eq n 2 then limit.Operators else if nat_eq n 3 then limit.Parts else if nat_eq n 4 then limit.Items else limit.Queries
 
 abbrev cause_by : ℕ → ℕ → List ℕ → Cause
 cause_by n detail name =
@@ -78,7 +79,10 @@ cause_by n detail name =
     if nat_eq n 14 then Unknown (kind_of detail) name else
     if nat_eq n 15 then Exists (kind_of detail) name else
     if nat_eq n 16 then Syntax detail else
-    if nat_eq n 17 then Skip else NotYet
+    if nat_eq n 17 then Skip else
+    if nat_eq n 18 then Ambiguous name else
+    if nat_eq n 19 then BareColumn name else
+    if nat_eq n 20 then Fault name else NotYet
 
 -- the cause of a key
 abbrev cause_of : List ℕ → Cause
@@ -91,12 +95,19 @@ kind_of-kind_key kind.Column = refl
 kind_of-kind_key kind.Function = refl
 kind_of-kind_key kind.Collation = refl
 kind_of-kind_key kind.Pragma = refl
+kind_of-kind_key kind.Module = refl
+kind_of-kind_key kind.Index = refl
+kind_of-kind_key kind.View = refl
+kind_of-kind_key kind.Trigger = refl
+kind_of-kind_key kind.Savepoint = refl
 
 limit_of-limit_key : (k : LimitKind) → limit_of (limit_key k) ≡ k
 limit_of-limit_key limit.Columns = refl
 limit_of-limit_key limit.Nestings = refl
 limit_of-limit_key limit.Operators = refl
 limit_of-limit_key limit.Parts = refl
+limit_of-limit_key limit.Items = refl
+limit_of-limit_key limit.Queries = refl
 
 cause_of-cause_key : (c : Cause) → cause_of (cause_key c) ≡ c
 cause_of-cause_key NotYet = refl
@@ -112,6 +123,9 @@ cause_of-cause_key TooBig = refl
 cause_of-cause_key (Limit k) = ap Limit (limit_of-limit_key k)
 cause_of-cause_key (Syntax at) = refl
 cause_of-cause_key Skip = refl
+cause_of-cause_key (Ambiguous name) = refl
+cause_of-cause_key (BareColumn name) = refl
+cause_of-cause_key (Fault host) = refl
 cause_of-cause_key (Reserved name) = refl
 cause_of-cause_key (Arity name) = refl
 cause_of-cause_key (Misuse name) = refl

@@ -2,7 +2,7 @@
 use Rattle.std.specs.Prelude.{ℕ, List, [], ◌++◌, codes}
 use Rattle.std.specs.Fmt.{decimal}
 use Rattle.eng_value.specs.declared.cause.Cause.{Cause}
-use Rattle.eng_value.specs.declared.cause.Cause.TheVariants.{NotYet, Mem, Interrupted, SinkFault, Real, Overflow, NotText, Escape, TooBig, Full, Unknown, Exists, Reserved, Arity, Misuse, Limit, Syntax, Skip}
+use Rattle.eng_value.specs.declared.cause.Cause.TheVariants.{NotYet, Mem, Interrupted, SinkFault, Real, Overflow, NotText, Escape, TooBig, Full, Unknown, Exists, Reserved, Arity, Misuse, Limit, Syntax, Skip, Ambiguous, BareColumn, Fault}
 use Rattle.eng_value.specs.declared.cause.LimitKind.{LimitKind}
 use Rattle.eng_value.specs.declared.cause.LimitKind.TheVariants as limit
 use Rattle.eng_value.specs.declared.cause.NameKind.{NameKind}
@@ -27,6 +27,9 @@ code_of (Misuse name) = 1
 code_of (Limit k) = 1
 code_of (Syntax at) = 1
 code_of Skip = 1
+code_of (Ambiguous name) = 1
+code_of (BareColumn name) = 1
+code_of (Fault host) = 10
 
 abbrev pub kind_word : NameKind → List ℕ
 kind_word kind.Table = codes "table"
@@ -34,12 +37,19 @@ kind_word kind.Column = codes "column"
 kind_word kind.Function = codes "function"
 kind_word kind.Collation = codes "collation"
 kind_word kind.Pragma = codes "pragma"
+kind_word kind.Module = codes "module"
+kind_word kind.Index = codes "index"
+kind_word kind.View = codes "view"
+kind_word kind.Trigger = codes "trigger"
+kind_word kind.Savepoint = codes "savepoint"
 
 abbrev pub limit_words : LimitKind → List ℕ
 limit_words limit.Columns = codes "100 columns"
 limit_words limit.Nestings = codes "100 nestings"
 limit_words limit.Operators = codes "1000 operators"
 limit_words limit.Parts = codes "500 parts"
+limit_words limit.Items = codes "16 items"
+limit_words limit.Queries = codes "20 queries"
 
 abbrev pub text_of : Cause → List ℕ
 text_of NotYet = codes "not built yet"
@@ -60,3 +70,6 @@ text_of (Misuse name) = codes "misuse of: " ++ name
 text_of (Limit k) = codes "limit of " ++ limit_words k
 text_of (Syntax at) = codes "syntax error at byte " ++ decimal at
 text_of Skip = []
+text_of (Ambiguous name) = codes "ambiguous column name: " ++ name
+text_of (BareColumn name) = codes "column outside aggregate: " ++ name
+text_of (Fault host) = codes "fault of " ++ host

@@ -4,7 +4,7 @@ use Rattle.std.specs.Ordering.{nat_cmp}
 use Rattle.std.specs.Cmp.Lexicographic.{pointwise, slice_cmp}
 use Rattle.std.specs.FinSet as set
 use Rattle.eng_value.specs.declared.cause.Cause.{Cause}
-use Rattle.eng_value.specs.declared.cause.Cause.TheVariants.{NotYet, Mem, Interrupted, SinkFault, Real, Overflow, NotText, Escape, TooBig, Full, Unknown, Exists, Reserved, Arity, Misuse, Limit, Syntax, Skip}
+use Rattle.eng_value.specs.declared.cause.Cause.TheVariants.{NotYet, Mem, Interrupted, SinkFault, Real, Overflow, NotText, Escape, TooBig, Full, Unknown, Exists, Reserved, Arity, Misuse, Limit, Syntax, Skip, Ambiguous, BareColumn, Fault}
 use Rattle.eng_value.specs.declared.cause.LimitKind.{LimitKind}
 use Rattle.eng_value.specs.declared.cause.LimitKind.TheVariants as limit
 use Rattle.eng_value.specs.declared.cause.NameKind.{NameKind}
@@ -16,12 +16,19 @@ kind_key kind.Column = 1
 kind_key kind.Function = 2
 kind_key kind.Collation = 3
 kind_key kind.Pragma = 4
+kind_key kind.Module = 5
+kind_key kind.Index = 6
+kind_key kind.View = 7
+kind_key kind.Trigger = 8
+kind_key kind.Savepoint = 9
 
 abbrev pub limit_key : LimitKind → ℕ
 limit_key limit.Columns = 0
 limit_key limit.Nestings = 1
 limit_key limit.Operators = 2
 limit_key limit.Parts = 3
+limit_key limit.Items = 4
+limit_key limit.Queries = 5
 
 -- which cause it is
 abbrev pub number_of : Cause → ℕ
@@ -43,6 +50,9 @@ number_of (Unknown k name) = 14
 number_of (Exists k name) = 15
 number_of (Syntax at) = 16
 number_of Skip = 17
+number_of (Ambiguous name) = 18
+number_of (BareColumn name) = 19
+number_of (Fault host) = 20
 
 -- the number that it tells, or the kind
 abbrev pub detail_of : Cause → ℕ
@@ -61,6 +71,9 @@ name_of (Arity name) = name
 name_of (Misuse name) = name
 name_of (Unknown k name) = name
 name_of (Exists k name) = name
+name_of (Ambiguous name) = name
+name_of (BareColumn name) = name
+name_of (Fault host) = host
 name_of other = []
 
 -- no two causes have the same key

@@ -16,6 +16,11 @@ pub enum NameKind {
     Function,
     Collation,
     Pragma,
+    Module,
+    Index,
+    View,
+    Trigger,
+    Savepoint,
 }
 
 impl NameKind {
@@ -29,6 +34,11 @@ impl NameKind {
             NameKind::Function => "function",
             NameKind::Collation => "collation",
             NameKind::Pragma => "pragma",
+            NameKind::Module => "module",
+            NameKind::Index => "index",
+            NameKind::View => "view",
+            NameKind::Trigger => "trigger",
+            NameKind::Savepoint => "savepoint",
         }
     }
 }
@@ -44,6 +54,10 @@ pub enum LimitKind {
     Operators,
     /// Parts of a compound query.
     Parts,
+    /// Items of a FROM.
+    Items,
+    /// Queries within one another, views opened.
+    Queries,
 }
 
 impl LimitKind {
@@ -56,6 +70,8 @@ impl LimitKind {
             LimitKind::Nestings => "100 nestings",
             LimitKind::Operators => "1000 operators",
             LimitKind::Parts => "500 parts",
+            LimitKind::Items => "16 items",
+            LimitKind::Queries => "20 queries",
         }
     }
 }
@@ -99,6 +115,12 @@ pub enum Cause {
     Syntax(usize),
     /// The row that is written is left as it is. It is named by none who may name another.
     Skip,
+    /// Two columns of the nearest FROM have the name.
+    Ambiguous(Text),
+    /// This column of a grouped query is neither grouped nor in an aggregate.
+    BareColumn(Text),
+    /// This host failed.
+    Fault(Text),
 }
 
 impl Cause {
@@ -110,6 +132,7 @@ impl Cause {
             Cause::Mem => 7,
             Cause::Interrupted(_) => 9,
             Cause::SinkFault => 10,
+            Cause::Fault(_) => 10,
             Cause::Full(_) => 13,
             Cause::TooBig => 18,
             _ => 1,
@@ -143,6 +166,13 @@ impl Cause {
                 Buffer::new().format(*at).as_bytes(),
             ),
             Cause::Skip => Ok(()),
+            Cause::Ambiguous(name) => {
+                append_both(out, b"ambiguous column name: ", name.as_bytes())
+            }
+            Cause::BareColumn(name) => {
+                append_both(out, b"column outside aggregate: ", name.as_bytes())
+            }
+            Cause::Fault(host) => append_both(out, b"fault of ", host.as_bytes()),
         }
     }
 }
@@ -209,6 +239,9 @@ impl Clone for Cause {
             Cause::Limit(kind) => Ok(Cause::Limit(*kind)),
             Cause::Syntax(at) => Ok(Cause::Syntax(*at)),
             Cause::Skip => Ok(Cause::Skip),
+            Cause::Ambiguous(name) => Ok(Cause::Ambiguous(name.clone()?)),
+            Cause::BareColumn(name) => Ok(Cause::BareColumn(name.clone()?)),
+            Cause::Fault(host) => Ok(Cause::Fault(host.clone()?)),
         }
     }
 }
@@ -235,6 +268,9 @@ impl Drop for Cause {
             Cause::Limit(_) => {}
             Cause::Syntax(_) => {}
             Cause::Skip => {}
+            Cause::Ambiguous(name) => drop(name),
+            Cause::BareColumn(name) => drop(name),
+            Cause::Fault(host) => drop(host),
         }
     }
 }

@@ -37,6 +37,9 @@ impl Cause {
             Cause::Exists(..) => 15,
             Cause::Syntax(_) => 16,
             Cause::Skip => 17,
+            Cause::Ambiguous(_) => 18,
+            Cause::BareColumn(_) => 19,
+            Cause::Fault(_) => 20,
         }
     }
 
@@ -65,6 +68,9 @@ impl Cause {
             Cause::Misuse(name) => name.as_bytes(),
             Cause::Unknown(_, name) => name.as_bytes(),
             Cause::Exists(_, name) => name.as_bytes(),
+            Cause::Ambiguous(name) => name.as_bytes(),
+            Cause::BareColumn(name) => name.as_bytes(),
+            Cause::Fault(host) => host.as_bytes(),
             _ => &[],
         }
     }
@@ -79,6 +85,11 @@ fn kind_key(kind: NameKind) -> u64
         NameKind::Function => 2,
         NameKind::Collation => 3,
         NameKind::Pragma => 4,
+        NameKind::Module => 5,
+        NameKind::Index => 6,
+        NameKind::View => 7,
+        NameKind::Trigger => 8,
+        NameKind::Savepoint => 9,
     }
 }
 
@@ -90,5 +101,7 @@ fn limit_key(kind: LimitKind) -> u64
         LimitKind::Nestings => 1,
         LimitKind::Operators => 2,
         LimitKind::Parts => 3,
+        LimitKind::Items => 4,
+        LimitKind::Queries => 5,
     }
 }

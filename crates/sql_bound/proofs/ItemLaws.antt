@@ -7,11 +7,15 @@ use Rattle.sql_tree.specs.declared.token.Token.{Token}
 use Rattle.sql_bound.proofs.JoinLaws.{IsShown, ShowsAll, all_alike}
 use Rattle.sql_bound.proofs.NameLaws.{head_of}
 use Rattle.sql_bound.specs.Carriers.{ItemParts, Unconstrained, Using}
-use Rattle.sql_bound.specs.Froms.{Found, Inside, Joining, Sourced, columns_from, common_names, constrained, joined_to, scope_item, with_item, with_units}
-use Rattle.sql_bound.specs.Scopes.{Level, Work}
-use Rattle.sql_bound.specs.Units.{BoundColumn}
+use Rattle.sql_bound.specs.Froms.{Inside, columns_from, common_names, constrained, joined_to, scope_item, with_item, with_units}
+use Rattle.sql_bound.specs.Scopes.{Level}
 use Rattle.sql_meaning.specs.Binding.{◌>>=◌}
 use Rattle.sql_meaning.specs.Spelled.{name_at}
+use Rattle.bound_tree.specs.declared.units.BoundColumn.{BoundColumn}
+use Rattle.sql_bound.specs.declared.froms.Found.{Found}
+use Rattle.sql_bound.specs.declared.froms.Joining.{Joining}
+use Rattle.sql_bound.specs.declared.froms.Sourced.{Sourced}
+use Rattle.sql_bound.specs.declared.scopes.Work.{Work}
 
 pub as_using : (i : Inside) (left : Level) (names : List Token) (j : Joining) (w : Work) → map (name_at i.outer.text) names ≡ common_names left j.right → All ShowsAll left → ShowsAll j.right → constrained i left true Unconstrained j w ≡ constrained i left false (Using names) j w
 as_using i left names j w h all right = rw h (ap (λ a. with_units a w) (all_alike left MAX_COLUMNS (common_names left j.right) j all right))

@@ -5,14 +5,24 @@ use Rattle.std.proofs.Math.ListN.{length-append}
 use Rattle.eng_value.specs.declared.limits.TheConstants.{MAX_COLUMNS}
 use Rattle.sql_bound.specs.Carriers.{Expression, ItemParts, ResultParts}
 use Rattle.sql_bound.specs.Compounds.{row_bound}
-use Rattle.sql_bound.specs.Froms.{Found, Inside, Joining, QueueTable, are_made, kind_of_join, plain_item, called_by, constrained, has_room, item_found, items_found, joined_to, of_source, scope_item, using_all, using_one, with_item}
+use Rattle.sql_bound.specs.Froms.{Inside, are_made, kind_of_join, plain_item, called_by, constrained, has_room, item_found, items_found, joined_to, of_source, scope_item, using_all, using_one, with_item}
 use Rattle.sql_bound.specs.Groups.{grouped_checked}
-use Rattle.sql_bound.specs.Kinds as kind
+use Rattle.eng_value.specs.declared.cause.NameKind.TheVariants as kind
+use Rattle.eng_value.specs.declared.cause.LimitKind.TheVariants as limit
 use Rattle.sql_bound.specs.Limits.{most_items, room_behind, walked}
-use Rattle.sql_bound.specs.Refusals.{Checked, Limit, Refusal}
-use Rattle.sql_bound.specs.Results.{ResultScope, Shown, ShownResult, column_result, columns_result, results_bound, shown_by, with_result}
-use Rattle.sql_bound.specs.Scopes.{Answer, Level, Operand, Scope, ScopeColumn, Work}
+use Rattle.sql_bound.specs.Refusals.{Checked}
+use Rattle.sql_bound.specs.Results.{ResultScope, ShownResult, column_result, columns_result, results_bound, shown_by, with_result}
+use Rattle.sql_bound.specs.Scopes.{Answer, Level, Scope}
 use Rattle.sql_meaning.specs.Binding.{◌>>=◌}
+use Rattle.eng_value.specs.declared.cause.Cause.{Cause}
+use Rattle.eng_value.specs.declared.cause.Cause.TheVariants.{Limit}
+use Rattle.sql_bound.specs.declared.froms.Found.{Found}
+use Rattle.sql_bound.specs.declared.froms.Joining.{Joining}
+use Rattle.sql_bound.specs.declared.froms.QueueTable.{QueueTable}
+use Rattle.sql_bound.specs.declared.queries.Shown.{Shown}
+use Rattle.sql_bound.specs.declared.scopes.Operand.{Operand}
+use Rattle.sql_bound.specs.declared.scopes.ScopeColumn.{ScopeColumn}
+use Rattle.sql_bound.specs.declared.scopes.Work.{Work}
 
 -- what is bound is bound part by part
 bound_by : {A B : Type 0} (a : Checked A) (f : A → Checked B) (b : B) → (a >>= f) ≡ Ok b → (x : A) × (a ≡ Ok x) × (f x ≡ Ok b)
@@ -23,7 +33,7 @@ one_answer : {A : Type 0} (x : Checked A) (a b : A) → x ≡ Ok a → x ≡ Ok 
 one_answer x a b h k = cc
 
 -- where the test of a limit is passed there is room
-room_of : (n m : ℕ) (why : Refusal) (u : Unit {0}) → cond (nat_lt n m) (Ok tt) (Err why) ≡ Ok u → n < m
+room_of : (n m : ℕ) (why : Cause) (u : Unit {0}) → cond (nat_lt n m) (Ok tt) (Err why) ≡ Ok u → n < m
 room_of n m why u = go (nat_lt n m) (Decides-ltb n m).0 where
   go : (t : Bool) → (t ≡ true → n < m) → cond t (Ok tt) (Err why) ≡ Ok u → n < m
   go true h e = h refl
@@ -38,7 +48,7 @@ pub row_kept : (s : Scope) (values : List Expression) (so_far row : List Operand
 row_kept s [] so_far row l e = let same : so_far ≡ row = cc in let h : length so_far.0 ≡ length row.0 = ap (λ (r : List Operand × Work). length r.0) same in (omega arith, omega arith)
 row_kept s (x ∷ values) so_far row l e =
     let p = bound_by (room_behind so_far.0) (λ u. x.bound s so_far.1 >>= λ a. row_bound s values (so_far.0 ++ a.0 ∷ [], a.1)) row e in
-    let room = room_of (length so_far.0) MAX_COLUMNS (Limit kind.Columns) p.0 p.1 in
+    let room = room_of (length so_far.0) MAX_COLUMNS (Limit limit.Columns) p.0 p.1 in
     let q = bound_by (x.bound s so_far.1) (λ a. row_bound s values (so_far.0 ++ a.0 ∷ [], a.1)) row p.2 in
     let n = longer so_far.0 q.0.0 in
     let rest = row_kept s values (so_far.0 ++ q.0.0 ∷ [], q.0.1) row (omega arith) q.2 in (omega arith, rest.1)
@@ -56,7 +66,7 @@ columns_kept : (s : ResultScope) (rs : List ShownResult) (so_far shown : Shown �
 columns_kept s [] so_far shown l e = let same : so_far ≡ shown = cc in let h = ap (λ (n : Shown × Work). length n.0.trees) same in omega arith
 columns_kept s (r ∷ rs) so_far shown l e =
     let p = bound_by (room_behind so_far.0.trees) (λ u. column_result s r so_far >>= λ next. columns_result s rs next) shown e in
-    let room = room_of (length so_far.0.trees) MAX_COLUMNS (Limit kind.Columns) p.0 p.1 in
+    let room = room_of (length so_far.0.trees) MAX_COLUMNS (Limit limit.Columns) p.0 p.1 in
     let q = bound_by (column_result s r so_far) (λ next. columns_result s rs next) shown p.2 in
     let n = shown_one_more s r so_far q.0 q.1 in
     columns_kept s rs q.0 shown (omega arith) q.2
@@ -79,7 +89,7 @@ items_after a b n h e = let same : a ≡ b = cc in sym (ap (λ (x : Found × Wor
 found_one_more : (i : Inside) (queue : Option QueueTable) (item : ItemParts) (f : Found) (w : Work) (g : Found × Work) → item_found i queue item f w ≡ Ok g → (length f.items < 16) × (length g.0.items ≡ suc (length f.items))
 found_one_more i queue item f w g e =
     let p = bound_by (has_room f) (λ u. of_source i queue item.source f w >>= λ s. joined_to i item (called_by i.outer.text item.alias s.0.name) s.0 f s.1) g e in
-    let room = room_of (length f.items) most_items (Limit kind.Items) p.0 p.1 in
+    let room = room_of (length f.items) most_items (Limit limit.Items) p.0 p.1 in
     let q = bound_by (of_source i queue item.source f w) (λ s. joined_to i item (called_by i.outer.text item.alias s.0.name) s.0 f s.1) g p.2 in
     let name = called_by i.outer.text item.alias q.0.0.name in
     let r = bound_by (constrained i f.level item.join.natural item.constraint (record { right = scope_item (length f.items) name q.0.0; ons = [] }) q.0.1) (λ j. Ok (with_item item name q.0.0 f j.0, j.1)) g q.2 in

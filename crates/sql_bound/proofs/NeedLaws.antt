@@ -8,9 +8,11 @@ use Rattle.std.proofs.Math.ListN.{length-append}
 use Rattle.sql_bound.proofs.SameLaws.{both, expr_itself}
 use Rattle.std.proofs.Math.Seq.{get_or-append_seam}
 use Rattle.std.proofs.lemmas.List.Quantifiers.{position-Some}
-use Rattle.sql_bound.specs.Exprs.{BoundExpr}
-use Rattle.sql_bound.specs.Exprs as e
-use Rattle.sql_bound.specs.Scopes.{Need, Work, argument_at, is_need, needed}
+use Rattle.bound_tree.specs.Exprs.{BoundExpr}
+use Rattle.bound_tree.specs.Exprs as e
+use Rattle.sql_bound.specs.Scopes.{argument_at, is_need, needed}
+use Rattle.sql_bound.specs.declared.scopes.Need.{Need}
+use Rattle.sql_bound.specs.declared.scopes.Work.{Work}
 
 found_behind : {A : Type 0} (passes : A → Bool) (xs : List A) (x : A) → passes x ≡ true → position passes xs ≡ None → position passes (xs ++ x ∷ []) ≡ Some (length xs)
 found_behind passes xs x h none =

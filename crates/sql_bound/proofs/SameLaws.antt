@@ -29,9 +29,9 @@ use Rattle.eng_value.specs.declared.value.Value.{Value}
 use Rattle.eng_value.specs.declared.value.Value.TheVariants.{Null, Integer, Text, Blob}
 use Rattle.sql_meaning.specs.declared.bound.Literal.{Literal}
 use Rattle.sql_meaning.specs.declared.bound.Literal.TheVariants as literal
-use Rattle.sql_bound.specs.Exprs.{AMatch, AnArm, AnExpr, BoundArms, BoundExpr, BoundExprs, BoundMatches, NoArms, NoExprs, NoMatches}
-use Rattle.sql_bound.specs.Exprs as e
-use Rattle.sql_bound.specs.Same.{same_affinity, same_arms, same_binary, same_builtin, same_collation, same_expr, same_list, same_literal, same_matches, same_sides, same_truth, same_unary}
+use Rattle.bound_tree.specs.Exprs.{AMatch, AnArm, AnExpr, BoundArms, BoundExpr, BoundExprs, BoundMatches, NoArms, NoExprs, NoMatches}
+use Rattle.bound_tree.specs.Exprs as e
+use Rattle.bound_tree.specs.Same.{same_affinity, same_arms, same_binary, same_builtin, same_collation, same_expr, same_list, same_literal, same_matches, same_sides, same_truth, same_unary}
 
 -- ---- tests that pass together
 

@@ -6,9 +6,13 @@ use Rattle.eng_value.specs.declared.builtin.Builtin.{Builtin}
 use Rattle.sql_tree.specs.declared.expr.Arguments.{Arguments}
 use Rattle.sql_tree.specs.declared.expr.Arguments.TheVariants as arguments
 use Rattle.sql_meaning.specs.Binding.{NamedBuiltin, builtin_named, takes}
-use Rattle.sql_bound.specs.Refusals.{Arity, Checked, Misuse}
-use Rattle.sql_bound.specs.Scopes.{Facts, Standing, Taken, Nowhere}
-use Rattle.sql_bound.specs.Units.{AggregateKind, CountRows, Count, Sum, Min, Max, GroupConcat, HostAggregate}
+use Rattle.sql_bound.specs.Refusals.{Checked}
+use Rattle.sql_bound.specs.Scopes.{Facts}
+use Rattle.bound_tree.specs.declared.units.AggregateKind.{AggregateKind}
+use Rattle.bound_tree.specs.declared.units.AggregateKind.TheVariants.{Count, CountRows, GroupConcat, HostAggregate, Max, Min, Sum}
+use Rattle.eng_value.specs.declared.cause.Cause.TheVariants.{Arity, Misuse}
+use Rattle.sql_bound.specs.declared.scopes.Standing.{Standing}
+use Rattle.sql_bound.specs.declared.scopes.Standing.TheVariants.{Nowhere, Taken}
 
 -- ---- aggregates that are built in
 

@@ -1,5 +1,7 @@
 -- What each part of a tree comes to: what it is bound to depends on where it stands, so that most of these hold functions.
 use Rattle.std.specs.Prelude.{ℕ, Bool, List, Option}
+use Rattle.bound_tree.specs.Exprs.{BoundExpr}
+use Rattle.bound_tree.specs.Exprs.{BoundExpr}
 use Rattle.sql_tree.specs.declared.expr.Expr.TheOpen.{Arm-F, CommonTable-F, CompoundPart-F, Expr-F, FromItem-F, JoinConstraint-F, OrderingTerm-F, Query-F, QueryPart-F, ResultColumn-F, RowLimit-F, SelectCore-F, Source-F, SpannedExpr-F}
 use Rattle.sql_tree.specs.declared.query.CompoundOp.{CompoundOp}
 use Rattle.sql_tree.specs.declared.query.Join.{Join}
@@ -9,8 +11,11 @@ use Rattle.sql_tree.specs.declared.statement.TriggerEvent.{TriggerEvent}
 use Rattle.sql_tree.specs.declared.statement.TriggerTime.{TriggerTime}
 use Rattle.sql_tree.specs.declared.token.Span.{Span}
 use Rattle.sql_tree.specs.declared.token.Token.{Token}
-use Rattle.sql_bound.specs.Scopes.{Answer, Asked, Operand, Outer, Scope, UnitsAnswer, Work}
-use Rattle.sql_bound.specs.Units.{BoundUnit}
+use Rattle.sql_bound.specs.Scopes.{Answer, Outer, Scope, UnitsAnswer}
+use Rattle.bound_tree.specs.declared.units.BoundUnit.{BoundUnit}
+use Rattle.sql_bound.specs.declared.scopes.Asked.{Asked}
+use Rattle.sql_bound.specs.declared.scopes.Operand.{Operand}
+use Rattle.sql_bound.specs.declared.scopes.Work.{Work}
 
 abbrev pub Binding : Type 0
 Binding = Scope → Work → Answer Operand
@@ -24,9 +29,10 @@ pub data Term : Type 0 where
   Name : Token → Term
   Other : Term
 
--- an expression: what it is bound to, whether an aggregate stands in it outside its queries, and what it is as a term
+-- an expression: what it is bound to, what the tree to which it is bound is split into where it is a condition, whether an aggregate stands in it outside its queries, and what it is as a term
 pub record Expression : Type 0 where
   pub bound : Binding
+  pub conjuncts : BoundExpr → List BoundExpr
   pub aggregates : Outer → Bool
   pub term : Term
 

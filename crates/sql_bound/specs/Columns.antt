@@ -3,10 +3,16 @@ use Rattle.std.specs.Prelude.{ℕ, suc, List, [], ◌∷◌, Option, Some, None,
 use Rattle.std.specs.List.{find, flat_map}
 use Rattle.eng_entry.specs.Names.{is_same_name}
 use Rattle.sql_meaning.specs.Binding.{◌>>=◌, dotted}
-use Rattle.sql_bound.specs.Kinds as kind
-use Rattle.sql_bound.specs.Operands.{as_one, column_operand}
-use Rattle.sql_bound.specs.Refusals.{Checked, Misuse, Unknown}
-use Rattle.sql_bound.specs.Scopes.{Alias, Answer, Level, Operand, Scope, ScopeColumn, Sight, Standing, Work, bare_in, brought, called_in, columns_named, nearest}
+use Rattle.eng_value.specs.declared.cause.NameKind.TheVariants as kind
+use Rattle.sql_bound.specs.Operands.{column_operand}
+use Rattle.sql_bound.specs.Refusals.{Checked}
+use Rattle.sql_bound.specs.Scopes.{Alias, Answer, Level, Scope, bare_in, brought, called_in, columns_named, nearest}
+use Rattle.eng_value.specs.declared.cause.Cause.TheVariants.{Misuse, Unknown}
+use Rattle.sql_bound.specs.declared.scopes.Operand.{Operand}
+use Rattle.sql_bound.specs.declared.scopes.ScopeColumn.{ScopeColumn}
+use Rattle.sql_bound.specs.declared.scopes.Sight.{Sight}
+use Rattle.sql_bound.specs.declared.scopes.Standing.{Standing}
+use Rattle.sql_bound.specs.declared.scopes.Work.{Work}
 
 abbrev pub seen : Sight → Work → Operand × Work
 seen s w = let b = brought s.up s.column.tree w in (column_operand s.column b.0, b.1)
@@ -27,7 +33,7 @@ of_outer name outer w = nearest name (bare_in name) outer >>= λ s. seen_or_unkn
 
 abbrev pub of_alias : Standing → Option Alias → List ℕ → List Level → Work → Answer Operand
 of_alias standing None name outer w = of_outer name outer w
-of_alias standing (Some a) name outer w = a.shown standing w >>= λ x. Ok (as_one x.0, x.1)
+of_alias standing (Some a) name outer w = a.shown standing w
 
 abbrev pub alias_named : List ℕ → List Alias → Option Alias
 alias_named name aliases = find (λ (a : Alias). is_same_name a.name name) aliases

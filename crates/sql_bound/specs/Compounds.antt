@@ -2,23 +2,27 @@
 use Rattle.std.specs.Prelude.{ℕ, suc, nat_eq, false, List, [], ◌∷◌, ◌++◌, map, length, Ok, Err, unwrap_or, if◌then◌else◌, codes}
 use Rattle.std.specs.Fmt.{decimal}
 use Rattle.eng_value.specs.declared.collation.Collation.{Collation}
-use Rattle.sql_bound.specs.Exprs.{BoundExpr}
+use Rattle.bound_tree.specs.Exprs.{BoundExpr}
 use Rattle.sql_meaning.specs.Binding.{◌>>=◌, by_bytes, or_else}
 use Rattle.sql_bound.specs.Carriers.{CompoundParts, CoreParts, Expression, PartParts, Select, TermParts, Values}
-use Rattle.sql_bound.specs.Cores.{BoundSelect, core_of, select_bound, without_aggregates}
+use Rattle.sql_bound.specs.Cores.{core_of, select_bound, without_aggregates}
 use Rattle.sql_bound.specs.Froms.{Inside}
 use Rattle.sql_bound.specs.Limits.{room_behind}
 use Rattle.sql_bound.specs.Orders.{orders_by_aggregate, terms_of_compound, terms_of_select}
-use Rattle.sql_bound.specs.Refusals.{Arity, Checked}
+use Rattle.sql_bound.specs.Refusals.{Checked}
 use Rattle.sql_bound.specs.Results.{result_column, shown_in}
-use Rattle.sql_bound.specs.Scopes.{Answer, Operand, ResultColumn, Scope, Work, scope_over}
-use Rattle.sql_bound.specs.Units.{BoundCompound, BoundPart, BoundTerm}
-use Rattle.sql_bound.specs.Units as unit
-
--- a part, and the columns that it gives
-pub record Given : Type 0 where
-  pub part : BoundPart
-  pub columns : List ResultColumn
+use Rattle.sql_bound.specs.Scopes.{Answer, Scope, scope_over}
+use Rattle.bound_tree.specs.declared.units.BoundCompound.{BoundCompound}
+use Rattle.bound_tree.specs.declared.units.BoundPart.{BoundPart}
+use Rattle.bound_tree.specs.declared.units.BoundPart.TheVariants as bound_part
+use Rattle.bound_tree.specs.declared.units.BoundTerm.{BoundTerm}
+use Rattle.eng_value.specs.declared.cause.Cause.TheVariants.{Arity}
+use Rattle.sql_bound.specs.declared.queries.BoundSelect.{BoundSelect}
+use Rattle.sql_bound.specs.declared.scopes.Operand.{Operand}
+use Rattle.sql_bound.specs.declared.scopes.ResultColumn.{ResultColumn}
+use Rattle.sql_bound.specs.declared.scopes.Work.{Work}
+use Rattle.sql_bound.specs.declared.queries.Given.{Given}
+use Rattle.sql_bound.specs.declared.queries.Gathered.{Gathered}
 
 -- ---- VALUES: rows of one width, whose columns are called column1, column2, .. and are to others what those of the first row are
 
@@ -42,8 +46,8 @@ abbrev pub trees_in : List Operand → List BoundExpr
 trees_in row = map (λ (a : Operand). a.tree) row
 
 abbrev pub values_given : List (List Operand) → Given
-values_given [] = record { part = unit.Values []; columns = [] }
-values_given (row ∷ rows) = record { part = unit.Values (map trees_in (row ∷ rows)); columns = values_columns 1 row }
+values_given [] = record { part = bound_part.Values []; columns = [] }
+values_given (row ∷ rows) = record { part = bound_part.Values (map trees_in (row ∷ rows)); columns = values_columns 1 row }
 
 abbrev pub values_bound : Scope → List (List Expression) → Work → Answer (List (List Operand))
 values_bound s [] w = Ok ([], w)
@@ -52,7 +56,7 @@ values_bound s (row ∷ rows) w = row_bound s row ([], w) >>= λ r. rows_behind 
 -- ---- a part
 
 abbrev pub select_given : BoundSelect → Work → Given × Work
-select_given s w = (record { part = unit.Select (core_of s w); columns = s.shown.columns }, without_aggregates w)
+select_given s w = (record { part = bound_part.Select (core_of s w); columns = s.shown.columns }, without_aggregates w)
 
 abbrev pub part_bound : Inside → PartParts → Work → Answer Given
 part_bound i (Select core) w = select_bound i core false w >>= λ s. Ok (select_given s.0 s.1)
@@ -82,12 +86,6 @@ others_bound i columns (c ∷ cs) w =
     others_bound i columns cs g.1 >>= λ more. Ok (compound_with c columns g.0 ∷ more.0, more.1)
 
 -- ---- all parts, and their order
-
-pub record Gathered : Type 0 where
-  pub first : BoundPart
-  pub others : List BoundCompound
-  pub order : List BoundTerm
-  pub columns : List ResultColumn
 
 abbrev pub gathered_alone : Given → List BoundTerm → Gathered
 gathered_alone g order = record { first = g.part; others = []; order = order; columns = g.columns }

@@ -1,19 +1,30 @@
 -- A SELECT: FROM, WHERE, GROUP BY, HAVING and the results, in this order (SELECT, section 2).
 use Rattle.std.specs.Prelude.{ℕ, Bool, true, false, not, ◌||◌, List, map, [], ◌∷◌, Option, Some, None, Ok, Err, is_some, unwrap_or, if◌then◌else◌}
 use Rattle.std.specs.List.{list_any}
-use Rattle.sql_bound.specs.Exprs.{BoundExpr}
+use Rattle.bound_tree.specs.Exprs.{BoundExpr}
 use Rattle.sql_meaning.specs.Binding.{◌>>=◌, by_bytes}
 use Rattle.sql_meaning.specs.Spelled.{literal_at}
 use Rattle.sql_bound.specs.Carriers.{CoreParts, Expression, Number, One, ResultParts, SpannedExpression, Term}
-use Rattle.sql_bound.specs.Declared.{is_empty}
-use Rattle.sql_bound.specs.Froms.{Found, Inside, QueueTable, items_found, nothing_found}
+use Rattle.sql_bound.specs.Declarations.{is_empty}
+use Rattle.sql_bound.specs.Froms.{Inside, items_found, nothing_found}
 use Rattle.sql_bound.specs.Groups.{grouped_checked}
-use Rattle.sql_bound.specs.Kinds as kind
+use Rattle.eng_value.specs.declared.cause.NameKind.TheVariants as kind
 use Rattle.sql_bound.specs.Operands.{collation_of, collation_of_result}
-use Rattle.sql_bound.specs.Refusals.{Unknown}
-use Rattle.sql_bound.specs.Results.{Shown, ShownResult, aliases_of, at_place, nothing_shown, place_named, results_bound, shown_in, text_of}
-use Rattle.sql_bound.specs.Scopes.{Answer, Level, Nowhere, Operand, Outer, Scope, Standing, Taken, Work, scope_over}
-use Rattle.sql_bound.specs.Units.{BoundAggregate, BoundCore, BoundGroups, BoundKey}
+use Rattle.sql_bound.specs.Results.{ShownResult, aliases_of, at_place, nothing_shown, place_named, results_bound, shown_in, text_of}
+use Rattle.sql_bound.specs.Scopes.{Answer, Level, Outer, Scope, scope_over}
+use Rattle.bound_tree.specs.declared.units.BoundAggregate.{BoundAggregate}
+use Rattle.bound_tree.specs.declared.units.BoundCore.{BoundCore}
+use Rattle.bound_tree.specs.declared.units.BoundGroups.{BoundGroups}
+use Rattle.bound_tree.specs.declared.units.BoundKey.{BoundKey}
+use Rattle.eng_value.specs.declared.cause.Cause.TheVariants.{Unknown}
+use Rattle.sql_bound.specs.declared.froms.Found.{Found}
+use Rattle.sql_bound.specs.declared.froms.QueueTable.{QueueTable}
+use Rattle.sql_bound.specs.declared.queries.Shown.{Shown}
+use Rattle.sql_bound.specs.declared.scopes.Operand.{Operand}
+use Rattle.sql_bound.specs.declared.scopes.Standing.{Standing}
+use Rattle.sql_bound.specs.declared.scopes.Standing.TheVariants.{Nowhere, Taken}
+use Rattle.sql_bound.specs.declared.scopes.Work.{Work}
+use Rattle.sql_bound.specs.declared.queries.BoundSelect.{BoundSelect}
 
 -- ---- scopes: WHERE, GROUP BY and HAVING see the names of results, the results and ORDER BY do not
 
@@ -38,12 +49,12 @@ is_grouped o core ordered_by_aggregate =
 
 abbrev pub conjuncts_bound : Scope → Option Expression → Work → Answer (List BoundExpr)
 conjuncts_bound s None w = Ok ([], w)
-conjuncts_bound s (Some x) w = x.bound s w >>= λ a. Ok (a.0.conjuncts, a.1)
+conjuncts_bound s (Some x) w = x.bound s w >>= λ a. Ok (x.conjuncts a.0.tree, a.1)
 
 -- no column in it is bare; a group expression may be all of it, so that it is looked at before it is split
 abbrev pub having_bound : Scope → List BoundKey → Level → Option Expression → Work → Answer (List BoundExpr)
 having_bound s keys own None w = Ok ([], w)
-having_bound s keys own (Some x) w = x.bound s w >>= λ a. grouped_checked true keys own a.0.tree >>= λ u. Ok (a.0.conjuncts, a.1)
+having_bound s keys own (Some x) w = x.bound s w >>= λ a. grouped_checked true keys own a.0.tree >>= λ u. Ok (x.conjuncts a.0.tree, a.1)
 
 -- ---- GROUP BY: a whole number names a result, a name a column before a result
 
@@ -68,16 +79,6 @@ keys_bound s shown [] w = Ok ([], w)
 keys_bound s shown (x ∷ xs) w = by_term s shown x x.expr.term w >>= λ a. keys_bound s shown xs a.1 >>= λ more. Ok (key_of a.0 ∷ more.0, more.1)
 
 -- ---- the whole
-
--- a SELECT whose names are bound, before its aggregates are told, to which ORDER BY may add
-pub record BoundSelect : Type 0 where
-  pub found : Found
-  pub conjuncts : List BoundExpr
-  pub grouped : Bool
-  pub keys : List BoundKey
-  pub having : List BoundExpr
-  pub shown : Shown
-  pub distinct : Bool
 
 abbrev pub select_with : CoreParts → Found → List BoundExpr → Bool → List BoundKey → List BoundExpr → Shown → BoundSelect
 select_with core f conjuncts grouped keys having shown =

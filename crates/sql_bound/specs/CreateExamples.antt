@@ -13,25 +13,31 @@ use Rattle.sql_meaning.specs.Spelled.{the_text_test}
 use Rattle.sql_meaning.specs.Statement.{answer_of}
 use Rattle.sql_bound.specs.Carriers.{Expression}
 use Rattle.sql_bound.specs.Creates.{level_of}
-use Rattle.sql_bound.specs.Declared.{definition_in, table_in}
-use Rattle.sql_bound.specs.Kinds as kind
-use Rattle.sql_bound.specs.Refusals.{Checked, Exists, Misuse, Real, Refusal, Reserved, Unknown, Untold}
+use Rattle.sql_bound.specs.Declarations.{definition_in, table_in}
+use Rattle.eng_value.specs.declared.cause.NameKind.TheVariants as kind
+use Rattle.sql_bound.specs.Refusals.{Checked}
+use Rattle.eng_value.specs.declared.cause.Cause.TheVariants.{NotYet}
 use Rattle.sql_bound.specs.Samples.{around_of, col, dot, no_facts, why}
 use Rattle.sql_bound.specs.Scopes.{Around, Level, begun}
 use Rattle.sql_bound.specs.Statements.{bound_of}
 use Rattle.sql_bound.specs.Targets.{constraint_bound, in_check}
-use Rattle.sql_bound.specs.Units.{ATable, AView, AnIndex, BoundCommand, BoundStatement, Nothing, Removed}
+use Rattle.bound_tree.specs.declared.statements.BoundCommand.{BoundCommand}
+use Rattle.bound_tree.specs.declared.statements.BoundCommand.TheVariants.{Nothing, Removed}
+use Rattle.bound_tree.specs.declared.statements.BoundStatement.{BoundStatement}
+use Rattle.bound_tree.specs.declared.statements.ThingKind.TheVariants.{ATable, AView, AnIndex}
+use Rattle.eng_value.specs.declared.cause.Cause.{Cause}
+use Rattle.eng_value.specs.declared.cause.Cause.TheVariants.{Exists, Misuse, Real, Reserved, Unknown}
 
 abbrev things : Around
 things = around_of (codes "CREATE TABLE t(a, B)" ∷ codes "CREATE VIEW v AS SELECT 1" ∷ codes "CREATE INDEX i ON t(a)" ∷ []) (codes "CREATE TRIGGER g AFTER DELETE ON t BEGIN SELECT 1; END" ∷ [])
 
 -- what is no statement is refused for nothing that is asked here
-abbrev refusal_read : Around → List ℕ → Answer Statement → Option Refusal
+abbrev refusal_read : Around → List ℕ → Answer Statement → Option Cause
 refusal_read around text (Tree s) = why (bound_of around text s)
-refusal_read around text (Syntax rest) = Some Untold
-refusal_read around text (TooMuch l rest) = Some Untold
+refusal_read around text (Syntax rest) = Some NotYet
+refusal_read around text (TooMuch l rest) = Some NotYet
 
-abbrev refused : List ℕ → Option Refusal
+abbrev refused : List ℕ → Option Cause
 refused text = refusal_read things text (answer_of text)
 
 -- ---- the name comes first; tables, views and indexes share one space, triggers have another
@@ -55,7 +61,7 @@ level_read text (Tree s) = level_in (table_in (definition_in s.command))
     level_in None = []
 level_read text other = []
 
-abbrev checked : List ℕ → (List Token → Expression) → Option Refusal
+abbrev checked : List ℕ → (List Token → Expression) → Option Cause
 checked text x = why (constraint_bound things text (level_read text (answer_of text)) in_check (x (tokens_of text)) (begun []))
 
 before_a_double : (checked (codes "CREATE TABLE x(a, b, B)") (λ t. col t 6) ≡ None) × (checked (codes "CREATE TABLE x(a, b, B)") (λ t. dot t 2 8) ≡ None)
@@ -76,7 +82,7 @@ triggers = (refl, refl, refl, refl, refl)
 abbrev with_module : Around
 with_module = record (around_of (codes "CREATE TABLE t(a)" ∷ codes "CREATE INDEX series ON t(a)" ∷ []) []) { facts = record no_facts { host_module = λ name. if is_same_name name (codes "series") then Some (true, false) else None } }
 
-abbrev refused_beside : List ℕ → Option Refusal
+abbrev refused_beside : List ℕ → Option Cause
 refused_beside text = refusal_read with_module text (answer_of text)
 
 on_modules : (refused_beside (codes "CREATE INDEX x ON series(a)") ≡ Some (Misuse (codes "series"))) × (refused_beside (codes "CREATE TRIGGER x AFTER DELETE ON series BEGIN SELECT 1; END") ≡ Some (Misuse (codes "series")))

@@ -33,26 +33,37 @@ use Rattle.sql_meaning.specs.Binding.{◌>>=◌}
 use Rattle.sql_meaning.specs.Declarations.{type_affinity}
 use Rattle.sql_meaning.specs.Names.{is_named_in, is_reserved_name}
 use Rattle.sql_meaning.specs.Spelled.{name_at}
-use Rattle.sql_bound.specs.Declared.{DeclaredTable, bound_columns, declared_table, definition_of, index_parts, place_of_column, table_in, table_named}
+use Rattle.sql_bound.specs.Declarations.{DeclaredTable, bound_columns, declared_table, definition_of, index_parts, place_of_column, table_in, table_named}
 use Rattle.sql_bound.specs.Expressions.{collation_called}
-use Rattle.sql_bound.specs.Froms.{Sourced, nothing_found, of_catalog, plain_source, scope_item}
-use Rattle.sql_bound.specs.Kinds as kind
-use Rattle.sql_bound.specs.Kinds.{Named}
+use Rattle.sql_bound.specs.Froms.{nothing_found, of_catalog, plain_source, scope_item}
+use Rattle.eng_value.specs.declared.cause.NameKind.TheVariants as kind
 use Rattle.sql_bound.specs.Lasting.{collations_kept}
 use Rattle.sql_bound.specs.Limits.{by_column, room_behind, within_columns}
 use Rattle.sql_bound.specs.Parameters.{query_has_parameter, trigger_has_parameter}
-use Rattle.sql_bound.specs.Refusals.{Checked, Exists, Misuse, Real, Reserved, Unknown}
+use Rattle.sql_bound.specs.Refusals.{Checked}
 use Rattle.sql_bound.specs.Results.{text_of}
-use Rattle.sql_bound.specs.Scopes.{Allowed, Around, Facts, Level, Outer, ScopeColumn, ScopeItem, begun}
+use Rattle.sql_bound.specs.Scopes.{Around, Facts, Level, Outer, begun}
 use Rattle.sql_bound.specs.Targets.{constraint_bound, found_place, in_check, in_default, inside_write, place_written}
 use Rattle.sql_bound.specs.Trees.{of_expr}
-use Rattle.sql_bound.specs.Units.{AModuleTable, ATable, ATrigger, AView, AnIndex, BoundColumn, BoundCommand, BoundCreation, Created, IndexPart, Nothing, ThingKind}
-use Rattle.sql_bound.specs.Units as unit
+use Rattle.bound_tree.specs.declared.statements.BoundCommand.{BoundCommand}
+use Rattle.bound_tree.specs.declared.statements.BoundCommand.TheVariants.{Created, Nothing}
+use Rattle.bound_tree.specs.declared.statements.BoundCreation.{BoundCreation}
+use Rattle.bound_tree.specs.declared.statements.ThingKind.{ThingKind}
+use Rattle.bound_tree.specs.declared.statements.ThingKind.TheVariants.{AModuleTable, ATable, ATrigger, AView, AnIndex}
+use Rattle.bound_tree.specs.declared.units.BoundColumn.{BoundColumn}
+use Rattle.bound_tree.specs.declared.units.BoundSource.TheVariants as bound_source
+use Rattle.bound_tree.specs.declared.units.IndexPart.{IndexPart}
+use Rattle.eng_value.specs.declared.cause.Cause.TheVariants.{Exists, Misuse, Real, Reserved, Unknown}
+use Rattle.eng_value.specs.declared.cause.NameKind.{NameKind}
+use Rattle.sql_bound.specs.declared.froms.Sourced.{Sourced}
+use Rattle.sql_bound.specs.declared.scopes.Allowed.{Allowed}
+use Rattle.sql_bound.specs.declared.scopes.ScopeColumn.{ScopeColumn}
+use Rattle.sql_bound.specs.declared.scopes.ScopeItem.{ScopeItem}
 
 -- ---- the name: it is not reserved, and nothing has it
 
 -- the word for what there is
-abbrev pub named_kind : EntryKind → Named
+abbrev pub named_kind : EntryKind → NameKind
 named_kind entry_kind.Table = kind.Table
 named_kind entry_kind.Module = kind.Table
 named_kind entry_kind.Index = kind.Index
@@ -91,7 +102,7 @@ abbrev pub level_of : Facts → List ℕ → List ℕ → TableDefinition → Le
 level_of facts text name t = level_with (declared_table facts text t)
   where
     level_with : DeclaredTable → Level
-    level_with d = once_each (scope_item 0 (Some name) (record (plain_source (Some name) (unit.Table name 0) (bound_columns d.columns)) { has_rowid = true; rowid = d.rowid })) ∷ []
+    level_with d = once_each (scope_item 0 (Some name) (record (plain_source (Some name) (bound_source.Table name 0) (bound_columns d.columns)) { has_rowid = true; rowid = d.rowid })) ∷ []
 
 -- what the columns so far are called, and whether there is a primary key
 pub record Declaring : Type 0 where

@@ -3,24 +3,33 @@ use Rattle.std.specs.Prelude.{ℕ, Bool, true, false, ◌||◌, List, [], ◌∷
 use Rattle.std.specs.List.{list_any}
 use Rattle.eng_value.specs.declared.collation.Collation.{Collation}
 use Rattle.eng_value.specs.declared.collation.Collation.TheVariants as collation
+use Rattle.eng_value.specs.declared.operators.BinaryOperator.TheVariants as binary
 use Rattle.sql_lex.specs.Tokens.{slice_of}
+use Rattle.sql_tree.specs.declared.expr.BinaryOp.TheVariants as op
 use Rattle.sql_tree.specs.declared.expr.Arguments.{Arguments}
 use Rattle.sql_tree.specs.declared.expr.Expr.TheOpen.{Expr-F}
 use Rattle.sql_tree.specs.declared.token.Token.{Token}
 use Rattle.sql_tree.specs.declared.token.TokenKind.TheVariants as token
 use Rattle.sql_tree.specs.Kinds.{same_kind}
-use Rattle.sql_bound.specs.Exprs.{BoundExpr}
-use Rattle.sql_bound.specs.Exprs as e
+use Rattle.bound_tree.specs.Exprs.{BoundExpr}
+use Rattle.bound_tree.specs.Exprs as e
 use Rattle.sql_meaning.specs.Binding.{◌>>=◌, affinity_of_type, collation_named}
 use Rattle.sql_meaning.specs.Spelled.{as_text, inside, name_at, undoubled}
 use Rattle.sql_bound.specs.Callees.{Aggregate, Aggregator, Callee, HostScalar, Nobody, Scalar, callee_of, is_aggregate, is_distinct, may_aggregate, may_call, without_filter}
 use Rattle.sql_bound.specs.Carriers.{ArmLayer, ArmParts, Binding, ExprLayer, Expression, Name, Number, Other, QueryParts, Term}
 use Rattle.sql_bound.specs.Columns.{called_column_bound, column_bound}
-use Rattle.sql_bound.specs.Kinds as kind
-use Rattle.sql_bound.specs.Operands.{ArmOperands, binary_of, between_of, call_of, case_of, cast_of, collated, collation_of_arguments, host_call_of, in_of, like_of, literal_operand, option_list, over, result_operand, sides_of, trees_of, unary_of}
-use Rattle.sql_bound.specs.Refusals.{Arity, Checked, Misuse, Unknown}
-use Rattle.sql_bound.specs.Scopes.{Answer, Asked, Facts, Nowhere, Operand, Outer, ResultColumn, Scope, UnitsAnswer, Work, handed}
-use Rattle.sql_bound.specs.Units.{BoundAggregate}
+use Rattle.eng_value.specs.declared.cause.NameKind.TheVariants as kind
+use Rattle.sql_bound.specs.Operands.{binary_of, between_of, call_of, case_of, cast_of, collated, collation_of_arguments, host_call_of, in_of, like_of, literal_operand, option_list, over, result_operand, sides_of, trees_of, unary_of}
+use Rattle.sql_bound.specs.Refusals.{Checked}
+use Rattle.sql_bound.specs.Scopes.{Answer, Facts, Outer, Scope, UnitsAnswer, handed}
+use Rattle.bound_tree.specs.declared.units.BoundAggregate.{BoundAggregate}
+use Rattle.eng_value.specs.declared.cause.Cause.TheVariants.{Arity, Misuse, Unknown}
+use Rattle.sql_bound.specs.declared.scopes.ArmOperands.{ArmOperands}
+use Rattle.sql_bound.specs.declared.scopes.Asked.{Asked}
+use Rattle.sql_bound.specs.declared.scopes.Operand.{Operand}
+use Rattle.sql_bound.specs.declared.scopes.ResultColumn.{ResultColumn}
+use Rattle.sql_bound.specs.declared.scopes.Standing.TheVariants.{Nowhere}
+use Rattle.sql_bound.specs.declared.scopes.Work.{Work}
 
 -- ---- parts in turn
 
@@ -196,8 +205,19 @@ term_step (Expr-F.Literal t) = literal_term t
 term_step (Expr-F.Column t) = Name t
 term_step other = Other
 
+-- ---- a condition is split at its ANDs
+
+abbrev pub split_by : (BoundExpr → List BoundExpr) → (BoundExpr → List BoundExpr) → BoundExpr → List BoundExpr
+split_by left right (e.Binary binary.And a b) = left a ++ right b
+split_by left right tree = tree ∷ []
+
+-- what a name of a result stands for is one condition
+abbrev pub conjuncts_step : ExprLayer → BoundExpr → List BoundExpr
+conjuncts_step (Expr-F.Binary op.And a b) tree = split_by a.conjuncts b.conjuncts tree
+conjuncts_step other tree = tree ∷ []
+
 abbrev pub expr_step : ExprLayer → Expression
-expr_step x = record { bound = bound_step x; aggregates = holds_step x; term = term_step x }
+expr_step x = record { bound = bound_step x; conjuncts = conjuncts_step x; aggregates = holds_step x; term = term_step x }
 
 abbrev pub arm_step : ArmLayer → ArmParts
 arm_step arm = record { condition = arm.condition; value = arm.value }

@@ -14,22 +14,43 @@ use Rattle.sql_tree.specs.declared.query.Query.{Query}
 use Rattle.sql_tree.specs.declared.statement.TableDefinition.{TableDefinition}
 use Rattle.sql_tree.specs.declared.statement.ViewDefinition.{ViewDefinition}
 use Rattle.sql_tree.specs.declared.token.Token.{Token}
-use Rattle.sql_bound.specs.Exprs.{BoundExpr}
-use Rattle.sql_bound.specs.Exprs as e
+use Rattle.bound_tree.specs.Exprs.{BoundExpr}
+use Rattle.bound_tree.specs.Exprs as e
 use Rattle.sql_meaning.specs.Binding.{◌>>=◌, affinity_of_words, by_bytes}
 use Rattle.sql_meaning.specs.Spelled.{name_at}
 use Rattle.sql_bound.specs.Carriers.{ConstraintParts, Expression, ItemParts, On, QueryParts, SourceParts, Unconstrained, Using}
 use Rattle.sql_bound.specs.Carriers as parts
-use Rattle.sql_bound.specs.Declared.{DeclaredTable, bound_columns, declared_table, definition_of, indexes_of, is_empty, table_in, table_named, view_in}
+use Rattle.sql_bound.specs.Declarations.{DeclaredTable, bound_columns, declared_table, definition_of, indexes_of, is_empty, table_in, table_named, view_in}
 use Rattle.sql_bound.specs.Expressions.{all_bound, asked}
-use Rattle.sql_bound.specs.Kinds as kind
+use Rattle.eng_value.specs.declared.cause.NameKind.TheVariants as kind
+use Rattle.eng_value.specs.declared.cause.LimitKind.TheVariants as limit
 use Rattle.sql_bound.specs.Lasting.{collations_kept}
 use Rattle.sql_bound.specs.Limits.{by_column, most_items, within_columns}
 use Rattle.sql_bound.specs.Operands.{collation_of_result, column_operand, compared, trees_of}
-use Rattle.sql_bound.specs.Refusals.{Ambiguous, Arity, Checked, Limit, Misuse, Unknown, Untold}
-use Rattle.sql_bound.specs.Scopes.{Answer, Asked, Bound, Facts, Itself, Level, Outer, ResultColumn, ScopeColumn, ScopeItem, UnitsAnswer, WithEntry, WithMeaning, Work, further, handed, inside, is_shown, scope_over, unjoined, columns_named, with_named}
-use Rattle.sql_bound.specs.Units.{BoundColumn, BoundIndex, BoundItem, BoundSource, BoundUnit, JoinKind}
-use Rattle.sql_bound.specs.Units as unit
+use Rattle.sql_bound.specs.Refusals.{Checked}
+use Rattle.eng_value.specs.declared.cause.Cause.TheVariants.{Fault}
+use Rattle.sql_bound.specs.Scopes.{Answer, Facts, Level, Outer, UnitsAnswer, further, handed, inside, is_shown, scope_over, unjoined, columns_named, with_named}
+use Rattle.bound_tree.specs.declared.units.BoundColumn.{BoundColumn}
+use Rattle.bound_tree.specs.declared.units.BoundIndex.{BoundIndex}
+use Rattle.bound_tree.specs.declared.units.BoundItem.{BoundItem}
+use Rattle.bound_tree.specs.declared.units.BoundSource.{BoundSource}
+use Rattle.bound_tree.specs.declared.units.BoundSource.TheVariants as bound_source
+use Rattle.bound_tree.specs.declared.units.BoundUnit.{BoundUnit}
+use Rattle.bound_tree.specs.declared.units.JoinKind.{JoinKind}
+use Rattle.bound_tree.specs.declared.units.JoinKind.TheVariants as join_kind
+use Rattle.eng_value.specs.declared.cause.Cause.TheVariants.{Ambiguous, Arity, Limit, Misuse, Unknown}
+use Rattle.sql_bound.specs.declared.scopes.Asked.{Asked}
+use Rattle.sql_bound.specs.declared.scopes.ResultColumn.{ResultColumn}
+use Rattle.sql_bound.specs.declared.scopes.ScopeColumn.{ScopeColumn}
+use Rattle.sql_bound.specs.declared.scopes.ScopeItem.{ScopeItem}
+use Rattle.sql_bound.specs.declared.scopes.WithEntry.{WithEntry}
+use Rattle.sql_bound.specs.declared.scopes.WithMeaning.{WithMeaning}
+use Rattle.sql_bound.specs.declared.scopes.WithMeaning.TheVariants.{Bound, Itself}
+use Rattle.sql_bound.specs.declared.scopes.Work.{Work}
+use Rattle.sql_bound.specs.declared.froms.QueueTable.{QueueTable}
+use Rattle.sql_bound.specs.declared.froms.Found.{Found}
+use Rattle.sql_bound.specs.declared.froms.Sourced.{Sourced}
+use Rattle.sql_bound.specs.declared.froms.Joining.{Joining}
 
 -- what a query is bound in once it is entered, and how the query of a view is bound there
 pub record Inside : Type 0 where
@@ -40,32 +61,10 @@ pub record Inside : Type 0 where
 abbrev pub beside_from : Outer → Outer
 beside_from o = inside [] o
 
--- the recursive table whose rows are taken out of the queue, in the part that names it
-pub record QueueTable : Type 0 where
-  pub name : List ℕ
-  pub columns : List ResultColumn
-
--- the items so far, as names see them and as they are bound, and whether one of them is the queue
-pub record Found : Type 0 where
-  pub level : Level
-  pub items : List BoundItem
-  pub has_queue : Bool
-
 abbrev pub nothing_found : Found
 nothing_found = record { level = []; items = []; has_queue = false }
 
 -- ---- an item's rows and columns, before it is joined
-
-pub record Sourced : Type 0 where
-  pub name : Option (List ℕ)
-  pub source : BoundSource
-  pub columns : List BoundColumn
-  pub kinds : List ColumnKind
-  pub hidden : List Bool
-  pub has_rowid : Bool
-  pub rowid : Option ℕ
-  pub indexes : List BoundIndex
-  pub is_queue : Bool
 
 -- columns that are all shown, without a rowid
 abbrev pub plain_source : Option (List ℕ) → BoundSource → List BoundColumn → Sourced
@@ -83,7 +82,7 @@ as_columns cs = map as_column cs
 
 abbrev pub table_source : Facts → Entry → List BoundIndex → DeclaredTable → Sourced
 table_source facts entry indexes t =
-    record (plain_source (Some entry.name) (unit.Table entry.name entry.number) (bound_columns t.columns)) { has_rowid = true; rowid = t.rowid; indexes = indexes }
+    record (plain_source (Some entry.name) (bound_source.Table entry.name entry.number) (bound_columns t.columns)) { has_rowid = true; rowid = t.rowid; indexes = indexes }
 
 abbrev pub declared_source : Outer → Entry → DeclaredTable → Sourced
 declared_source o entry t = table_source o.around.facts entry (indexes_of o.around.facts o.around.catalog entry t) t
@@ -110,7 +109,7 @@ abbrev pub of_view : Inside → List ℕ → Entry → Option ViewDefinition →
 of_view i name entry None w = no_table name
 of_view i name entry (Some v) w =
     i.views entry.name entry.text v.query w.units >>= λ a. with_names entry.name (map (name_at entry.text) v.columns) a.0.columns >>= λ cs.
-    Ok (plain_source (Some entry.name) (unit.View entry.name a.0.unit) (as_columns cs), record w { units = a.1 })
+    Ok (plain_source (Some entry.name) (bound_source.View entry.name a.0.unit) (as_columns cs), record w { units = a.1 })
 
 -- ---- tables of modules
 
@@ -124,16 +123,16 @@ module_column c = record { name = c.name; affinity = affinity_of_words (filter (
 abbrev pub hidden_columns : List ModColumn → List ModColumn
 hidden_columns cs = filter (λ (c : ModColumn). is_hidden c.kind) cs
 
-abbrev pub told : {A : Type 0} → Option A → Checked A
-told None = Err Untold
-told (Some a) = Ok a
+abbrev pub told : {A : Type 0} → List ℕ → Option A → Checked A
+told host None = Err (Fault host)
+told host (Some a) = Ok a
 
 abbrev pub columns_told : Facts → List ℕ → ℕ → Checked (List ModColumn)
-columns_told facts name table = told (facts.columns name table) >>= λ cs. within_columns cs
+columns_told facts name table = told name (facts.columns name table) >>= λ cs. within_columns cs
 
 abbrev pub module_source : List ℕ → List ℕ → ℕ → List ModColumn → List BoundExpr → Sourced
 module_source shown name table cs args =
-    record (plain_source (Some shown) (unit.Module shown name table args) (map module_column cs)) { kinds = map (λ (c : ModColumn). c.kind) cs; hidden = map (λ (c : ModColumn). is_hidden c.kind) cs; has_rowid = true }
+    record (plain_source (Some shown) (bound_source.Module shown name table args) (map module_column cs)) { kinds = map (λ (c : ModColumn). c.kind) cs; hidden = map (λ (c : ModColumn). is_hidden c.kind) cs; has_rowid = true }
 
 -- as many arguments as there are hidden columns, or fewer
 abbrev pub arguments_fit : List ℕ → List ModColumn → List Expression → Checked (Unit {0})
@@ -177,12 +176,12 @@ of_catalog i name None args f w = of_eponymous i name (i.outer.around.facts.host
 
 -- the queue stands once, and only in the FROM of the part itself
 abbrev pub of_queue : List ℕ → Option QueueTable → Bool → Checked Sourced
-of_queue name (Some q) false = if is_same_name q.name name then Ok (record (plain_source (Some name) unit.Queue (as_columns q.columns)) { is_queue = true }) else Err (Misuse name)
+of_queue name (Some q) false = if is_same_name q.name name then Ok (record (plain_source (Some name) bound_source.Queue (as_columns q.columns)) { is_queue = true }) else Err (Misuse name)
 of_queue name other has_queue = Err (Misuse name)
 
 abbrev pub with_source : Bool → ℕ → List BoundExpr → BoundSource
-with_source false u arguments = unit.With u arguments
-with_source true u arguments = unit.Recursive u arguments
+with_source false u arguments = bound_source.With u arguments
+with_source true u arguments = bound_source.Recursive u arguments
 
 -- what it needs is seen from here with the FROMs between
 abbrev pub of_with : Inside → Option QueueTable → WithEntry → WithMeaning → Found → Work → Answer Sourced
@@ -200,7 +199,7 @@ or_none None = []
 or_none (Some args) = args
 
 abbrev pub derived : Work → UnitsAnswer Asked → Answer Sourced
-derived w answer = asked w answer >>= λ a. Ok (plain_source None (unit.Query a.0.0.unit a.0.1) (as_columns a.0.0.columns), a.1)
+derived w answer = asked w answer >>= λ a. Ok (plain_source None (bound_source.Query a.0.0.unit a.0.1) (as_columns a.0.0.columns), a.1)
 
 abbrev pub of_source : Inside → Option QueueTable → SourceParts → Found → Work → Answer Sourced
 of_source i queue (parts.Table t args) f w =
@@ -233,10 +232,6 @@ called_by text None name = name
 called_by text (Some t) name = Some (name_at text t)
 
 -- ---- joins: USING tests that columns of a name are equal and shows that on the left
-
-pub record Joining : Type 0 where
-  pub right : ScopeItem
-  pub ons : List BoundExpr
 
 abbrev pub one_of : List ℕ → List ScopeColumn → Checked ScopeColumn
 one_of name [] = Err (Unknown kind.Column name)
@@ -276,7 +271,7 @@ using_all counts left names j = by_column (using_one counts left) names j
 
 -- an ON may name the items up to its own
 abbrev pub on_bound : Inside → Level → Expression → Joining → Work → Answer Joining
-on_bound i left x j w = x.bound (scope_over (left ++ j.right ∷ []) i.outer) w >>= λ c. Ok (record j { ons = c.0.conjuncts }, c.1)
+on_bound i left x j w = x.bound (scope_over (left ++ j.right ∷ []) i.outer) w >>= λ c. Ok (record j { ons = x.conjuncts c.0.tree }, c.1)
 
 -- NATURAL beside ON or USING is refused where these stand, behind the item's table
 abbrev pub constrained : Inside → Level → Bool → ConstraintParts → Joining → Work → Answer Joining
@@ -289,8 +284,8 @@ constrained i left false (Using ts) j w = with_units (using_all is_any left (map
 -- ---- items in turn
 
 abbrev pub kind_of_join : Bool → JoinKind
-kind_of_join false = unit.Inner
-kind_of_join true = unit.Left
+kind_of_join false = join_kind.Inner
+kind_of_join true = join_kind.Left
 
 -- the conjuncts of an ON are written, those of USING and NATURAL made
 abbrev pub are_made : ConstraintParts → Bool
@@ -300,7 +295,7 @@ are_made other = true
 -- an item without conjuncts
 abbrev pub plain_item : Option (List ℕ) → Sourced → BoundItem
 plain_item name s =
-    record { join = unit.Inner; ons = []; ons_made = true; shown = unwrap_or name []; source = s.source; columns = s.columns; kinds = s.kinds; rowid = s.rowid; indexes = s.indexes; ignored = [] }
+    record { join = join_kind.Inner; ons = []; ons_made = true; shown = unwrap_or name []; source = s.source; columns = s.columns; kinds = s.kinds; rowid = s.rowid; indexes = s.indexes; ignored = [] }
 
 abbrev pub with_item : ItemParts → Option (List ℕ) → Sourced → Found → Joining → Found
 with_item item name s f j =
@@ -312,7 +307,7 @@ joined_to i item name s f w =
     Ok (with_item item name s f j.0, j.1)
 
 abbrev pub has_room : Found → Checked (Unit {0})
-has_room f = if nat_lt (length f.items) most_items then Ok tt else Err (Limit kind.Items)
+has_room f = if nat_lt (length f.items) most_items then Ok tt else Err (Limit limit.Items)
 
 abbrev pub item_found : Inside → Option QueueTable → ItemParts → Found → Work → Answer Found
 item_found i queue item f w =

@@ -12,10 +12,10 @@ use Rattle.eng_value.specs.declared.value.Value.TheVariants as value
 use Rattle.sql_meaning.specs.declared.bound.Literal.TheVariants as literal
 use Rattle.sql_meaning.specs.Spelled.{the_text_test}
 use Rattle.sql_bound.specs.Carriers.{CoreParts, Expression, SpannedExpression}
-use Rattle.sql_bound.specs.Exprs as e
-use Rattle.sql_bound.specs.Kinds as kind
-use Rattle.sql_bound.specs.Refusals.{Arity, BareColumn, Misuse, Unknown}
+use Rattle.bound_tree.specs.Exprs as e
+use Rattle.eng_value.specs.declared.cause.NameKind.TheVariants as kind
 use Rattle.sql_bound.specs.Samples.{both, bound, by, call, col, compound, core, dot, lit, named, named_as, ordered, query, refused, res, res_as, results_at, scalar, span, starred}
+use Rattle.eng_value.specs.declared.cause.Cause.TheVariants.{Arity, BareColumn, Misuse, Unknown}
 
 -- grouped by the first, with HAVING if any
 abbrev grouped : CoreParts → List SpannedExpression → Option Expression → CoreParts

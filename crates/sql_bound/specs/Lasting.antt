@@ -14,7 +14,7 @@ use Rattle.sql_tree.specs.declared.statement.TableDefinition.{TableDefinition}
 use Rattle.sql_tree.specs.declared.token.Token.{Token}
 use Rattle.sql_meaning.specs.Binding.{◌>>=◌, or_else}
 use Rattle.sql_meaning.specs.Spelled.{name_at}
-use Rattle.sql_bound.specs.Declared.{definition_of, index_in, is_index_of}
+use Rattle.sql_bound.specs.Declarations.{definition_of, index_in, is_index_of}
 use Rattle.sql_bound.specs.Expressions.{collation_called}
 use Rattle.sql_bound.specs.Refusals.{Checked}
 use Rattle.sql_bound.specs.Scopes.{Around, Facts}

@@ -1,10 +1,7 @@
-pub mod Kinds
 pub mod Refusals
-pub mod Exprs
-pub mod Units
-pub mod Same
-pub mod SameUnits
+pub mod Answers
 pub mod Scopes
+pub mod HostFacts
 pub mod Operands
 pub mod Callees
 pub mod Columns
@@ -12,7 +9,7 @@ pub mod Carriers
 pub mod Expressions
 pub mod Groups
 pub mod Limits
-pub mod Declared
+pub mod Declarations
 pub mod Lasting
 pub mod Froms
 pub mod Results

@@ -12,12 +12,14 @@ use Rattle.sql_lex.specs.Tokens.{tokens_of}
 use Rattle.sql_meaning.specs.declared.bound.Literal.TheVariants as literal
 use Rattle.sql_meaning.specs.Spelled.{the_text_test}
 use Rattle.sql_bound.specs.Carriers.{All, AllOf}
-use Rattle.sql_bound.specs.Exprs as e
-use Rattle.sql_bound.specs.Kinds as kind
-use Rattle.sql_bound.specs.Refusals.{Arity, Misuse, Unknown}
+use Rattle.bound_tree.specs.Exprs as e
+use Rattle.eng_value.specs.declared.cause.NameKind.TheVariants as kind
 use Rattle.sql_bound.specs.Samples.{around_of, bound_over, call, called_with, col, commanded_over, core, core_at, delete, dot, lit, named, named_as, natural, no_facts, query, refused_over, res, results_at, scalar, sources_at, span, token_at, using, why}
 use Rattle.sql_bound.specs.Scopes.{Around, Facts}
-use Rattle.sql_bound.specs.Units.{BoundCore, BoundItem, Module}
+use Rattle.bound_tree.specs.declared.units.BoundCore.{BoundCore}
+use Rattle.bound_tree.specs.declared.units.BoundItem.{BoundItem}
+use Rattle.bound_tree.specs.declared.units.BoundSource.TheVariants.{Module}
+use Rattle.eng_value.specs.declared.cause.Cause.TheVariants.{Arity, Misuse, Unknown}
 
 -- ---- a module whose name is a table: value, and the arguments start, stop and step; and a function of one argument
 

@@ -19,15 +19,17 @@ use Rattle.sql_tree.specs.declared.token.Token.{Token}
 use Rattle.sql_meaning.specs.declared.bound.Literal.TheVariants as literal
 use Rattle.sql_meaning.specs.Spelled.{the_text_test}
 use Rattle.sql_bound.specs.Carriers.{Expression}
-use Rattle.sql_bound.specs.Exprs.{BoundExpr}
-use Rattle.sql_bound.specs.Exprs as e
+use Rattle.bound_tree.specs.Exprs.{BoundExpr}
+use Rattle.bound_tree.specs.Exprs as e
 use Rattle.sql_bound.specs.Froms.{plain_source, scope_item}
-use Rattle.sql_bound.specs.Kinds as kind
-use Rattle.sql_bound.specs.Refusals.{Arity, Misuse, Refusal, Unknown}
+use Rattle.eng_value.specs.declared.cause.NameKind.TheVariants as kind
 use Rattle.sql_bound.specs.Samples.{around_of, between, both, bound, bound_over, call, call_distinct, call_filtered, col, collate, conjuncts_at, core, dot, in_query, lit, named, nested, parameter, query, raise_ignore, refused, res, res_as, results_at, scalar, starred, tables, unary, why}
-use Rattle.sql_bound.specs.Scopes.{Allowed, Around, Level, begun}
+use Rattle.sql_bound.specs.Scopes.{Around, Level, begun}
 use Rattle.sql_bound.specs.Targets.{constraint_bound, in_check, in_default}
-use Rattle.sql_bound.specs.Units as unit
+use Rattle.eng_value.specs.declared.cause.Cause.{Cause}
+use Rattle.eng_value.specs.declared.cause.Cause.TheVariants.{Arity, Misuse, Unknown}
+use Rattle.bound_tree.specs.declared.units.BoundSource.TheVariants.{Given}
+use Rattle.sql_bound.specs.declared.scopes.Allowed.{Allowed}
 
 -- ---- how the sides of a comparison are compared
 
@@ -106,9 +108,9 @@ raises = refl
 
 -- a table x(A, b)
 abbrev own : Level
-own = scope_item 0 (Some (codes "x")) (plain_source (Some (codes "x")) unit.Given (record { name = codes "A"; affinity = affinity.Blob; collation = collation.Built built.Binary } ∷ record { name = codes "b"; affinity = affinity.Blob; collation = collation.Built built.Binary } ∷ [])) ∷ []
+own = scope_item 0 (Some (codes "x")) (plain_source (Some (codes "x")) Given (record { name = codes "A"; affinity = affinity.Blob; collation = collation.Built built.Binary } ∷ record { name = codes "b"; affinity = affinity.Blob; collation = collation.Built built.Binary } ∷ [])) ∷ []
 
-abbrev constrained : List ℕ → Allowed → (List Token → Expression) → Option Refusal
+abbrev constrained : List ℕ → Allowed → (List Token → Expression) → Option Cause
 constrained text allowed x = why (constraint_bound tables text own allowed (x (tokens_of text)) (begun []))
 
 checks : (constrained (codes "x.a = b") in_check (λ t. both op.Equal (dot t 0 2) (col t 4)) ≡ None)

@@ -1,5 +1,5 @@
 -- What operators, calls and CASE make of operands (SQL Language Expressions; Datatypes In SQLite, sections 4.2 and 7.1).
-use Rattle.std.specs.Prelude.{ℕ, ◌-◌, ◌^◌, List, [], ◌∷◌, ◌++◌, map, negsuc, Option, Some, None, unwrap_or}
+use Rattle.std.specs.Prelude.{ℕ, Bool, true, false, ◌-◌, ◌^◌, List, [], ◌∷◌, ◌++◌, map, negsuc, Option, Some, None, unwrap_or}
 use Rattle.eng_value.specs.declared.affinity.Affinity.{Affinity}
 use Rattle.eng_value.specs.declared.affinity.Affinity.TheVariants as affinity
 use Rattle.eng_value.specs.Functions.{FunctionKind, FirstKnown, Choice, kind_of}
@@ -18,13 +18,21 @@ use Rattle.sql_tree.specs.declared.expr.BinaryOp.{BinaryOp}
 use Rattle.sql_tree.specs.declared.expr.BinaryOp.TheVariants as op
 use Rattle.sql_tree.specs.declared.expr.UnaryOp.{UnaryOp}
 use Rattle.sql_tree.specs.declared.expr.UnaryOp.TheVariants as sign
+use Rattle.sql_lex.specs.Tokens.{slice_of}
 use Rattle.sql_tree.specs.declared.token.Token.{Token}
+use Rattle.sql_tree.specs.declared.token.TokenKind.{TokenKind}
+use Rattle.sql_tree.specs.declared.token.TokenKind.TheVariants as token
 use Rattle.sql_meaning.specs.declared.bound.Literal.TheVariants as literal
-use Rattle.sql_bound.specs.Exprs.{BoundArm, BoundExpr, BoundMatch}
-use Rattle.sql_bound.specs.Exprs as e
-use Rattle.sql_meaning.specs.Binding.{Form, Plain, LeastMagnitude, Truth, by_bytes, form_of, or_else}
-use Rattle.sql_meaning.specs.Spelled.{literal_at}
-use Rattle.sql_bound.specs.Scopes.{Operand, ResultColumn, ScopeColumn}
+use Rattle.bound_tree.specs.Exprs.{BoundArm, BoundExpr, BoundMatch}
+use Rattle.bound_tree.specs.Exprs as e
+use Rattle.sql_meaning.specs.Binding.{by_bytes, or_else}
+use Rattle.sql_meaning.specs.Spelled.{is_least_magnitude, literal_at}
+use Rattle.sql_bound.specs.declared.scopes.Operand.{Operand}
+use Rattle.sql_bound.specs.declared.scopes.ResultColumn.{ResultColumn}
+use Rattle.sql_bound.specs.declared.scopes.ScopeColumn.{ScopeColumn}
+use Rattle.sql_bound.specs.declared.scopes.ArmOperands.{ArmOperands}
+use Rattle.sql_bound.specs.declared.scopes.Form.{Form}
+use Rattle.sql_bound.specs.declared.scopes.Form.TheVariants.{LeastMagnitude, Plain, Truth}
 
 -- ---- affinity and collation
 
@@ -49,7 +57,7 @@ first_collation (a ∷ rest) = or_else (collation_of a) (first_collation rest)
 -- over these operands, without an affinity and no column
 abbrev pub over : List Operand → BoundExpr → Operand
 over operands tree =
-    record { tree = tree; affinity = affinity.None; explicit = first_explicit operands; column = None; form = Plain; conjuncts = tree ∷ []; name = None }
+    record { tree = tree; affinity = affinity.None; explicit = first_explicit operands; column = None; form = Plain; name = None }
 
 abbrev pub tree_of : Operand → BoundExpr
 tree_of a = a.tree
@@ -66,6 +74,15 @@ sides_of a b = record { left = a.affinity; right = b.affinity; collation = colla
 
 -- ---- literals, columns
 
+abbrev pub form_by : TokenKind → Bool → Form
+form_by token.True least = Truth true
+form_by token.False least = Truth false
+form_by token.Number true = LeastMagnitude
+form_by other least = Plain
+
+abbrev pub form_of : List ℕ → Token → Form
+form_of text t = form_by t.kind (is_least_magnitude (slice_of text t))
+
 abbrev pub literal_operand : List ℕ → Token → Operand
 literal_operand text t = record (over [] (e.Literal (literal_at text t))) { form = form_of text t }
 
@@ -76,10 +93,6 @@ column_operand c tree = record (over [] tree) { affinity = c.affinity; column = 
 -- what a query's column is to that with which it is compared
 abbrev pub result_operand : BoundExpr → ResultColumn → Operand
 result_operand tree c = record (over [] tree) { affinity = c.affinity; explicit = c.explicit; column = c.column }
-
--- what a name of a result stands for: the result's expression in its form, as one condition
-abbrev pub as_one : Operand → Operand
-as_one a = record a { conjuncts = a.tree ∷ [] }
 
 -- ---- operators
 
@@ -111,13 +124,9 @@ abbrev pub is_of : Form → Operand → Operand → Operand
 is_of (Truth wanted) a b = over (a ∷ b ∷ []) (e.Unary (unary.IsTruth wanted) a.tree)
 is_of _ a b = both (binary.Is (sides_of a b)) a b
 
--- a WHERE is split at its ANDs
-abbrev pub and_of : Operand → Operand → Operand
-and_of a b = record (both binary.And a b) { conjuncts = a.conjuncts ++ b.conjuncts }
-
 abbrev pub binary_of : BinaryOp → Operand → Operand → Operand
 binary_of op.Or a b = both binary.Or a b
-binary_of op.And a b = and_of a b
+binary_of op.And a b = both binary.And a b
 binary_of op.Equal a b = compared compare.Eq a b
 binary_of op.NotEqual a b = negated (compared compare.Eq a b)
 binary_of op.Is a b = is_of b.form a b
@@ -156,7 +165,7 @@ in_of a others = over (a ∷ others) (e.In (member_sides a) a.tree (trees_of oth
 -- ---- COLLATE and CAST: COLLATE keeps the value and the affinity
 
 abbrev pub collated : Collation → Operand → Operand
-collated c a = record a { explicit = Some c; form = Plain; conjuncts = a.tree ∷ []; name = None }
+collated c a = record a { explicit = Some c; form = Plain; name = None }
 
 abbrev pub cast_of : Affinity → Operand → Operand
 cast_of to a = record (over (a ∷ []) (e.Unary (unary.Cast to) a.tree)) { affinity = to; column = a.column }
@@ -173,11 +182,6 @@ or_null (Some a) = a.tree
 abbrev pub option_list : Option Operand → List Operand
 option_list None = []
 option_list (Some a) = a ∷ []
-
--- WHEN condition THEN value
-pub record ArmOperands : Type 0 where
-  pub condition : Operand
-  pub value : Operand
 
 abbrev pub chosen_arm : ArmOperands → BoundArm
 chosen_arm arm = record { condition = arm.condition.tree; value = arm.value.tree }

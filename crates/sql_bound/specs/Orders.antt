@@ -5,18 +5,27 @@ use Rattle.eng_entry.specs.Names.{is_same_name}
 use Rattle.eng_value.specs.declared.collation.Collation.{Collation}
 use Rattle.sql_tree.specs.declared.query.NullsOrder.{NullsOrder}
 use Rattle.sql_tree.specs.declared.query.NullsOrder.TheVariants as nulls
-use Rattle.sql_bound.specs.Exprs.{BoundExpr}
+use Rattle.bound_tree.specs.Exprs.{BoundExpr}
 use Rattle.sql_meaning.specs.Binding.{◌>>=◌, by_bytes}
 use Rattle.sql_meaning.specs.Spelled.{literal_at, name_at}
 use Rattle.sql_bound.specs.Carriers.{Expression, LimitParts, Name, Number, Other, Term, TermParts}
-use Rattle.sql_bound.specs.Cores.{BoundSelect, scope_with}
+use Rattle.sql_bound.specs.Cores.{scope_with}
 use Rattle.sql_bound.specs.Groups.{grouped_checked}
-use Rattle.sql_bound.specs.Kinds as kind
+use Rattle.eng_value.specs.declared.cause.NameKind.TheVariants as kind
 use Rattle.sql_bound.specs.Operands.{collation_of, collation_of_result}
-use Rattle.sql_bound.specs.Refusals.{Checked, Unknown}
+use Rattle.sql_bound.specs.Refusals.{Checked}
 use Rattle.sql_bound.specs.Results.{ShownResult, at_place, place_named, text_of}
-use Rattle.sql_bound.specs.Scopes.{Answer, Operand, Outer, ResultColumn, Scope, Taken, Work, is_called, scope_over}
-use Rattle.sql_bound.specs.Units.{BoundTerm, Expression as ByExpression, Result as ByResult, TermKey}
+use Rattle.sql_bound.specs.Scopes.{Answer, Outer, Scope, is_called, scope_over}
+use Rattle.bound_tree.specs.declared.units.BoundTerm.{BoundTerm}
+use Rattle.bound_tree.specs.declared.units.TermKey.{TermKey}
+use Rattle.bound_tree.specs.declared.units.TermKey.TheVariants.{Expression as ByExpression, Result as ByResult}
+use Rattle.eng_value.specs.declared.cause.Cause.TheVariants.{Unknown}
+use Rattle.sql_bound.specs.declared.queries.BoundSelect.{BoundSelect}
+use Rattle.sql_bound.specs.declared.scopes.Operand.{Operand}
+use Rattle.sql_bound.specs.declared.scopes.ResultColumn.{ResultColumn}
+use Rattle.sql_bound.specs.declared.scopes.Standing.TheVariants.{Taken}
+use Rattle.sql_bound.specs.declared.scopes.Work.{Work}
+use Rattle.sql_bound.specs.declared.queries.BoundLimit.{BoundLimit}
 
 -- ---- where NULLs stand: first where it ascends, unless it is said otherwise
 
@@ -109,10 +118,6 @@ terms_of_compound text columns [] = Ok []
 terms_of_compound text columns (t ∷ ts) = compound_term text columns t t.key.expr.term >>= λ a. terms_of_compound text columns ts >>= λ more. Ok (a ∷ more)
 
 -- ---- LIMIT: the count, then the offset; they see nothing of the own FROM
-
-pub record BoundLimit : Type 0 where
-  pub count : Option BoundExpr
-  pub offset : Option BoundExpr
 
 abbrev pub offset_bound : Scope → Option Expression → Work → Answer (Option BoundExpr)
 offset_bound s None w = Ok (None, w)

@@ -2,15 +2,22 @@
 use Rattle.std.specs.Prelude.{ℕ, List, [], ◌∷◌, ◌++◌, length, position, Option, Some, None, Ok, Err}
 use Rattle.sql_meaning.specs.Binding.{◌>>=◌}
 use Rattle.sql_bound.specs.Carriers.{CompoundParts, LimitParts, PartParts, QueryBinding, TableParts, TermParts}
-use Rattle.sql_bound.specs.Compounds.{Gathered, parts_bound}
+use Rattle.sql_bound.specs.Compounds.{parts_bound}
 use Rattle.sql_bound.specs.Froms.{Inside, as_columns}
-use Rattle.sql_bound.specs.Kinds as kind
-use Rattle.sql_bound.specs.Orders.{BoundLimit, limit_bound}
-use Rattle.sql_bound.specs.Refusals.{Limit}
-use Rattle.sql_bound.specs.SameUnits.{same_unit}
-use Rattle.sql_bound.specs.Scopes.{Asked, Bottom, Deeper, Depth, Outer, ResultColumn, UnitsAnswer, Work, begun}
-use Rattle.sql_bound.specs.Units.{BoundUnit, Queried}
+use Rattle.eng_value.specs.declared.cause.NameKind.TheVariants as kind
+use Rattle.eng_value.specs.declared.cause.LimitKind.TheVariants as limit
+use Rattle.sql_bound.specs.Orders.{limit_bound}
+use Rattle.bound_tree.specs.SameUnits.{same_unit}
+use Rattle.sql_bound.specs.Scopes.{Bottom, Deeper, Depth, Outer, UnitsAnswer, begun}
 use Rattle.sql_bound.specs.Withs.{tables_bound}
+use Rattle.bound_tree.specs.declared.units.BoundUnit.{BoundUnit}
+use Rattle.bound_tree.specs.declared.units.BoundUnit.TheVariants.{Queried}
+use Rattle.eng_value.specs.declared.cause.Cause.TheVariants.{Limit}
+use Rattle.sql_bound.specs.declared.queries.BoundLimit.{BoundLimit}
+use Rattle.sql_bound.specs.declared.queries.Gathered.{Gathered}
+use Rattle.sql_bound.specs.declared.scopes.Asked.{Asked}
+use Rattle.sql_bound.specs.declared.scopes.ResultColumn.{ResultColumn}
+use Rattle.sql_bound.specs.declared.scopes.Work.{Work}
 
 -- ---- units: what is asked twice is one
 
@@ -28,7 +35,7 @@ asked_as u columns w = let placed = with_unit u w.units in (record { unit = plac
 -- ---- a query is entered one level deeper
 
 abbrev pub entered : Outer → Depth → (Inside → List BoundUnit → UnitsAnswer Asked) → List BoundUnit → UnitsAnswer Asked
-entered o Bottom f units = Err (Limit kind.Queries)
+entered o Bottom f units = Err (Limit limit.Queries)
 entered o (Deeper views below) f units = f (record { outer = record o { depth = below }; views = views }) units
 
 -- ---- a query

@@ -9,13 +9,14 @@ use Rattle.eng_value.specs.declared.value.Value.TheVariants as value
 use Rattle.sql_meaning.specs.declared.bound.Literal.TheVariants as literal
 use Rattle.sql_bound.specs.Carriers.{QueryParts}
 use Rattle.sql_meaning.specs.Spelled.{the_text_test}
-use Rattle.sql_bound.specs.Exprs.{BoundExpr}
-use Rattle.sql_bound.specs.Exprs as e
+use Rattle.bound_tree.specs.Exprs.{BoundExpr}
+use Rattle.bound_tree.specs.Exprs as e
 use Rattle.eng_value.specs.declared.operators.BinaryOperator.TheVariants as binary
 use Rattle.eng_value.specs.declared.operators.UnaryOperator.TheVariants as unary
-use Rattle.sql_bound.specs.Kinds as kind
-use Rattle.sql_bound.specs.Refusals.{Ambiguous, Arity, Limit, Unknown}
+use Rattle.eng_value.specs.declared.cause.NameKind.TheVariants as kind
+use Rattle.eng_value.specs.declared.cause.LimitKind.TheVariants as limit
 use Rattle.sql_bound.specs.Samples.{asked_in, both, bound, refused, tables, col, conjuncts_at, core, dot, in_query, lit, named, named_as, names_of, nested, query, refusal_of, res, res_as, results_at, scalar}
+use Rattle.eng_value.specs.declared.cause.Cause.TheVariants.{Ambiguous, Arity, Limit, Unknown}
 
 -- ---- the order of work
 
@@ -88,7 +89,7 @@ unfolding all_statement_rules count tokens_of word_kind the_text_test
 one_column = refl
 
 -- where one query may be open a second one may not
-too_deep : refusal_of (asked_in tables 1 (codes "SELECT (SELECT 1)") (query (core (res [] (scalar (query (core (res [] (lit [] 0) 0 0 ∷ []) [] None))) 0 0 ∷ []) [] None))) ≡ Some (Limit kind.Queries)
+too_deep : refusal_of (asked_in tables 1 (codes "SELECT (SELECT 1)") (query (core (res [] (scalar (query (core (res [] (lit [] 0) 0 0 ∷ []) [] None))) 0 0 ∷ []) [] None))) ≡ Some (Limit limit.Queries)
 unfolding all_statement_rules count tokens_of word_kind the_text_test
 too_deep = refl
 
@@ -97,12 +98,12 @@ abbrev nest : ℕ → QueryParts
 nest zero = query (core (res [] (lit [] 0) 0 0 ∷ []) [] None)
 nest (suc n) = query (core (res [] (scalar (nest n)) 0 0 ∷ []) [] None)
 
-twenty_queries : (refusal_of (asked_in tables 20 [] (nest 19)) ≡ None) × (refusal_of (asked_in tables 20 [] (nest 20)) ≡ Some (Limit kind.Queries))
+twenty_queries : (refusal_of (asked_in tables 20 [] (nest 19)) ≡ None) × (refusal_of (asked_in tables 20 [] (nest 20)) ≡ Some (Limit limit.Queries))
 unfolding all_statement_rules count tokens_of word_kind the_text_test
 twenty_queries = (refl, refl)
 
 -- a hundred results, and the next is refused before it is bound
-a_hundred_results : (refused (codes "1") (λ t. query (core (replicate 100 (res t (lit t 0) 0 0)) [] None)) ≡ None) × (refused (codes "1 x") (λ t. query (core (replicate 100 (res t (lit t 0) 0 0) ++ res t (col t 1) 1 1 ∷ []) [] None)) ≡ Some (Limit kind.Columns))
+a_hundred_results : (refused (codes "1") (λ t. query (core (replicate 100 (res t (lit t 0) 0 0)) [] None)) ≡ None) × (refused (codes "1 x") (λ t. query (core (replicate 100 (res t (lit t 0) 0 0) ++ res t (col t 1) 1 1 ∷ []) [] None)) ≡ Some (Limit limit.Columns))
 unfolding all_statement_rules count tokens_of word_kind the_text_test
 a_hundred_results = (refl, refl)
 

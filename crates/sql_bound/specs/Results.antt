@@ -6,17 +6,24 @@ use Rattle.sql_tree.specs.declared.token.Span.{Span}
 use Rattle.sql_tree.specs.declared.token.Token.{Token}
 use Rattle.sql_meaning.specs.declared.bound.Literal.{Literal}
 use Rattle.sql_meaning.specs.declared.bound.Literal.TheVariants as literal
-use Rattle.sql_bound.specs.Exprs.{BoundExpr}
+use Rattle.bound_tree.specs.Exprs.{BoundExpr}
 use Rattle.sql_meaning.specs.Binding.{◌>>=◌, or_else}
 use Rattle.sql_meaning.specs.Spelled.{as_text, name_at}
 use Rattle.sql_bound.specs.Carriers.{All, AllOf, Binding, One, ResultParts, SpannedExpression}
 use Rattle.sql_bound.specs.Groups.{grouped_checked}
-use Rattle.sql_bound.specs.Kinds as kind
+use Rattle.eng_value.specs.declared.cause.NameKind.TheVariants as kind
 use Rattle.sql_bound.specs.Limits.{room_behind}
 use Rattle.sql_bound.specs.Operands.{column_operand}
-use Rattle.sql_bound.specs.Refusals.{Checked, Misuse, Unknown}
-use Rattle.sql_bound.specs.Scopes.{Alias, Answer, Level, Operand, ResultColumn, Scope, ScopeColumn, ScopeItem, Work, is_called, is_shown}
-use Rattle.sql_bound.specs.Units.{BoundKey}
+use Rattle.sql_bound.specs.Refusals.{Checked}
+use Rattle.sql_bound.specs.Scopes.{Alias, Answer, Level, Scope, is_called, is_shown}
+use Rattle.bound_tree.specs.declared.units.BoundKey.{BoundKey}
+use Rattle.eng_value.specs.declared.cause.Cause.TheVariants.{Misuse, Unknown}
+use Rattle.sql_bound.specs.declared.scopes.Operand.{Operand}
+use Rattle.sql_bound.specs.declared.scopes.ResultColumn.{ResultColumn}
+use Rattle.sql_bound.specs.declared.scopes.ScopeColumn.{ScopeColumn}
+use Rattle.sql_bound.specs.declared.scopes.ScopeItem.{ScopeItem}
+use Rattle.sql_bound.specs.declared.scopes.Work.{Work}
+use Rattle.sql_bound.specs.declared.queries.Shown.{Shown}
 
 -- ---- what `*` shows
 
@@ -98,11 +105,6 @@ at_place xs None = None
 at_place xs (Some place) = slice_get xs place
 
 -- ---- results in turn
-
--- what is shown so far, and how it is called
-pub record Shown : Type 0 where
-  pub trees : List BoundExpr
-  pub columns : List ResultColumn
 
 abbrev pub nothing_shown : Shown
 nothing_shown = record { trees = []; columns = [] }

@@ -25,14 +25,25 @@ use Rattle.sql_meaning.specs.Statement.{answer_of}
 use Rattle.sql_bound.specs.Carriers.{CoreParts, Expression, ItemParts, QueryParts, ResultParts, SpannedExpression, SetParts, Inserts, Updates, Deletes, RowParts, TableParts, TermParts, Unconstrained, Using, Table, Derived, Select, Values, One}
 use Rattle.sql_bound.specs.Expressions.{expr_step}
 use Rattle.sql_bound.specs.Recursions.{parts_of_query}
-use Rattle.sql_bound.specs.Refusals.{Checked, Refusal}
-use Rattle.sql_bound.specs.Scopes.{Around, Asked, Facts, ResultColumn, UnitsAnswer, in_statement}
+use Rattle.sql_bound.specs.Refusals.{Checked}
+use Rattle.sql_bound.specs.Scopes.{Around, Facts, UnitsAnswer, in_statement}
 use Rattle.sql_bound.specs.Trees.{depth_of, full_depth, outer_at}
-use Rattle.sql_bound.specs.Exprs.{BoundExpr}
+use Rattle.bound_tree.specs.Exprs.{BoundExpr}
 use Rattle.sql_bound.specs.Statements.{rows_bound}
 use Rattle.sql_bound.specs.Writes.{Opened}
-use Rattle.sql_bound.specs.Units.{BoundChange, BoundCommand, BoundCore, BoundItem, BoundPart, BoundSource, BoundUnit, Queried, Recursed}
-use Rattle.sql_bound.specs.Units as unit
+use Rattle.bound_tree.specs.declared.statements.BoundCommand.{BoundCommand}
+use Rattle.bound_tree.specs.declared.statements.BoundCommand.TheVariants as bound_command
+use Rattle.bound_tree.specs.declared.units.BoundCore.{BoundCore}
+use Rattle.bound_tree.specs.declared.units.BoundItem.{BoundItem}
+use Rattle.bound_tree.specs.declared.units.BoundPart.{BoundPart}
+use Rattle.bound_tree.specs.declared.units.BoundPart.TheVariants as bound_part
+use Rattle.bound_tree.specs.declared.units.BoundSource.{BoundSource}
+use Rattle.bound_tree.specs.declared.units.BoundUnit.{BoundUnit}
+use Rattle.bound_tree.specs.declared.units.BoundUnit.TheVariants.{Queried, Recursed}
+use Rattle.bound_tree.specs.declared.writes.BoundChange.{BoundChange}
+use Rattle.eng_value.specs.declared.cause.Cause.{Cause}
+use Rattle.sql_bound.specs.declared.scopes.Asked.{Asked}
+use Rattle.sql_bound.specs.declared.scopes.ResultColumn.{ResultColumn}
 
 -- ---- no host, and no savepoint
 
@@ -228,7 +239,7 @@ asked_by view around deep text q = q.bound (outer_at around (depth_of (λ text t
 abbrev pub asked_in : Around → ℕ → List ℕ → QueryParts → UnitsAnswer Asked
 asked_in = asked_by no_view
 
-abbrev pub refusal_of : UnitsAnswer Asked → Option Refusal
+abbrev pub refusal_of : UnitsAnswer Asked → Option Cause
 refusal_of (Ok a) = None
 refusal_of (Err why) = Some why
 
@@ -242,8 +253,8 @@ abbrev pub core_in : BoundUnit → Option BoundCore
 core_in (Queried q) = core_of_part q.first
   where
     core_of_part : BoundPart → Option BoundCore
-    core_of_part (unit.Select c) = Some c
-    core_of_part (unit.Values rows) = None
+    core_of_part (bound_part.Select c) = Some c
+    core_of_part (bound_part.Values rows) = None
 core_in (Recursed r) = Some r.part
 
 abbrev pub core_at : ℕ → UnitsAnswer Asked → Option BoundCore
@@ -285,7 +296,7 @@ names_of (Err why) = []
 abbrev pub bound_over : Around → List ℕ → (List Token → QueryParts) → UnitsAnswer Asked
 bound_over around text tree = asked_in around 20 text (tree (tokens_of text))
 
-abbrev pub refused_over : Around → List ℕ → (List Token → QueryParts) → Option Refusal
+abbrev pub refused_over : Around → List ℕ → (List Token → QueryParts) → Option Cause
 refused_over around text tree = refusal_of (bound_over around text tree)
 
 -- two tables
@@ -295,7 +306,7 @@ tables = around_of (codes "CREATE TABLE t(a INTEGER, B)" ∷ codes "CREATE TABLE
 abbrev pub bound : List ℕ → (List Token → QueryParts) → UnitsAnswer Asked
 bound = bound_over tables
 
-abbrev pub refused : List ℕ → (List Token → QueryParts) → Option Refusal
+abbrev pub refused : List ℕ → (List Token → QueryParts) → Option Cause
 refused = refused_over tables
 
 -- ---- writes over what is around; no trigger of a sample is opened by its tree
@@ -310,13 +321,13 @@ commanded_by views around text tree = rows_bound (outer_at around (depth_of (λ 
 abbrev pub commanded : List ℕ → (List Token → RowParts) → Checked (BoundCommand × Opened)
 commanded = commanded_over tables
 
-abbrev pub why : {A : Type 0} → Checked A → Option Refusal
+abbrev pub why : {A : Type 0} → Checked A → Option Cause
 why (Ok a) = None
 why (Err reason) = Some reason
 
-abbrev pub refused_write : List ℕ → (List Token → RowParts) → Option Refusal
+abbrev pub refused_write : List ℕ → (List Token → RowParts) → Option Cause
 refused_write text tree = why (commanded text tree)
 
 abbrev pub change_of : Checked (BoundCommand × Opened) → Option BoundChange
-change_of (Ok (unit.Written w, opened)) = Some w.change
+change_of (Ok (bound_command.Written w, opened)) = Some w.change
 change_of other = None

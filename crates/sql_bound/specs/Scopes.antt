@@ -9,13 +9,28 @@ use Rattle.eng_value.specs.declared.affinity.Affinity.{Affinity}
 use Rattle.eng_value.specs.declared.collation.Collation.{Collation}
 use Rattle.eng_value.specs.declared.modules.ModColumn.{ModColumn}
 use Rattle.sql_tree.specs.declared.query.Query.{Query}
-use Rattle.sql_bound.specs.Exprs.{BoundExpr}
-use Rattle.sql_bound.specs.Exprs as e
+use Rattle.bound_tree.specs.Exprs.{BoundExpr}
+use Rattle.bound_tree.specs.Exprs as e
 use Rattle.sql_meaning.specs.Binding.{Form}
-use Rattle.sql_bound.specs.Refusals.{Ambiguous, Checked}
-use Rattle.sql_bound.specs.Same.{same_expr}
-use Rattle.sql_bound.specs.Units.{BoundAggregate, BoundUnit}
+use Rattle.sql_bound.specs.Refusals.{Checked}
+use Rattle.bound_tree.specs.Same.{same_expr}
 use Rattle.sql_meaning.specs.Names.{is_named_in}
+use Rattle.bound_tree.specs.declared.units.BoundAggregate.{BoundAggregate}
+use Rattle.bound_tree.specs.declared.units.BoundUnit.{BoundUnit}
+use Rattle.eng_value.specs.declared.cause.Cause.TheVariants.{Ambiguous}
+use Rattle.sql_bound.specs.declared.scopes.ScopeColumn.{ScopeColumn}
+use Rattle.sql_bound.specs.declared.scopes.ScopeItem.{ScopeItem}
+use Rattle.sql_bound.specs.declared.scopes.Sight.{Sight}
+use Rattle.sql_bound.specs.declared.scopes.Need.{Need}
+use Rattle.sql_bound.specs.declared.scopes.Work.{Work}
+use Rattle.sql_bound.specs.declared.scopes.ResultColumn.{ResultColumn}
+use Rattle.sql_bound.specs.declared.scopes.Asked.{Asked}
+use Rattle.sql_bound.specs.declared.scopes.WithMeaning.{WithMeaning}
+use Rattle.sql_bound.specs.declared.scopes.WithEntry.{WithEntry}
+use Rattle.sql_bound.specs.declared.scopes.Allowed.{Allowed}
+use Rattle.sql_bound.specs.declared.scopes.Operand.{Operand}
+use Rattle.sql_bound.specs.declared.scopes.Standing.{Standing}
+use Rattle.sql_bound.specs.declared.scopes.Standing.TheVariants.{Nowhere, Taken}
 
 -- ---- what hosts tell of their names
 
@@ -35,22 +50,6 @@ pub record Around : Type 0 where
   pub facts : Facts
 
 -- ---- columns as names find them
-
--- a column: its name as declared, what it carries, and what it stands for over its FROM; joined where USING or NATURAL shows another in its place, hidden where `*` does not show it
-pub record ScopeColumn : Type 0 where
-  pub name : List ℕ
-  pub affinity : Affinity
-  pub collation : Collation
-  pub tree : BoundExpr
-  pub joined : Bool
-  pub hidden : Bool
-
--- an item of a FROM: the name by which its columns may be called, if it has one, its columns, its rowid, if it has one, and whether its columns may be called by their own names alone, which those of OLD and NEW may not
-pub record ScopeItem : Type 0 where
-  pub name : Option (List ℕ)
-  pub columns : List ScopeColumn
-  pub rowid : Option ScopeColumn
-  pub bare : Bool
 
 -- a FROM
 abbrev pub Level : Type 0
@@ -89,11 +88,6 @@ called_in table name item = if is_called table item.name then columns_named name
 
 -- ---- the nearest FROM that has a column of the name; two there are ambiguous
 
--- a column, and how many FROMs lie between
-pub record Sight : Type 0 where
-  pub up : ℕ
-  pub column : ScopeColumn
-
 -- a column by its name as declared, a rowid by the name that is written: it is ambiguous over any two tables, also where USING joins the columns that are their rowids
 abbrev pub name_of_ambiguous : List ℕ → ScopeColumn → List ℕ
 name_of_ambiguous name c = if is_same_name c.name name then c.name else folded name
@@ -116,16 +110,6 @@ abbrev pub nearest : List ℕ → (ScopeItem → List ScopeColumn) → List Leve
 nearest name candidates levels = nearest_from 0 name (λ level. counted_once (flat_map candidates level)) levels
 
 -- ---- what is gathered: the units of the statement so far, what the query needs from further out, and the aggregates of the core
-
--- what a query needs of the FROM that is so many further out: 0 is the FROM in which it is asked
-pub record Need : Type 0 where
-  pub up : ℕ
-  pub tree : BoundExpr
-
-pub record Work : Type 0 where
-  pub units : List BoundUnit
-  pub needs : List Need
-  pub aggregates : List BoundAggregate
 
 -- nothing is needed yet
 abbrev pub begun : List BoundUnit → Work
@@ -157,19 +141,6 @@ handed (n ∷ needs) w = let first = brought n.up n.tree w in let rest = handed 
 
 -- ---- queries as they are asked
 
--- a column that a query gives: its name, and the affinity, the written collation and the column's collation of what it stands for
-pub record ResultColumn : Type 0 where
-  pub name : List ℕ
-  pub affinity : Affinity
-  pub explicit : Option Collation
-  pub column : Option Collation
-
--- a query's unit, what it needs, and the columns that it gives
-pub record Asked : Type 0 where
-  pub unit : ℕ
-  pub needs : List Need
-  pub columns : List ResultColumn
-
 abbrev pub UnitsAnswer : Type 0 → Type 0
 UnitsAnswer A = Checked (A × List BoundUnit)
 
@@ -180,17 +151,6 @@ pub data Depth : Type 0 where
 
 -- ---- WITH tables
 
--- what the name of a WITH table means: the table that is being written, which may not be named where the name is met; or a table by its unit, whether it is recursive, and what it needs beside the FROM of the query in whose WITH it is written
-pub data WithMeaning : Type 0 where
-  Itself : WithMeaning
-  Bound : ℕ → Bool → List Need → List ResultColumn → WithMeaning
-
--- how many FROMs there are around the query in whose WITH it is written
-pub record WithEntry : Type 0 where
-  pub name : List ℕ
-  pub around : ℕ
-  pub meaning : WithMeaning
-
 abbrev pub with_named : List ℕ → List WithEntry → Option WithEntry
 with_named name entries = find (λ (t : WithEntry). is_same_name t.name name) entries
 
@@ -199,14 +159,6 @@ abbrev pub further : ℕ → Need → Need
 further distance n = record n { up = n.up + distance }
 
 -- ---- what an expression is bound in
-
--- what may stand in it: functions of hosts, queries, columns, parameters and RAISE
-pub record Allowed : Type 0 where
-  pub hosts : Bool
-  pub queries : Bool
-  pub columns : Bool
-  pub parameters : Bool
-  pub raises : Bool
 
 -- all that may stand in a statement
 abbrev pub in_statement : Allowed
@@ -221,21 +173,6 @@ pub record Outer : Type 0 where
   pub levels : List Level
   pub tables : List WithEntry
   pub allowed : Allowed
-
--- an expression whose names are bound: its tree; its affinity; the collation of the leftmost COLLATE in it; that of the column that it is; its form; what it is split into at the top of a WHERE; and the name of the column that it is
-pub record Operand : Type 0 where
-  pub tree : BoundExpr
-  pub affinity : Affinity
-  pub explicit : Option Collation
-  pub column : Option Collation
-  pub form : Form
-  pub conjuncts : List BoundExpr
-  pub name : Option (List ℕ)
-
--- where aggregates may stand they are taken by the query
-pub data Standing : Type 0 where
-  Taken : Standing
-  Nowhere : Standing
 
 -- a result that has a name, and what it comes to where the name stands, with aggregates as there
 pub record Alias : Type 0 where

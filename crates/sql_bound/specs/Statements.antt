@@ -20,15 +20,24 @@ use Rattle.sql_meaning.specs.Spelled.{name_at}
 use Rattle.sql_meaning.specs.Statement.{is_off}
 use Rattle.sql_bound.specs.Carriers.{Deletes, Inserts, Queries, RowParts, Updates}
 use Rattle.sql_bound.specs.Creates.{create_bound, name_of_entry}
-use Rattle.sql_bound.specs.Kinds as kind
-use Rattle.sql_bound.specs.Kinds.{Named}
-use Rattle.sql_bound.specs.Refusals.{Checked, Unknown}
+use Rattle.eng_value.specs.declared.cause.NameKind.TheVariants as kind
+use Rattle.sql_bound.specs.Refusals.{Checked}
 use Rattle.sql_bound.specs.Scopes.{Answer, Around, Outer, begun, in_statement}
 use Rattle.sql_bound.specs.Trees.{full_depth, of_rows, outer_at}
 use Rattle.sql_bound.specs.Triggers.{opening}
-use Rattle.sql_bound.specs.Units.{AModuleTable, ATable, ATrigger, AView, AnIndex, Asked, Begins, BoundCommand, BoundRemoval, BoundStatement, BoundTransaction, BoundUnit, Commits, Nothing, Releases, Removed, RollsBack, RollsBackTo, Saves, ThingKind, Transacted, Written}
-use Rattle.sql_bound.specs.Units as unit
 use Rattle.sql_bound.specs.Writes.{Begun, Opened, delete_begun, insert_begun, update_begun, write_bound}
+use Rattle.bound_tree.specs.declared.statements.BoundCommand.{BoundCommand}
+use Rattle.bound_tree.specs.declared.statements.BoundCommand.TheVariants.{Asked, Nothing, Removed, Transacted, Written}
+use Rattle.bound_tree.specs.declared.statements.BoundCommand.TheVariants as bound_command
+use Rattle.bound_tree.specs.declared.statements.BoundRemoval.{BoundRemoval}
+use Rattle.bound_tree.specs.declared.statements.BoundStatement.{BoundStatement}
+use Rattle.bound_tree.specs.declared.statements.BoundTransaction.{BoundTransaction}
+use Rattle.bound_tree.specs.declared.statements.BoundTransaction.TheVariants.{Begins, Commits, Releases, RollsBack, RollsBackTo, Saves}
+use Rattle.bound_tree.specs.declared.statements.ThingKind.{ThingKind}
+use Rattle.bound_tree.specs.declared.statements.ThingKind.TheVariants.{AModuleTable, ATable, ATrigger, AView, AnIndex}
+use Rattle.bound_tree.specs.declared.units.BoundUnit.{BoundUnit}
+use Rattle.eng_value.specs.declared.cause.Cause.TheVariants.{Unknown}
+use Rattle.eng_value.specs.declared.cause.NameKind.{NameKind}
 
 -- ---- a command, with the units and the triggers that it opens
 
@@ -51,7 +60,7 @@ rows_bound o (Deletes d) = written o.around (delete_begun o d (begun []))
 
 -- ---- DROP: a thing of the kind that is named
 
-abbrev pub removed_kind : ObjectKind → Named
+abbrev pub removed_kind : ObjectKind → NameKind
 removed_kind object.Table = kind.Table
 removed_kind object.Index = kind.Index
 removed_kind object.View = kind.View
@@ -112,7 +121,7 @@ transaction_bound o (transaction.Release t) = with_savepoint o (name_at o.text t
 
 abbrev pub pragma_bound : Outer → Pragma → Checked BoundCommand
 pragma_bound o p =
-    if is_same_name (name_at o.text p.name) (codes "foreign_keys") && is_off o.text p.value then Ok (unit.Pragma (codes "foreign_keys"))
+    if is_same_name (name_at o.text p.name) (codes "foreign_keys") && is_off o.text p.value then Ok (bound_command.Pragma (codes "foreign_keys"))
     else Err (Unknown kind.Pragma (name_at o.text p.name))
 
 -- ---- the whole

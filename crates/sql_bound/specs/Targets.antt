@@ -10,20 +10,28 @@ use Rattle.sql_tree.specs.declared.statement.TableDefinition.{TableDefinition}
 use Rattle.sql_tree.specs.declared.statement.TriggerDefinition.{TriggerDefinition}
 use Rattle.sql_tree.specs.declared.statement.TriggerEvent.{TriggerEvent}
 use Rattle.sql_tree.specs.declared.statement.TriggerEvent.TheVariants as event
-use Rattle.sql_bound.specs.Exprs.{BoundExpr}
+use Rattle.bound_tree.specs.Exprs.{BoundExpr}
 use Rattle.sql_meaning.specs.Binding.{◌>>=◌}
 use Rattle.sql_meaning.specs.Spelled.{name_at}
 use Rattle.sql_bound.specs.Carriers.{Expression}
-use Rattle.sql_bound.specs.Declared.{DeclaredColumn, DeclaredTable, declared_table, definition_of, is_empty, table_in, table_named, trigger_in}
-use Rattle.sql_bound.specs.Froms.{Inside, Sourced, nothing_found, of_catalog, plain_item, scope_item}
-use Rattle.sql_bound.specs.Kinds as kind
-use Rattle.sql_bound.specs.Refusals.{Checked, Misuse, Unknown}
-use Rattle.sql_bound.specs.Same.{both_same}
-use Rattle.sql_bound.specs.Scopes.{Allowed, Answer, Around, Level, Outer, Work, is_rowid_name, scope_over}
+use Rattle.sql_bound.specs.Declarations.{DeclaredColumn, DeclaredTable, declared_table, definition_of, is_empty, table_in, table_named, trigger_in}
+use Rattle.sql_bound.specs.Froms.{Inside, nothing_found, of_catalog, plain_item, scope_item}
+use Rattle.eng_value.specs.declared.cause.NameKind.TheVariants as kind
+use Rattle.sql_bound.specs.Refusals.{Checked}
+use Rattle.bound_tree.specs.Same.{both_same}
+use Rattle.sql_bound.specs.Scopes.{Answer, Around, Level, Outer, is_rowid_name, scope_over}
 use Rattle.sql_bound.specs.Trees.{full_depth, of_expr, of_query, outer_at, within}
 use Rattle.sql_bound.specs.Scopes.{in_statement}
-use Rattle.sql_bound.specs.Units.{AtDelete, AtInsert, AtUpdate, BoundSource, BoundTarget, FiringEvent}
-use Rattle.sql_bound.specs.Units as unit
+use Rattle.bound_tree.specs.declared.units.BoundColumn.{BoundColumn}
+use Rattle.bound_tree.specs.declared.units.BoundSource.{BoundSource}
+use Rattle.bound_tree.specs.declared.units.BoundSource.TheVariants as bound_source
+use Rattle.bound_tree.specs.declared.writes.BoundTarget.{BoundTarget}
+use Rattle.bound_tree.specs.declared.writes.FiringEvent.{FiringEvent}
+use Rattle.bound_tree.specs.declared.writes.FiringEvent.TheVariants.{AtDelete, AtInsert, AtUpdate}
+use Rattle.eng_value.specs.declared.cause.Cause.TheVariants.{Misuse, Unknown}
+use Rattle.sql_bound.specs.declared.froms.Sourced.{Sourced}
+use Rattle.sql_bound.specs.declared.scopes.Allowed.{Allowed}
+use Rattle.sql_bound.specs.declared.scopes.Work.{Work}
 
 -- ---- which column a write names: a column, or the rowid where no column is the rowid
 
@@ -36,7 +44,7 @@ or_rowid s name (Some place) = Some (Some place)
 or_rowid s name None = rowid_place s name
 
 abbrev pub place_written : Sourced → List ℕ → Option (Option ℕ)
-place_written s name = or_rowid s name (position (λ (c : unit.BoundColumn). is_same_name c.name name) s.columns)
+place_written s name = or_rowid s name (position (λ (c : BoundColumn). is_same_name c.name name) s.columns)
 
 abbrev pub found_place : List ℕ → Option (Option ℕ) → Checked (Option ℕ)
 found_place name None = Err (Unknown kind.Column name)
@@ -173,7 +181,7 @@ may_write_module around name None = by_module (around.facts.host_module name)
 
 -- a view needs a trigger that can fire
 abbrev pub may_write_view : Around → Sourced → Firing → BoundSource → Checked (Unit {0})
-may_write_view around s f (unit.View view u) = if_writable view (list_any (can_fire view s f) around.catalog.triggers)
+may_write_view around s f (bound_source.View view u) = if_writable view (list_any (can_fire view s f) around.catalog.triggers)
 may_write_view around s f other = Ok tt
 
 abbrev pub shown_name : List ℕ → Option (List ℕ) → List ℕ

@@ -14,7 +14,8 @@ use Rattle.sql_bound.specs.Carriers.{All, AllOf, ArmParts, CommonTableLayer, Com
 use Rattle.sql_bound.specs.Expressions.{arm_step, expr_step}
 use Rattle.sql_bound.specs.Limits.{most_queries}
 use Rattle.sql_bound.specs.Recursions.{parts_of_query}
-use Rattle.sql_bound.specs.Scopes.{Allowed, Around, Bottom, Deeper, Depth, Level, Outer, in_statement}
+use Rattle.sql_bound.specs.Scopes.{Around, Bottom, Deeper, Depth, Level, Outer, in_statement}
+use Rattle.sql_bound.specs.declared.scopes.Allowed.{Allowed}
 
 -- ---- the steps
 

@@ -15,21 +15,32 @@ use Rattle.eng_value.specs.declared.affinity.Affinity.TheVariants as affinity
 use Rattle.sql_tree.specs.declared.statement.Command.TheVariants as command
 use Rattle.sql_tree.specs.declared.statement.Transaction.TheVariants as transaction
 use Rattle.sql_meaning.specs.Binding.{by_bytes}
-use Rattle.sql_bound.specs.Froms.{Sourced, plain_source}
+use Rattle.sql_bound.specs.Froms.{plain_source}
 use Rattle.sql_bound.specs.Targets.{may_write_view}
 use Rattle.sql_meaning.specs.Spelled.{the_text_test}
 use Rattle.sql_bound.specs.Carriers.{All, Deletes, Expression, InsertParts, Inserts, Queries, QueryParts, RowParts, TriggerParts, Updates}
-use Rattle.sql_bound.specs.Exprs.{BoundExpr}
-use Rattle.sql_bound.specs.Exprs as e
-use Rattle.sql_bound.specs.Kinds as kind
-use Rattle.sql_bound.specs.Refusals.{Checked, Misuse, Refusal, Unknown, Untold}
+use Rattle.bound_tree.specs.Exprs.{BoundExpr}
+use Rattle.bound_tree.specs.Exprs as e
+use Rattle.eng_value.specs.declared.cause.NameKind.TheVariants as kind
+use Rattle.sql_bound.specs.Refusals.{Checked}
+use Rattle.eng_value.specs.declared.cause.Cause.TheVariants.{NotYet}
 use Rattle.sql_bound.specs.Samples.{around_of, asked_by, asked_in, col, common, core, dot, insert, lit, named, no_facts, no_token, query, raise_ignore, refusal_of, res, results_at, scalar, set, sources_at, units_of, update, values, why, with_tables}
-use Rattle.sql_bound.specs.Scopes.{Around, Asked, UnitsAnswer, begun, in_statement}
+use Rattle.sql_bound.specs.Scopes.{Around, UnitsAnswer, begun, in_statement}
 use Rattle.sql_bound.specs.Statements.{nothing_opened}
 use Rattle.sql_bound.specs.Trees.{full_depth, outer_at}
 use Rattle.sql_bound.specs.Triggers.{opening_of}
-use Rattle.sql_bound.specs.Units.{Asks, AtUpdate, BoundStep, BoundTrigger, BoundWrite, Given, Table, View, Writes}
 use Rattle.sql_bound.specs.Writes.{Opened, delete_begun, insert_begun, update_begun, write_bound}
+use Rattle.bound_tree.specs.declared.units.BoundSource.TheVariants.{Table, View}
+use Rattle.bound_tree.specs.declared.writes.BoundStep.{BoundStep}
+use Rattle.bound_tree.specs.declared.writes.BoundStep.TheVariants.{Asks, Writes}
+use Rattle.bound_tree.specs.declared.writes.BoundTrigger.{BoundTrigger}
+use Rattle.bound_tree.specs.declared.writes.BoundWrite.{BoundWrite}
+use Rattle.bound_tree.specs.declared.writes.FiringEvent.TheVariants.{AtUpdate}
+use Rattle.eng_value.specs.declared.cause.Cause.{Cause}
+use Rattle.eng_value.specs.declared.cause.Cause.TheVariants.{Misuse, Unknown}
+use Rattle.sql_bound.specs.declared.froms.Sourced.{Sourced}
+use Rattle.bound_tree.specs.declared.units.BoundSource.TheVariants.{Given}
+use Rattle.sql_bound.specs.declared.scopes.Asked.{Asked}
 
 -- ---- a view: its query is bound in its own text, and its list of columns must fit
 
@@ -127,7 +138,7 @@ written text tree = by_parts (tree (tokens_of text))
     by_parts (Updates u) = write_bound (opening_of parts_of with_triggers 2) with_triggers true (update_begun (outer_at with_triggers (full_depth with_triggers) text [] in_statement) u (begun [])) nothing_opened
     by_parts (Deletes d) = write_bound (opening_of parts_of with_triggers 2) with_triggers true (delete_begun (outer_at with_triggers (full_depth with_triggers) text [] in_statement) d (begun [])) nothing_opened
     by_parts (Inserts i) = write_bound (opening_of parts_of with_triggers 2) with_triggers true (insert_begun (outer_at with_triggers (full_depth with_triggers) text [] in_statement) i (begun [])) nothing_opened
-    by_parts (Queries q) = Err Untold
+    by_parts (Queries q) = Err NotYet
 
 abbrev fires_of : Checked (BoundWrite × Opened) → List ℕ
 fires_of (Ok w) = w.0.fires
@@ -156,7 +167,7 @@ unfolding all_statement_rules count tokens_of word_kind the_text_test
 each_once = refl
 
 -- an INSERT has no OLD, and RAISE may stand in a trigger
-abbrev body_refused : TriggerParts → Option Refusal
+abbrev body_refused : TriggerParts → Option Cause
 body_refused t = why (opening_of (λ entry. Some t) with_triggers 2 u_source u_entry nothing_opened)
   where
     u_source : Sourced
@@ -195,7 +206,7 @@ replaces = (refl, refl)
 
 -- ---- a view without a trigger that can fire cannot be written
 
-abbrev view_written : List (List ℕ) → Option Refusal
+abbrev view_written : List (List ℕ) → Option Cause
 view_written triggers = why (may_write_view (around_of [] triggers) (plain_source (Some (codes "v")) (View (codes "v") 0) (record { name = codes "x"; affinity = affinity.Blob; collation = by_bytes } ∷ record { name = codes "y"; affinity = affinity.Blob; collation = by_bytes } ∷ [])) (record { event = AtUpdate; sets = codes "Y" ∷ [] }) (View (codes "v") 0))
 
 views_written : (view_written [] ≡ Some (Misuse (codes "v"))) × (view_written (codes "CREATE TRIGGER g INSTEAD OF DELETE ON v BEGIN SELECT 1; END" ∷ []) ≡ Some (Misuse (codes "v"))) × (view_written (codes "CREATE TRIGGER g INSTEAD OF UPDATE OF x ON v BEGIN SELECT 1; END" ∷ []) ≡ Some (Misuse (codes "v"))) × (view_written (codes "CREATE TRIGGER g INSTEAD OF UPDATE OF y ON V BEGIN SELECT 1; END" ∷ []) ≡ None)

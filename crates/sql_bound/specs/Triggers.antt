@@ -5,16 +5,27 @@ use Rattle.eng_entry.specs.Names.{is_same_name}
 use Rattle.eng_entry.specs.declared.entry.Entry.{Entry}
 use Rattle.sql_tree.specs.declared.statement.TriggerEvent.{TriggerEvent}
 use Rattle.sql_tree.specs.declared.statement.TriggerEvent.TheVariants as event
-use Rattle.sql_bound.specs.Exprs.{BoundExpr}
+use Rattle.bound_tree.specs.Exprs.{BoundExpr}
 use Rattle.sql_meaning.specs.Binding.{◌>>=◌}
 use Rattle.sql_bound.specs.Carriers.{Deletes, Expression, Inserts, Queries, RowParts, TriggerParts, Updates}
-use Rattle.sql_bound.specs.Declared.{definition_of, trigger_in}
-use Rattle.sql_bound.specs.Froms.{Sourced, plain_item, scope_item}
-use Rattle.sql_bound.specs.Refusals.{Checked, Untold}
-use Rattle.sql_bound.specs.Scopes.{Allowed, Answer, Around, Level, Outer, ScopeItem, begun, in_statement, scope_over}
+use Rattle.sql_bound.specs.Declarations.{definition_of, trigger_in}
+use Rattle.sql_bound.specs.Froms.{plain_item, scope_item}
+use Rattle.sql_bound.specs.Refusals.{Checked}
+use Rattle.eng_value.specs.declared.cause.Cause.TheVariants.{Unknown}
+use Rattle.eng_value.specs.declared.cause.NameKind.TheVariants as kind
+use Rattle.sql_bound.specs.Scopes.{Answer, Around, Level, Outer, begun, in_statement, scope_over}
 use Rattle.sql_bound.specs.Trees.{full_depth, of_trigger, outer_at, within}
-use Rattle.sql_bound.specs.Units.{Asks, AtDelete, AtInsert, AtUpdate, BoundItem, BoundStep, BoundTrigger, FiringEvent, Given, Writes}
 use Rattle.sql_bound.specs.Writes.{Begun, Opened, Opening, captures_of, delete_begun, insert_begun, update_begun, write_bound}
+use Rattle.bound_tree.specs.declared.units.BoundItem.{BoundItem}
+use Rattle.bound_tree.specs.declared.writes.BoundStep.{BoundStep}
+use Rattle.bound_tree.specs.declared.writes.BoundStep.TheVariants.{Asks, Writes}
+use Rattle.bound_tree.specs.declared.writes.BoundTrigger.{BoundTrigger}
+use Rattle.bound_tree.specs.declared.writes.FiringEvent.{FiringEvent}
+use Rattle.bound_tree.specs.declared.writes.FiringEvent.TheVariants.{AtDelete, AtInsert, AtUpdate}
+use Rattle.sql_bound.specs.declared.froms.Sourced.{Sourced}
+use Rattle.bound_tree.specs.declared.units.BoundSource.TheVariants.{Given}
+use Rattle.sql_bound.specs.declared.scopes.Allowed.{Allowed}
+use Rattle.sql_bound.specs.declared.scopes.ScopeItem.{ScopeItem}
 
 -- ---- OLD and NEW: items 0 and 1, whose columns are called by the item's name and their own
 
@@ -84,7 +95,7 @@ trigger_at_place opening around s entry t place opened =
     Ok (place, with_trigger place (record (header_of entry s t) { condition = c.0; body = b.0 }) b.1)
 
 abbrev pub opened_now : Opening → Around → Sourced → Entry → Option TriggerParts → Opened → Checked (ℕ × Opened)
-opened_now opening around s entry None opened = Err Untold
+opened_now opening around s entry None opened = Err (Unknown kind.Trigger entry.name)
 opened_now opening around s entry (Some t) opened = trigger_at_place opening around s entry t (length opened.triggers) opened
 
 abbrev pub place_of_trigger : List ℕ → List BoundTrigger → Option ℕ
@@ -96,7 +107,7 @@ opened_or None opened now = now
 
 -- so many triggers are not opened yet: none is the last, since each is opened once
 abbrev pub opening_of : (Entry → Option TriggerParts) → Around → ℕ → Opening
-opening_of parts around zero s entry opened = opened_or (place_of_trigger entry.name opened.triggers) opened (Err Untold)
+opening_of parts around zero s entry opened = opened_or (place_of_trigger entry.name opened.triggers) opened (Err (Unknown kind.Trigger entry.name))
 opening_of parts around (suc n) s entry opened =
     opened_or (place_of_trigger entry.name opened.triggers) opened (opened_now (opening_of parts around n) around s entry (parts entry) opened)
 

@@ -10,11 +10,11 @@ use Rattle.sql_tree.specs.declared.token.Token.{Token}
 use Rattle.sql_meaning.specs.Spelled.{the_text_test}
 use Rattle.sql_bound.specs.Carriers.{All, QueryParts, Select}
 use Rattle.sql_bound.specs.Recursions.{parts_of_query}
-use Rattle.sql_bound.specs.Exprs as e
-use Rattle.sql_bound.specs.Kinds as kind
-use Rattle.sql_bound.specs.Refusals.{Arity, Misuse, Unknown}
+use Rattle.bound_tree.specs.Exprs as e
+use Rattle.eng_value.specs.declared.cause.NameKind.TheVariants as kind
 use Rattle.sql_bound.specs.Samples.{both, bound, by, col, common, compound, core, exists, lit, named, query, refused, res, res_as, results_at, scalar, sources_at, span, starred, with_tables}
-use Rattle.sql_bound.specs.Units.{Queue, Recursive, With}
+use Rattle.bound_tree.specs.declared.units.BoundSource.TheVariants.{Queue, Recursive, With}
+use Rattle.eng_value.specs.declared.cause.Cause.TheVariants.{Arity, Misuse, Unknown}
 
 -- bound where it is written, though nothing uses it
 never_used : refused (codes "WITH c AS (SELECT nosuch) SELECT 1") (λ t. with_tables (common t 1 [] (query (core (res t (col t 5) 5 5 ∷ []) [] None)) ∷ []) (core (res t (lit t 8) 8 8 ∷ []) [] None)) ≡ Some (Unknown kind.Column (codes "nosuch"))

@@ -5,8 +5,12 @@ use Rattle.sql_meaning.specs.Spelled.{name_at}
 use Rattle.sql_bound.specs.Carriers.{TableParts}
 use Rattle.sql_bound.specs.Froms.{Inside, beside_from}
 use Rattle.sql_bound.specs.Limits.{within_columns}
-use Rattle.sql_bound.specs.Scopes.{Asked, Bound, UnitsAnswer, WithEntry}
-use Rattle.sql_bound.specs.Units.{BoundUnit, Recursed}
+use Rattle.sql_bound.specs.Scopes.{UnitsAnswer}
+use Rattle.bound_tree.specs.declared.units.BoundUnit.{BoundUnit}
+use Rattle.bound_tree.specs.declared.units.BoundUnit.TheVariants.{Recursed}
+use Rattle.sql_bound.specs.declared.scopes.Asked.{Asked}
+use Rattle.sql_bound.specs.declared.scopes.WithEntry.{WithEntry}
+use Rattle.sql_bound.specs.declared.scopes.WithMeaning.TheVariants.{Bound}
 
 abbrev pub is_recursion : Option BoundUnit → Bool
 is_recursion (Some (Recursed r)) = true

@@ -6,12 +6,12 @@ use Rattle.sql_lex.specs.Pieces.{word_kind}
 use Rattle.sql_lex.specs.Tokens.{tokens_of}
 use Rattle.sql_tree.specs.declared.statement.ConflictChoice.TheVariants as choice
 use Rattle.sql_meaning.specs.Spelled.{the_text_test}
-use Rattle.sql_bound.specs.Exprs as e
-use Rattle.sql_bound.specs.Kinds as kind
-use Rattle.sql_bound.specs.Refusals.{Arity, Misuse, Unknown}
+use Rattle.bound_tree.specs.Exprs as e
+use Rattle.eng_value.specs.declared.cause.NameKind.TheVariants as kind
 use Rattle.sql_bound.specs.Samples.{around_of, change_of, col, commanded, commanded_over, core, delete, dot, insert, lit, query, refused_write, res, set, starred, update, values, why}
 use Rattle.sql_bound.specs.Scopes.{Around}
-use Rattle.sql_bound.specs.Units.{Inserted, Updated}
+use Rattle.bound_tree.specs.declared.writes.BoundChange.TheVariants.{Inserted, Updated}
+use Rattle.eng_value.specs.declared.cause.Cause.TheVariants.{Arity, Misuse, Unknown}
 
 -- ---- the target, the columns, and then the source
 

@@ -12,17 +12,30 @@ ghost use Rattle.sql_bound.specs.Expressions.{asked, expr_step};
 ghost use Rattle.sql_bound.specs.Carriers.{ConstraintParts, Expression, ItemParts, On, ResultParts, Unconstrained, Using};
 ghost use Rattle.sql_bound.specs.Columns.{alias_named, called_column_bound, column_bound, name_shown};
 ghost use Rattle.sql_bound.specs.Compounds.{row_bound};
-ghost use Rattle.sql_bound.specs.Exprs.{BoundExpr};
-ghost use Rattle.sql_bound.specs.Exprs as bound;
-ghost use Rattle.sql_bound.specs.Froms.{Found, Inside, Joining, QueueTable, Sourced, common_names, constrained, is_any, items_found, joined_to, nothing_found, scope_item, using_all, using_one};
-ghost use Rattle.sql_bound.specs.Kinds as kind;
-ghost use Rattle.sql_bound.specs.Operands.{as_one, column_operand};
-ghost use Rattle.sql_bound.specs.Refusals.{Ambiguous, Misuse, Refusal, Unknown};
-ghost use Rattle.sql_bound.specs.Results.{ResultScope, Shown, nothing_shown, results_bound};
-ghost use Rattle.sql_bound.specs.Same.{same_expr};
-ghost use Rattle.sql_bound.specs.Scopes.{Alias, Asked, Level, Need, Operand, Scope, ScopeColumn, ScopeItem, UnitsAnswer, WithEntry, Work, bare_in, called_in, columns_named, counted_once, handed, is_need, name_of_ambiguous, nearest, needed, unjoined, with_named};
+ghost use Rattle.bound_tree.specs.Exprs.{BoundExpr};
+ghost use Rattle.bound_tree.specs.Exprs as bound;
+ghost use Rattle.sql_bound.specs.Froms.{Inside, common_names, constrained, is_any, items_found, joined_to, nothing_found, scope_item, using_all, using_one};
+ghost use Rattle.eng_value.specs.declared.cause.NameKind.TheVariants as kind;
+ghost use Rattle.sql_bound.specs.Operands.{column_operand};
+ghost use Rattle.sql_bound.specs.Results.{ResultScope, nothing_shown, results_bound};
+ghost use Rattle.bound_tree.specs.Same.{same_expr};
+ghost use Rattle.sql_bound.specs.Scopes.{Alias, Level, Scope, UnitsAnswer, bare_in, called_in, columns_named, counted_once, handed, is_need, name_of_ambiguous, nearest, needed, unjoined, with_named};
 ghost use Rattle.sql_bound.specs.Trees.{of_expr, of_query};
 ghost use Rattle.sql_meaning.specs.Spelled.{name_at};
+ghost use Rattle.eng_value.specs.declared.cause.Cause.{Cause};
+ghost use Rattle.eng_value.specs.declared.cause.Cause.TheVariants.{Ambiguous, Misuse, Unknown};
+ghost use Rattle.sql_bound.specs.declared.froms.Found.{Found};
+ghost use Rattle.sql_bound.specs.declared.froms.Joining.{Joining};
+ghost use Rattle.sql_bound.specs.declared.froms.QueueTable.{QueueTable};
+ghost use Rattle.sql_bound.specs.declared.froms.Sourced.{Sourced};
+ghost use Rattle.sql_bound.specs.declared.queries.Shown.{Shown};
+ghost use Rattle.sql_bound.specs.declared.scopes.Asked.{Asked};
+ghost use Rattle.sql_bound.specs.declared.scopes.Need.{Need};
+ghost use Rattle.sql_bound.specs.declared.scopes.Operand.{Operand};
+ghost use Rattle.sql_bound.specs.declared.scopes.ScopeColumn.{ScopeColumn};
+ghost use Rattle.sql_bound.specs.declared.scopes.ScopeItem.{ScopeItem};
+ghost use Rattle.sql_bound.specs.declared.scopes.WithEntry.{WithEntry};
+ghost use Rattle.sql_bound.specs.declared.scopes.Work.{Work};
 
 /// An expression comes to what its parts come to, by one step, and so does one that asks a query.
 pub fn trees_come_to_their_parts()
@@ -45,8 +58,8 @@ pub fn the_nearest_from_decides()
 pub fn a_column_comes_before_a_result()
     ensures own { (s : Scope) (own : Level) (outer : List Level) (name : List ℕ) (w : Work) (c : ScopeColumn) → s.outer.allowed.columns ≡ true → s.outer.levels ≡ own ∷ outer → counted_once (flat_map (bare_in name) own) ≡ c ∷ [] → column_bound s name w ≡ Ok (column_operand c c.tree, w) }
     ensures ambiguous { (s : Scope) (own : Level) (outer : List Level) (name : List ℕ) (w : Work) (c d : ScopeColumn) (others : List ScopeColumn) → s.outer.allowed.columns ≡ true → s.outer.levels ≡ own ∷ outer → counted_once (flat_map (bare_in name) own) ≡ c ∷ (d ∷ others) → column_bound s name w ≡ Err (Ambiguous (name_of_ambiguous name c)) }
-    ensures result { (s : Scope) (own : Level) (outer : List Level) (name : List ℕ) (w : Work) (a : Alias) (x : Operand) (v : Work) → s.outer.allowed.columns ≡ true → s.outer.levels ≡ own ∷ outer → flat_map (bare_in name) own ≡ [] → alias_named name s.aliases ≡ Some a → a.shown s.aggregates w ≡ Ok (x, v) → column_bound s name w ≡ Ok (as_one x, v) }
-    ensures refused_result { (s : Scope) (own : Level) (outer : List Level) (name : List ℕ) (w : Work) (a : Alias) (why : Refusal) → s.outer.allowed.columns ≡ true → s.outer.levels ≡ own ∷ outer → flat_map (bare_in name) own ≡ [] → alias_named name s.aliases ≡ Some a → a.shown s.aggregates w ≡ Err why → column_bound s name w ≡ Err why }
+    ensures result { (s : Scope) (own : Level) (outer : List Level) (name : List ℕ) (w : Work) (a : Alias) (x : Operand) (v : Work) → s.outer.allowed.columns ≡ true → s.outer.levels ≡ own ∷ outer → flat_map (bare_in name) own ≡ [] → alias_named name s.aliases ≡ Some a → a.shown s.aggregates w ≡ Ok (x, v) → column_bound s name w ≡ Ok (x, v) }
+    ensures refused_result { (s : Scope) (own : Level) (outer : List Level) (name : List ℕ) (w : Work) (a : Alias) (why : Cause) → s.outer.allowed.columns ≡ true → s.outer.levels ≡ own ∷ outer → flat_map (bare_in name) own ≡ [] → alias_named name s.aliases ≡ Some a → a.shown s.aggregates w ≡ Err why → column_bound s name w ≡ Err why }
     ensures further_out { (s : Scope) (own : Level) (outer : List Level) (name : List ℕ) (w : Work) (up : ℕ) (c : ScopeColumn) → s.outer.allowed.columns ≡ true → s.outer.levels ≡ own ∷ outer → flat_map (bare_in name) own ≡ [] → alias_named name s.aliases ≡ None → nearest name (bare_in name) outer ≡ Ok (Some (record { up = up; column = c })) → column_bound s name w ≡ Ok (column_operand c (needed (record { up = up; tree = c.tree }) w).0, (needed (record { up = up; tree = c.tree }) w).1) }
     ensures unknown { (s : Scope) (own : Level) (outer : List Level) (name : List ℕ) (w : Work) → s.outer.allowed.columns ≡ true → s.outer.levels ≡ own ∷ outer → flat_map (bare_in name) own ≡ [] → alias_named name s.aliases ≡ None → nearest name (bare_in name) outer ≡ Ok None → column_bound s name w ≡ Err (Unknown kind.Column name) }
     ensures behind_a_table { (s : Scope) (results : List Alias) (table name : List ℕ) (w : Work) → called_column_bound (record s { aliases = results }) table name w ≡ called_column_bound s table name w }

@@ -5,9 +5,31 @@ use denote.Enum.Bare.{sameb}
 use Rattle.eng_entry.specs.Names.{is_same_name}
 use Rattle.eng_value.specs.contracts.modules.ColumnKind as column_kind
 use Rattle.sql_tree.specs.contracts.query.CompoundOp as compound_op
-use Rattle.sql_bound.specs.Same.{all_same, both_same, same_affinity, same_collation, same_expr, same_exprs, same_truth}
-use Rattle.sql_bound.specs.Units.{AggregateKind, CountRows, Count, Sum, Min, Max, GroupConcat, HostAggregate, BoundAggregate, BoundColumn, BoundCompound, BoundCore, BoundGroups, BoundIndex, BoundItem, BoundKey, BoundPart, BoundQuery, BoundRecursion, BoundSource, BoundTerm, BoundUnit, IndexPart, JoinKind, TermKey}
-use Rattle.sql_bound.specs.Units as unit
+use Rattle.bound_tree.specs.Same.{all_same, both_same, same_affinity, same_collation, same_expr, same_exprs, same_truth}
+use Rattle.bound_tree.specs.declared.units.AggregateKind.{AggregateKind}
+use Rattle.bound_tree.specs.declared.units.AggregateKind.TheVariants.{Count, CountRows, GroupConcat, HostAggregate, Max, Min, Sum}
+use Rattle.bound_tree.specs.declared.units.BoundAggregate.{BoundAggregate}
+use Rattle.bound_tree.specs.declared.units.BoundColumn.{BoundColumn}
+use Rattle.bound_tree.specs.declared.units.BoundCompound.{BoundCompound}
+use Rattle.bound_tree.specs.declared.units.BoundCore.{BoundCore}
+use Rattle.bound_tree.specs.declared.units.BoundGroups.{BoundGroups}
+use Rattle.bound_tree.specs.declared.units.BoundIndex.{BoundIndex}
+use Rattle.bound_tree.specs.declared.units.BoundItem.{BoundItem}
+use Rattle.bound_tree.specs.declared.units.BoundKey.{BoundKey}
+use Rattle.bound_tree.specs.declared.units.BoundPart.{BoundPart}
+use Rattle.bound_tree.specs.declared.units.BoundPart.TheVariants as bound_part
+use Rattle.bound_tree.specs.declared.units.BoundQuery.{BoundQuery}
+use Rattle.bound_tree.specs.declared.units.BoundRecursion.{BoundRecursion}
+use Rattle.bound_tree.specs.declared.units.BoundSource.{BoundSource}
+use Rattle.bound_tree.specs.declared.units.BoundSource.TheVariants as bound_source
+use Rattle.bound_tree.specs.declared.units.BoundTerm.{BoundTerm}
+use Rattle.bound_tree.specs.declared.units.BoundUnit.{BoundUnit}
+use Rattle.bound_tree.specs.declared.units.BoundUnit.TheVariants as bound_unit
+use Rattle.bound_tree.specs.declared.units.IndexPart.{IndexPart}
+use Rattle.bound_tree.specs.declared.units.JoinKind.{JoinKind}
+use Rattle.bound_tree.specs.declared.units.JoinKind.TheVariants as join_kind
+use Rattle.bound_tree.specs.declared.units.TermKey.{TermKey}
+use Rattle.bound_tree.specs.declared.units.TermKey.TheVariants as term_key
 
 abbrev pub same_column : BoundColumn → BoundColumn → Bool
 same_column a b = is_same_name a.name b.name && same_affinity a.affinity b.affinity && same_collation a.collation b.collation
@@ -19,19 +41,19 @@ abbrev pub same_index : BoundIndex → BoundIndex → Bool
 same_index a b = nat_eq a.number b.number && bytes_eq a.name b.name && same_truth a.unique b.unique && all_same same_part_of_index a.parts b.parts
 
 abbrev pub same_source : BoundSource → BoundSource → Bool
-same_source unit.Given unit.Given = true
-same_source (unit.Table a m) (unit.Table b n) = bytes_eq a b && nat_eq m n
-same_source (unit.Module a h m xs) (unit.Module b i n ys) = is_same_name a b && is_same_name h i && nat_eq m n && same_exprs xs ys
-same_source (unit.View a m) (unit.View b n) = bytes_eq a b && nat_eq m n
-same_source (unit.Query m xs) (unit.Query n ys) = nat_eq m n && same_exprs xs ys
-same_source (unit.With m xs) (unit.With n ys) = nat_eq m n && same_exprs xs ys
-same_source (unit.Recursive m xs) (unit.Recursive n ys) = nat_eq m n && same_exprs xs ys
-same_source unit.Queue unit.Queue = true
+same_source bound_source.Given bound_source.Given = true
+same_source (bound_source.Table a m) (bound_source.Table b n) = bytes_eq a b && nat_eq m n
+same_source (bound_source.Module a h m xs) (bound_source.Module b i n ys) = is_same_name a b && is_same_name h i && nat_eq m n && same_exprs xs ys
+same_source (bound_source.View a m) (bound_source.View b n) = bytes_eq a b && nat_eq m n
+same_source (bound_source.Query m xs) (bound_source.Query n ys) = nat_eq m n && same_exprs xs ys
+same_source (bound_source.With m xs) (bound_source.With n ys) = nat_eq m n && same_exprs xs ys
+same_source (bound_source.Recursive m xs) (bound_source.Recursive n ys) = nat_eq m n && same_exprs xs ys
+same_source bound_source.Queue bound_source.Queue = true
 same_source _ _ = false
 
 abbrev pub same_join : JoinKind → JoinKind → Bool
-same_join unit.Inner unit.Inner = true
-same_join unit.Left unit.Left = true
+same_join join_kind.Inner join_kind.Inner = true
+same_join join_kind.Left join_kind.Left = true
 same_join _ _ = false
 
 abbrev pub same_item : BoundItem → BoundItem → Bool
@@ -66,16 +88,16 @@ same_core a b =
     && all_same same_collation a.collations b.collations && same_truth a.distinct b.distinct
 
 abbrev pub same_part : BoundPart → BoundPart → Bool
-same_part (unit.Select a) (unit.Select b) = same_core a b
-same_part (unit.Values a) (unit.Values b) = all_same same_exprs a b
+same_part (bound_part.Select a) (bound_part.Select b) = same_core a b
+same_part (bound_part.Values a) (bound_part.Values b) = all_same same_exprs a b
 same_part _ _ = false
 
 abbrev pub same_compound : BoundCompound → BoundCompound → Bool
 same_compound a b = sameb compound_op.the_type a.op b.op && same_part a.part b.part && all_same same_collation a.collations b.collations
 
 abbrev pub same_term_key : TermKey → TermKey → Bool
-same_term_key (unit.Result m) (unit.Result n) = nat_eq m n
-same_term_key (unit.Expression a) (unit.Expression b) = same_expr a b
+same_term_key (term_key.Result m) (term_key.Result n) = nat_eq m n
+same_term_key (term_key.Expression a) (term_key.Expression b) = same_expr a b
 same_term_key _ _ = false
 
 abbrev pub same_term : BoundTerm → BoundTerm → Bool
@@ -97,6 +119,6 @@ same_recursion a b =
     && all_same same_collation a.collations b.collations && both_same same_expr a.limit b.limit && both_same same_expr a.offset b.offset && all_same same_column a.columns b.columns
 
 abbrev pub same_unit : BoundUnit → BoundUnit → Bool
-same_unit (unit.Queried a) (unit.Queried b) = same_query a b
-same_unit (unit.Recursed a) (unit.Recursed b) = same_recursion a b
+same_unit (bound_unit.Queried a) (bound_unit.Queried b) = same_query a b
+same_unit (bound_unit.Recursed a) (bound_unit.Recursed b) = same_recursion a b
 same_unit _ _ = false

@@ -31,7 +31,9 @@ use Rattle.sql_meaning.specs.Binding.{by_bytes, collation_named, or_else}
 use Rattle.sql_meaning.specs.Declarations.{type_affinity}
 use Rattle.sql_meaning.specs.Spelled.{name_at}
 use Rattle.sql_bound.specs.Scopes.{Facts}
-use Rattle.sql_bound.specs.Units.{BoundColumn, BoundIndex, IndexPart}
+use Rattle.bound_tree.specs.declared.units.BoundColumn.{BoundColumn}
+use Rattle.bound_tree.specs.declared.units.BoundIndex.{BoundIndex}
+use Rattle.bound_tree.specs.declared.units.IndexPart.{IndexPart}
 
 -- ---- columns
 

@@ -1,0 +1,5 @@
+pub mod Exprs
+pub mod Seen
+pub mod SeenLaws
+pub mod Same
+pub mod SameUnits

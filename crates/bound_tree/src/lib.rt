@@ -1,0 +1,23 @@
+//! Statements whose names are bound: the trees of their expressions, their units, writes and triggers.
+#![tactic(auto)]
+
+mod expr;
+mod statements;
+mod tree;
+mod units;
+mod writes;
+
+pub use expr::BoundExpr;
+pub use statements::{
+    BoundCommand, BoundCreation, BoundRemoval, BoundStatement, BoundTransaction, ThingKind,
+};
+pub use tree::{ArmTree, ExprTree, MatchTree};
+pub use units::{
+    AggregateKind, BoundAggregate, BoundColumn, BoundCompound, BoundCore, BoundGroups, BoundIndex,
+    BoundItem, BoundKey, BoundPart, BoundQuery, BoundRecursion, BoundSource, BoundTerm, BoundUnit,
+    IndexPart, JoinKind, TermKey,
+};
+pub use writes::{
+    BoundChange, BoundReturning, BoundSet, BoundStep, BoundTarget, BoundTrigger, BoundUpsert,
+    BoundWrite, ConflictTest, FiringEvent,
+};
