@@ -4,27 +4,27 @@ use Rattle.std.specs.Ordering.{is_eq}
 use Rattle.std.specs.Str.{bytes_eq}
 use denote.Enum.Bare.{sameb}
 use Rattle.eng_entry.specs.Names.{is_same_name}
-use Rattle.eng_value.specs.Compare.{value_cmp}
 use Rattle.eng_value.specs.CauseText.{text_of}
-use Rattle.eng_value.specs.declared.affinity.Affinity.{Affinity}
+use Rattle.eng_value.specs.Compare.{value_cmp}
 use Rattle.eng_value.specs.contracts.affinity.Affinity as affinity
 use Rattle.eng_value.specs.contracts.built.Built as built
-use Rattle.eng_value.specs.declared.builtin.Builtin.{Builtin}
 use Rattle.eng_value.specs.contracts.builtin.Builtin as builtin
-use Rattle.eng_value.specs.declared.collation.Collation.{Collation}
-use Rattle.eng_value.specs.declared.collation.Collation.TheVariants as collation
 use Rattle.eng_value.specs.contracts.compare_op.CompareOp as compare_op
 use Rattle.eng_value.specs.contracts.operators.ArithmeticOp as arithmetic
 use Rattle.eng_value.specs.contracts.operators.IntegerOp as integer
-use Rattle.eng_value.specs.declared.operators.BinaryOperator.{BinaryOperator}
+use Rattle.eng_value.specs.declared.affinity.Affinity.{Affinity}
+use Rattle.eng_value.specs.declared.builtin.Builtin.{Builtin}
+use Rattle.eng_value.specs.declared.collation.Collation.TheVariants as collation
+use Rattle.eng_value.specs.declared.collation.Collation.{Collation}
 use Rattle.eng_value.specs.declared.operators.BinaryOperator.TheVariants as binary
+use Rattle.eng_value.specs.declared.operators.BinaryOperator.{BinaryOperator}
 use Rattle.eng_value.specs.declared.operators.Sides.{Sides}
-use Rattle.eng_value.specs.declared.operators.UnaryOperator.{UnaryOperator}
 use Rattle.eng_value.specs.declared.operators.UnaryOperator.TheVariants as unary
-use Rattle.sql_meaning.specs.declared.bound.Literal.{Literal}
+use Rattle.eng_value.specs.declared.operators.UnaryOperator.{UnaryOperator}
 use Rattle.sql_meaning.specs.declared.bound.Literal.TheVariants as literal
-use Rattle.bound_tree.specs.Exprs.{AMatch, AnArm, AnExpr, BoundArms, BoundExpr, BoundExprs, BoundMatches, NoArms, NoExprs, NoMatches}
+use Rattle.sql_meaning.specs.declared.bound.Literal.{Literal}
 use Rattle.bound_tree.specs.Exprs as e
+use Rattle.bound_tree.specs.Exprs.{AMatch, AnArm, AnExpr, BoundArms, BoundExpr, BoundExprs, BoundMatches, NoArms, NoExprs, NoMatches}
 
 -- ---- lists and options
 

@@ -6,8 +6,8 @@ use Rattle.eng_entry.specs.Names.{is_same_name}
 use Rattle.eng_value.specs.contracts.modules.ColumnKind as column_kind
 use Rattle.sql_tree.specs.contracts.query.CompoundOp as compound_op
 use Rattle.bound_tree.specs.Same.{all_same, both_same, same_affinity, same_collation, same_expr, same_exprs, same_truth}
-use Rattle.bound_tree.specs.declared.units.AggregateKind.{AggregateKind}
 use Rattle.bound_tree.specs.declared.units.AggregateKind.TheVariants.{Count, CountRows, GroupConcat, HostAggregate, Max, Min, Sum}
+use Rattle.bound_tree.specs.declared.units.AggregateKind.{AggregateKind}
 use Rattle.bound_tree.specs.declared.units.BoundAggregate.{BoundAggregate}
 use Rattle.bound_tree.specs.declared.units.BoundColumn.{BoundColumn}
 use Rattle.bound_tree.specs.declared.units.BoundCompound.{BoundCompound}
@@ -16,20 +16,20 @@ use Rattle.bound_tree.specs.declared.units.BoundGroups.{BoundGroups}
 use Rattle.bound_tree.specs.declared.units.BoundIndex.{BoundIndex}
 use Rattle.bound_tree.specs.declared.units.BoundItem.{BoundItem}
 use Rattle.bound_tree.specs.declared.units.BoundKey.{BoundKey}
-use Rattle.bound_tree.specs.declared.units.BoundPart.{BoundPart}
 use Rattle.bound_tree.specs.declared.units.BoundPart.TheVariants as bound_part
+use Rattle.bound_tree.specs.declared.units.BoundPart.{BoundPart}
 use Rattle.bound_tree.specs.declared.units.BoundQuery.{BoundQuery}
 use Rattle.bound_tree.specs.declared.units.BoundRecursion.{BoundRecursion}
-use Rattle.bound_tree.specs.declared.units.BoundSource.{BoundSource}
 use Rattle.bound_tree.specs.declared.units.BoundSource.TheVariants as bound_source
+use Rattle.bound_tree.specs.declared.units.BoundSource.{BoundSource}
 use Rattle.bound_tree.specs.declared.units.BoundTerm.{BoundTerm}
-use Rattle.bound_tree.specs.declared.units.BoundUnit.{BoundUnit}
 use Rattle.bound_tree.specs.declared.units.BoundUnit.TheVariants as bound_unit
+use Rattle.bound_tree.specs.declared.units.BoundUnit.{BoundUnit}
 use Rattle.bound_tree.specs.declared.units.IndexPart.{IndexPart}
-use Rattle.bound_tree.specs.declared.units.JoinKind.{JoinKind}
 use Rattle.bound_tree.specs.declared.units.JoinKind.TheVariants as join_kind
-use Rattle.bound_tree.specs.declared.units.TermKey.{TermKey}
+use Rattle.bound_tree.specs.declared.units.JoinKind.{JoinKind}
 use Rattle.bound_tree.specs.declared.units.TermKey.TheVariants as term_key
+use Rattle.bound_tree.specs.declared.units.TermKey.{TermKey}
 
 abbrev pub same_column : BoundColumn → BoundColumn → Bool
 same_column a b = is_same_name a.name b.name && same_affinity a.affinity b.affinity && same_collation a.collation b.collation

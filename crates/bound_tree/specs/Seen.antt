@@ -1,12 +1,12 @@
 -- Bound expressions as they are stored, and as contracts see them.
-use Rattle.std.specs.Prelude.{◌≡◌, ℕ, List, [], ◌∷◌, refl}
+use Rattle.std.specs.Prelude.{List, [], ◌∷◌}
+use Rattle.bound_tree.specs.Exprs as e
+use Rattle.bound_tree.specs.Exprs.{BoundArm, BoundArms, BoundExpr, BoundExprs, BoundMatch, BoundMatches, NoExprs, AnExpr, NoArms, AnArm, NoMatches, AMatch}
 use Rattle.bound_tree.specs.declared.tree.ArmTree.{ArmTree, fold-ArmTree}
-use Rattle.bound_tree.specs.declared.tree.ExprTree.{ExprTree, fold-ExprTree}
 use Rattle.bound_tree.specs.declared.tree.ExprTree.TheOpen.{ExprTree-F, ArmTree-F, MatchTree-F}
 use Rattle.bound_tree.specs.declared.tree.ExprTree.TheVariants as t
+use Rattle.bound_tree.specs.declared.tree.ExprTree.{ExprTree, fold-ExprTree}
 use Rattle.bound_tree.specs.declared.tree.MatchTree.{MatchTree, fold-MatchTree}
-use Rattle.bound_tree.specs.Exprs.{BoundArm, BoundArms, BoundExpr, BoundExprs, BoundMatch, BoundMatches, NoExprs, AnExpr, NoArms, AnArm, NoMatches, AMatch}
-use Rattle.bound_tree.specs.Exprs as e
 
 -- ---- as they are seen
 

@@ -1,12 +1,12 @@
 -- In which order a name is looked up.
 use Rattle.std.proofs.Common.{◌≡◌, ℕ, true, List, [], ◌∷◌, Some, None, Ok, Err, refl}
 use Rattle.std.specs.List.{flat_map}
-use Rattle.sql_bound.specs.Columns.{alias_named, column_bound}
+use Rattle.eng_value.specs.declared.cause.Cause.TheVariants.{Ambiguous, Unknown}
+use Rattle.eng_value.specs.declared.cause.Cause.{Cause}
 use Rattle.eng_value.specs.declared.cause.NameKind.TheVariants as kind
+use Rattle.sql_bound.specs.Columns.{alias_named, column_bound}
 use Rattle.sql_bound.specs.Operands.{column_operand}
 use Rattle.sql_bound.specs.Scopes.{Alias, Level, Scope, bare_in, counted_once, name_of_ambiguous, nearest, needed}
-use Rattle.eng_value.specs.declared.cause.Cause.{Cause}
-use Rattle.eng_value.specs.declared.cause.Cause.TheVariants.{Ambiguous, Unknown}
 use Rattle.sql_bound.specs.declared.scopes.Operand.{Operand}
 use Rattle.sql_bound.specs.declared.scopes.ScopeColumn.{ScopeColumn}
 use Rattle.sql_bound.specs.declared.scopes.Work.{Work}

@@ -1,10 +1,10 @@
 -- What is handed over to a query, and what it leaves as it was.
 use Rattle.std.proofs.Common.{◌≡◌, ◌∙◌, ℕ, zero, suc, Option, List, [], ◌∷◌, ◌++◌, length, position, Some, None, Ok, Err, refl, sym, ap, append_assoc, append-nil}
 use Rattle.bound_tree.specs.Exprs.{BoundExpr}
+use Rattle.bound_tree.specs.declared.units.BoundUnit.{BoundUnit}
 use Rattle.sql_bound.specs.Expressions.{asked}
 use Rattle.sql_bound.specs.Refusals.{Checked}
 use Rattle.sql_bound.specs.Scopes.{UnitsAnswer, argument_at, brought, handed, is_need}
-use Rattle.bound_tree.specs.declared.units.BoundUnit.{BoundUnit}
 use Rattle.sql_bound.specs.declared.scopes.Asked.{Asked}
 use Rattle.sql_bound.specs.declared.scopes.Need.{Need}
 use Rattle.sql_bound.specs.declared.scopes.Work.{Work}

@@ -4,14 +4,14 @@ use Rattle.std.specs.List.{All}
 use Rattle.std.proofs.lemmas.List.Elements.{All-cons, All-tail}
 use Rattle.eng_value.specs.declared.limits.TheConstants.{MAX_COLUMNS}
 use Rattle.sql_tree.specs.declared.token.Token.{Token}
+use Rattle.sql_meaning.specs.Binding.{◌>>=◌}
+use Rattle.sql_meaning.specs.Spelled.{name_at}
+use Rattle.bound_tree.specs.declared.units.BoundColumn.{BoundColumn}
 use Rattle.sql_bound.proofs.JoinLaws.{IsShown, ShowsAll, all_alike}
 use Rattle.sql_bound.proofs.NameLaws.{head_of}
 use Rattle.sql_bound.specs.Carriers.{ItemParts, Unconstrained, Using}
 use Rattle.sql_bound.specs.Froms.{Inside, columns_from, common_names, constrained, joined_to, scope_item, with_item, with_units}
 use Rattle.sql_bound.specs.Scopes.{Level}
-use Rattle.sql_meaning.specs.Binding.{◌>>=◌}
-use Rattle.sql_meaning.specs.Spelled.{name_at}
-use Rattle.bound_tree.specs.declared.units.BoundColumn.{BoundColumn}
 use Rattle.sql_bound.specs.declared.froms.Found.{Found}
 use Rattle.sql_bound.specs.declared.froms.Joining.{Joining}
 use Rattle.sql_bound.specs.declared.froms.Sourced.{Sourced}

@@ -2,20 +2,19 @@
 use Rattle.std.proofs.Common.{◌≡◌, ◌∙◌, ℕ, zero, suc, ◌+◌, ◌<◌, ◌≤◌, Bool, true, false, nat_lt, cond, Option, List, [], ◌∷◌, ◌++◌, length, Ok, Err, refl, sym, ap, arith}
 use Rattle.std.proofs.lemmas.Bool.Decides.{Decides-ltb}
 use Rattle.std.proofs.Math.ListN.{length-append}
+use Rattle.eng_value.specs.declared.cause.Cause.TheVariants.{Limit}
+use Rattle.eng_value.specs.declared.cause.Cause.{Cause}
+use Rattle.eng_value.specs.declared.cause.LimitKind.TheVariants as limit
 use Rattle.eng_value.specs.declared.limits.TheConstants.{MAX_COLUMNS}
+use Rattle.sql_meaning.specs.Binding.{◌>>=◌}
 use Rattle.sql_bound.specs.Carriers.{Expression, ItemParts, ResultParts}
 use Rattle.sql_bound.specs.Compounds.{row_bound}
 use Rattle.sql_bound.specs.Froms.{Inside, are_made, kind_of_join, plain_item, called_by, constrained, has_room, item_found, items_found, joined_to, of_source, scope_item, using_all, using_one, with_item}
 use Rattle.sql_bound.specs.Groups.{grouped_checked}
-use Rattle.eng_value.specs.declared.cause.NameKind.TheVariants as kind
-use Rattle.eng_value.specs.declared.cause.LimitKind.TheVariants as limit
 use Rattle.sql_bound.specs.Limits.{most_items, room_behind, walked}
 use Rattle.sql_bound.specs.Refusals.{Checked}
 use Rattle.sql_bound.specs.Results.{ResultScope, ShownResult, column_result, columns_result, results_bound, shown_by, with_result}
 use Rattle.sql_bound.specs.Scopes.{Answer, Level, Scope}
-use Rattle.sql_meaning.specs.Binding.{◌>>=◌}
-use Rattle.eng_value.specs.declared.cause.Cause.{Cause}
-use Rattle.eng_value.specs.declared.cause.Cause.TheVariants.{Limit}
 use Rattle.sql_bound.specs.declared.froms.Found.{Found}
 use Rattle.sql_bound.specs.declared.froms.Joining.{Joining}
 use Rattle.sql_bound.specs.declared.froms.QueueTable.{QueueTable}

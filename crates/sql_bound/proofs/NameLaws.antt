@@ -2,9 +2,9 @@
 use Rattle.std.proofs.Common.{◌≡◌, ◌∙◌, ℕ, suc, ◌+◌, true, false, not, cond, Option, List, [], ◌∷◌, ◌++◌, length, Some, None, Ok, Err, refl, arith}
 use Rattle.std.specs.List.{All, flat_map}
 use Rattle.std.proofs.lemmas.List.Elements.{All-tail}
+use Rattle.eng_value.specs.declared.cause.Cause.TheVariants.{Ambiguous}
 use Rattle.sql_bound.specs.Refusals.{Checked}
 use Rattle.sql_bound.specs.Scopes.{Level, counted_once, name_of_ambiguous, nearest_from, nearest_of, unjoined}
-use Rattle.eng_value.specs.declared.cause.Cause.TheVariants.{Ambiguous}
 use Rattle.sql_bound.specs.declared.scopes.ScopeColumn.{ScopeColumn}
 use Rattle.sql_bound.specs.declared.scopes.ScopeItem.{ScopeItem}
 use Rattle.sql_bound.specs.declared.scopes.Sight.{Sight}

@@ -5,11 +5,11 @@ use Rattle.std.proofs.lemmas.Bool.Decides.{Decides-eqb, Decides-ltb}
 use Rattle.std.proofs.lemmas.List.Folds.{position_or_len_push}
 use Rattle.std.proofs.lemmas.List.Sums.{prefix_len-le-length}
 use Rattle.std.proofs.Math.ListN.{length-append}
-use Rattle.sql_bound.proofs.SameLaws.{both, expr_itself}
 use Rattle.std.proofs.Math.Seq.{get_or-append_seam}
 use Rattle.std.proofs.lemmas.List.Quantifiers.{position-Some}
-use Rattle.bound_tree.specs.Exprs.{BoundExpr}
 use Rattle.bound_tree.specs.Exprs as e
+use Rattle.bound_tree.specs.Exprs.{BoundExpr}
+use Rattle.sql_bound.proofs.SameLaws.{both, expr_itself}
 use Rattle.sql_bound.specs.Scopes.{argument_at, is_need, needed}
 use Rattle.sql_bound.specs.declared.scopes.Need.{Need}
 use Rattle.sql_bound.specs.declared.scopes.Work.{Work}

@@ -8,29 +8,29 @@ use Rattle.std.proofs.lemmas.Map.Text.{is_eq-slice_cmp}
 use Rattle.std.proofs.lemmas.Slice.Eq.{bytes_eq-Decides}
 use denote.Enum.Bare.{true_same}
 use Rattle.eng_text.specs.Texts.{folded}
-use Rattle.eng_value.specs.Compare.{value_cmp}
 use Rattle.eng_value.specs.CauseText.{text_of}
-use Rattle.eng_value.specs.declared.affinity.Affinity.{Affinity}
+use Rattle.eng_value.specs.Compare.{value_cmp}
 use Rattle.eng_value.specs.contracts.affinity.Affinity as affinity
 use Rattle.eng_value.specs.contracts.built.Built as built
 use Rattle.eng_value.specs.contracts.builtin.Builtin as builtin
 use Rattle.eng_value.specs.contracts.compare_op.CompareOp as compare_op
 use Rattle.eng_value.specs.contracts.operators.ArithmeticOp as arithmetic
 use Rattle.eng_value.specs.contracts.operators.IntegerOp as integer
-use Rattle.eng_value.specs.declared.collation.Collation.{Collation}
-use Rattle.eng_value.specs.declared.collation.Collation.TheVariants as collation
+use Rattle.eng_value.specs.declared.affinity.Affinity.{Affinity}
 use Rattle.eng_value.specs.declared.builtin.Builtin.{Builtin}
-use Rattle.eng_value.specs.declared.operators.BinaryOperator.{BinaryOperator}
+use Rattle.eng_value.specs.declared.collation.Collation.TheVariants as collation
+use Rattle.eng_value.specs.declared.collation.Collation.{Collation}
 use Rattle.eng_value.specs.declared.operators.BinaryOperator.TheVariants as binary
+use Rattle.eng_value.specs.declared.operators.BinaryOperator.{BinaryOperator}
 use Rattle.eng_value.specs.declared.operators.Sides.{Sides}
-use Rattle.eng_value.specs.declared.operators.UnaryOperator.{UnaryOperator}
 use Rattle.eng_value.specs.declared.operators.UnaryOperator.TheVariants as unary
-use Rattle.eng_value.specs.declared.value.Value.{Value}
+use Rattle.eng_value.specs.declared.operators.UnaryOperator.{UnaryOperator}
 use Rattle.eng_value.specs.declared.value.Value.TheVariants.{Null, Integer, Text, Blob}
-use Rattle.sql_meaning.specs.declared.bound.Literal.{Literal}
+use Rattle.eng_value.specs.declared.value.Value.{Value}
 use Rattle.sql_meaning.specs.declared.bound.Literal.TheVariants as literal
-use Rattle.bound_tree.specs.Exprs.{AMatch, AnArm, AnExpr, BoundArms, BoundExpr, BoundExprs, BoundMatches, NoArms, NoExprs, NoMatches}
+use Rattle.sql_meaning.specs.declared.bound.Literal.{Literal}
 use Rattle.bound_tree.specs.Exprs as e
+use Rattle.bound_tree.specs.Exprs.{AMatch, AnArm, AnExpr, BoundArms, BoundExpr, BoundExprs, BoundMatches, NoArms, NoExprs, NoMatches}
 use Rattle.bound_tree.specs.Same.{same_affinity, same_arms, same_binary, same_builtin, same_collation, same_expr, same_list, same_literal, same_matches, same_sides, same_truth, same_unary}
 
 -- ---- tests that pass together

@@ -1,31 +1,31 @@
 -- A tree comes to what its parts come to, by one step: so what worked examples are written with stands for trees.
 use Rattle.std.specs.Prelude.{◌≡◌, List, map}
 use Rattle.std.proofs.Common.{rules, option_map}
+use Rattle.sql_tree.specs.declared.expr.Arm.{Arm, fold-Arm}
 use Rattle.sql_tree.specs.declared.expr.BinaryOp.{BinaryOp}
-use Rattle.sql_tree.specs.declared.expr.Expr.{Expr, the_lemmas}
 use Rattle.sql_tree.specs.declared.expr.Expr.TheOpen.{Expr-F}
 use Rattle.sql_tree.specs.declared.expr.Expr.TheVariants as e
+use Rattle.sql_tree.specs.declared.expr.Expr.{Expr, the_lemmas}
 use Rattle.sql_tree.specs.declared.expr.UnaryOp.{UnaryOp}
-use Rattle.sql_tree.specs.declared.query.Query.{Query}
-use Rattle.sql_tree.specs.declared.token.Token.{Token}
-use Rattle.sql_bound.specs.Expressions.{expr_step}
-use Rattle.sql_bound.specs.Trees.{of_expr, of_query}
-use Rattle.sql_tree.specs.declared.query.JoinConstraint.{JoinConstraint, fold-JoinConstraint}
-use Rattle.sql_tree.specs.declared.query.QueryPart.{QueryPart, fold-QueryPart}
-use Rattle.sql_tree.specs.declared.query.ResultColumn.{ResultColumn, fold-ResultColumn}
-use Rattle.sql_tree.specs.declared.query.Source.{Source, fold-Source}
-use Rattle.sql_tree.specs.declared.expr.Arm.{Arm, fold-Arm}
 use Rattle.sql_tree.specs.declared.query.CommonTable.{CommonTable, fold-CommonTable}
 use Rattle.sql_tree.specs.declared.query.CompoundPart.{CompoundPart, fold-CompoundPart}
 use Rattle.sql_tree.specs.declared.query.FromItem.{FromItem, fold-FromItem}
+use Rattle.sql_tree.specs.declared.query.JoinConstraint.{JoinConstraint, fold-JoinConstraint}
 use Rattle.sql_tree.specs.declared.query.OrderingTerm.{OrderingTerm, fold-OrderingTerm}
+use Rattle.sql_tree.specs.declared.query.Query.{Query}
+use Rattle.sql_tree.specs.declared.query.Query.{out-Query}
+use Rattle.sql_tree.specs.declared.query.QueryPart.{QueryPart, fold-QueryPart}
+use Rattle.sql_tree.specs.declared.query.ResultColumn.{ResultColumn, fold-ResultColumn}
 use Rattle.sql_tree.specs.declared.query.RowLimit.{RowLimit, fold-RowLimit}
 use Rattle.sql_tree.specs.declared.query.SelectCore.{SelectCore, fold-SelectCore, out-SelectCore}
+use Rattle.sql_tree.specs.declared.query.Source.{Source, fold-Source}
 use Rattle.sql_tree.specs.declared.query.SpannedExpr.{SpannedExpr, fold-SpannedExpr}
-use Rattle.sql_tree.specs.declared.query.Query.{out-Query}
+use Rattle.sql_tree.specs.declared.token.Token.{Token}
 use Rattle.sql_bound.specs.Carriers.{ArmParts, CompoundParts, ConstraintParts, CoreParts, Expression, ItemParts, LimitParts, PartParts, QueryParts, ResultParts, SourceParts, SpannedExpression, TableParts, TermParts}
 use Rattle.sql_bound.specs.Expressions.{arm_step}
+use Rattle.sql_bound.specs.Expressions.{expr_step}
 use Rattle.sql_bound.specs.Trees.{compound_step, constraint_step, core_step, item_step, limit_step, part_step, query_step, result_step, source_step, spanned_step, table_step, term_step}
+use Rattle.sql_bound.specs.Trees.{of_expr, of_query}
 
 -- ---- expressions
 

@@ -1,7 +1,7 @@
 -- How what code gives stands to what is meant: it may always be that memory is wanting.
 use Rattle.std.specs.Prelude.{◌≡◌, ◌⊎◌, ⊤, Result, Ok, Err}
-use Rattle.eng_value.specs.declared.cause.Cause.{Cause}
 use Rattle.eng_value.specs.declared.cause.Cause.TheVariants.{Mem}
+use Rattle.eng_value.specs.declared.cause.Cause.{Cause}
 
 -- a refusal is want of memory
 abbrev pub OnlyMem : {A : Type 0} → Result A Cause → Type 0

@@ -3,16 +3,16 @@ use Rattle.std.specs.Prelude.{ℕ, ℤ, pos, negsuc, nat_eq, Bool, true, false, 
 use Rattle.std.specs.Ordering.{int_eq}
 use Rattle.eng_entry.specs.Names.{is_same_name}
 use Rattle.eng_value.specs.declared.builtin.Builtin.{Builtin}
-use Rattle.sql_tree.specs.declared.expr.Arguments.{Arguments}
+use Rattle.eng_value.specs.declared.cause.Cause.TheVariants.{Arity, Misuse}
 use Rattle.sql_tree.specs.declared.expr.Arguments.TheVariants as arguments
+use Rattle.sql_tree.specs.declared.expr.Arguments.{Arguments}
 use Rattle.sql_meaning.specs.Binding.{NamedBuiltin, builtin_named, takes}
+use Rattle.bound_tree.specs.declared.units.AggregateKind.TheVariants.{Count, CountRows, GroupConcat, HostAggregate, Max, Min, Sum}
+use Rattle.bound_tree.specs.declared.units.AggregateKind.{AggregateKind}
 use Rattle.sql_bound.specs.Refusals.{Checked}
 use Rattle.sql_bound.specs.Scopes.{Facts}
-use Rattle.bound_tree.specs.declared.units.AggregateKind.{AggregateKind}
-use Rattle.bound_tree.specs.declared.units.AggregateKind.TheVariants.{Count, CountRows, GroupConcat, HostAggregate, Max, Min, Sum}
-use Rattle.eng_value.specs.declared.cause.Cause.TheVariants.{Arity, Misuse}
-use Rattle.sql_bound.specs.declared.scopes.Standing.{Standing}
 use Rattle.sql_bound.specs.declared.scopes.Standing.TheVariants.{Nowhere, Taken}
+use Rattle.sql_bound.specs.declared.scopes.Standing.{Standing}
 
 -- ---- aggregates that are built in
 

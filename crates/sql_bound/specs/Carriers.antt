@@ -1,7 +1,5 @@
 -- What each part of a tree comes to: what it is bound to depends on where it stands, so that most of these hold functions.
 use Rattle.std.specs.Prelude.{ℕ, Bool, List, Option}
-use Rattle.bound_tree.specs.Exprs.{BoundExpr}
-use Rattle.bound_tree.specs.Exprs.{BoundExpr}
 use Rattle.sql_tree.specs.declared.expr.Expr.TheOpen.{Arm-F, CommonTable-F, CompoundPart-F, Expr-F, FromItem-F, JoinConstraint-F, OrderingTerm-F, Query-F, QueryPart-F, ResultColumn-F, RowLimit-F, SelectCore-F, Source-F, SpannedExpr-F}
 use Rattle.sql_tree.specs.declared.query.CompoundOp.{CompoundOp}
 use Rattle.sql_tree.specs.declared.query.Join.{Join}
@@ -11,8 +9,9 @@ use Rattle.sql_tree.specs.declared.statement.TriggerEvent.{TriggerEvent}
 use Rattle.sql_tree.specs.declared.statement.TriggerTime.{TriggerTime}
 use Rattle.sql_tree.specs.declared.token.Span.{Span}
 use Rattle.sql_tree.specs.declared.token.Token.{Token}
-use Rattle.sql_bound.specs.Scopes.{Answer, Outer, Scope, UnitsAnswer}
+use Rattle.bound_tree.specs.Exprs.{BoundExpr}
 use Rattle.bound_tree.specs.declared.units.BoundUnit.{BoundUnit}
+use Rattle.sql_bound.specs.Scopes.{Answer, Outer, Scope, UnitsAnswer}
 use Rattle.sql_bound.specs.declared.scopes.Asked.{Asked}
 use Rattle.sql_bound.specs.declared.scopes.Operand.{Operand}
 use Rattle.sql_bound.specs.declared.scopes.Work.{Work}

@@ -2,12 +2,12 @@
 use Rattle.std.specs.Prelude.{ℕ, suc, List, [], ◌∷◌, Option, Some, None, Ok, Err, if◌then◌else◌}
 use Rattle.std.specs.List.{find, flat_map}
 use Rattle.eng_entry.specs.Names.{is_same_name}
-use Rattle.sql_meaning.specs.Binding.{◌>>=◌, dotted}
+use Rattle.eng_value.specs.declared.cause.Cause.TheVariants.{Misuse, Unknown}
 use Rattle.eng_value.specs.declared.cause.NameKind.TheVariants as kind
+use Rattle.sql_meaning.specs.Binding.{◌>>=◌, dotted}
 use Rattle.sql_bound.specs.Operands.{column_operand}
 use Rattle.sql_bound.specs.Refusals.{Checked}
 use Rattle.sql_bound.specs.Scopes.{Alias, Answer, Level, Scope, bare_in, brought, called_in, columns_named, nearest}
-use Rattle.eng_value.specs.declared.cause.Cause.TheVariants.{Misuse, Unknown}
 use Rattle.sql_bound.specs.declared.scopes.Operand.{Operand}
 use Rattle.sql_bound.specs.declared.scopes.ScopeColumn.{ScopeColumn}
 use Rattle.sql_bound.specs.declared.scopes.Sight.{Sight}

@@ -1,9 +1,13 @@
 -- The parts of a query: SELECTs and VALUES, and compounds of them (SELECT, section 3).
 use Rattle.std.specs.Prelude.{ℕ, suc, nat_eq, false, List, [], ◌∷◌, ◌++◌, map, length, Ok, Err, unwrap_or, if◌then◌else◌, codes}
 use Rattle.std.specs.Fmt.{decimal}
+use Rattle.eng_value.specs.declared.cause.Cause.TheVariants.{Arity}
 use Rattle.eng_value.specs.declared.collation.Collation.{Collation}
-use Rattle.bound_tree.specs.Exprs.{BoundExpr}
 use Rattle.sql_meaning.specs.Binding.{◌>>=◌, by_bytes, or_else}
+use Rattle.bound_tree.specs.Exprs.{BoundExpr}
+use Rattle.bound_tree.specs.declared.units.BoundCompound.{BoundCompound}
+use Rattle.bound_tree.specs.declared.units.BoundPart.TheVariants as bound_part
+use Rattle.bound_tree.specs.declared.units.BoundTerm.{BoundTerm}
 use Rattle.sql_bound.specs.Carriers.{CompoundParts, CoreParts, Expression, PartParts, Select, TermParts, Values}
 use Rattle.sql_bound.specs.Cores.{core_of, select_bound, without_aggregates}
 use Rattle.sql_bound.specs.Froms.{Inside}
@@ -12,17 +16,12 @@ use Rattle.sql_bound.specs.Orders.{orders_by_aggregate, terms_of_compound, terms
 use Rattle.sql_bound.specs.Refusals.{Checked}
 use Rattle.sql_bound.specs.Results.{result_column, shown_in}
 use Rattle.sql_bound.specs.Scopes.{Answer, Scope, scope_over}
-use Rattle.bound_tree.specs.declared.units.BoundCompound.{BoundCompound}
-use Rattle.bound_tree.specs.declared.units.BoundPart.{BoundPart}
-use Rattle.bound_tree.specs.declared.units.BoundPart.TheVariants as bound_part
-use Rattle.bound_tree.specs.declared.units.BoundTerm.{BoundTerm}
-use Rattle.eng_value.specs.declared.cause.Cause.TheVariants.{Arity}
 use Rattle.sql_bound.specs.declared.queries.BoundSelect.{BoundSelect}
+use Rattle.sql_bound.specs.declared.queries.Gathered.{Gathered}
+use Rattle.sql_bound.specs.declared.queries.Given.{Given}
 use Rattle.sql_bound.specs.declared.scopes.Operand.{Operand}
 use Rattle.sql_bound.specs.declared.scopes.ResultColumn.{ResultColumn}
 use Rattle.sql_bound.specs.declared.scopes.Work.{Work}
-use Rattle.sql_bound.specs.declared.queries.Given.{Given}
-use Rattle.sql_bound.specs.declared.queries.Gathered.{Gathered}
 
 -- ---- VALUES: rows of one width, whose columns are called column1, column2, .. and are to others what those of the first row are
 

@@ -1,30 +1,30 @@
 -- A SELECT: FROM, WHERE, GROUP BY, HAVING and the results, in this order (SELECT, section 2).
 use Rattle.std.specs.Prelude.{ℕ, Bool, true, false, not, ◌||◌, List, map, [], ◌∷◌, Option, Some, None, Ok, Err, is_some, unwrap_or, if◌then◌else◌}
 use Rattle.std.specs.List.{list_any}
-use Rattle.bound_tree.specs.Exprs.{BoundExpr}
+use Rattle.eng_value.specs.declared.cause.Cause.TheVariants.{Unknown}
+use Rattle.eng_value.specs.declared.cause.NameKind.TheVariants as kind
 use Rattle.sql_meaning.specs.Binding.{◌>>=◌, by_bytes}
 use Rattle.sql_meaning.specs.Spelled.{literal_at}
-use Rattle.sql_bound.specs.Carriers.{CoreParts, Expression, Number, One, ResultParts, SpannedExpression, Term}
-use Rattle.sql_bound.specs.Declarations.{is_empty}
-use Rattle.sql_bound.specs.Froms.{Inside, items_found, nothing_found}
-use Rattle.sql_bound.specs.Groups.{grouped_checked}
-use Rattle.eng_value.specs.declared.cause.NameKind.TheVariants as kind
-use Rattle.sql_bound.specs.Operands.{collation_of, collation_of_result}
-use Rattle.sql_bound.specs.Results.{ShownResult, aliases_of, at_place, nothing_shown, place_named, results_bound, shown_in, text_of}
-use Rattle.sql_bound.specs.Scopes.{Answer, Level, Outer, Scope, scope_over}
+use Rattle.bound_tree.specs.Exprs.{BoundExpr}
 use Rattle.bound_tree.specs.declared.units.BoundAggregate.{BoundAggregate}
 use Rattle.bound_tree.specs.declared.units.BoundCore.{BoundCore}
 use Rattle.bound_tree.specs.declared.units.BoundGroups.{BoundGroups}
 use Rattle.bound_tree.specs.declared.units.BoundKey.{BoundKey}
-use Rattle.eng_value.specs.declared.cause.Cause.TheVariants.{Unknown}
+use Rattle.sql_bound.specs.Carriers.{CoreParts, Expression, Number, One, ResultParts, SpannedExpression, Term}
+use Rattle.sql_bound.specs.Declarations.{is_empty}
+use Rattle.sql_bound.specs.Froms.{Inside, items_found, nothing_found}
+use Rattle.sql_bound.specs.Groups.{grouped_checked}
+use Rattle.sql_bound.specs.Operands.{collation_of, collation_of_result}
+use Rattle.sql_bound.specs.Results.{ShownResult, aliases_of, at_place, nothing_shown, place_named, results_bound, shown_in, text_of}
+use Rattle.sql_bound.specs.Scopes.{Answer, Level, Outer, Scope, scope_over}
 use Rattle.sql_bound.specs.declared.froms.Found.{Found}
 use Rattle.sql_bound.specs.declared.froms.QueueTable.{QueueTable}
+use Rattle.sql_bound.specs.declared.queries.BoundSelect.{BoundSelect}
 use Rattle.sql_bound.specs.declared.queries.Shown.{Shown}
 use Rattle.sql_bound.specs.declared.scopes.Operand.{Operand}
-use Rattle.sql_bound.specs.declared.scopes.Standing.{Standing}
 use Rattle.sql_bound.specs.declared.scopes.Standing.TheVariants.{Nowhere, Taken}
+use Rattle.sql_bound.specs.declared.scopes.Standing.{Standing}
 use Rattle.sql_bound.specs.declared.scopes.Work.{Work}
-use Rattle.sql_bound.specs.declared.queries.BoundSelect.{BoundSelect}
 
 -- ---- scopes: WHERE, GROUP BY and HAVING see the names of results, the results and ORDER BY do not
 

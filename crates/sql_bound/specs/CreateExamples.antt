@@ -1,6 +1,10 @@
 -- CREATE, DROP and transactions.
 use Rattle.std.specs.Prelude.{◌≡◌, ℕ, true, false, List, [], ◌∷◌, Option, Some, None, Ok, Err, if◌then◌else◌, codes, refl}
 use Rattle.eng_entry.specs.Names.{is_same_name}
+use Rattle.eng_value.specs.declared.cause.Cause.TheVariants.{Exists, Misuse, Real, Reserved, Unknown}
+use Rattle.eng_value.specs.declared.cause.Cause.TheVariants.{NotYet}
+use Rattle.eng_value.specs.declared.cause.Cause.{Cause}
+use Rattle.eng_value.specs.declared.cause.NameKind.TheVariants as kind
 use Rattle.sql_grammar.specs.Answers.{Answer, Tree, Syntax, TooMuch}
 use Rattle.sql_grammar.specs.Marks.{count}
 use Rattle.sql_grammar.specs.Statements.{all_statement_rules}
@@ -11,22 +15,18 @@ use Rattle.sql_tree.specs.declared.statement.TableDefinition.{TableDefinition}
 use Rattle.sql_tree.specs.declared.token.Token.{Token}
 use Rattle.sql_meaning.specs.Spelled.{the_text_test}
 use Rattle.sql_meaning.specs.Statement.{answer_of}
+use Rattle.bound_tree.specs.declared.statements.BoundCommand.TheVariants.{Nothing, Removed}
+use Rattle.bound_tree.specs.declared.statements.BoundCommand.{BoundCommand}
+use Rattle.bound_tree.specs.declared.statements.BoundStatement.{BoundStatement}
+use Rattle.bound_tree.specs.declared.statements.ThingKind.TheVariants.{ATable, AView, AnIndex}
 use Rattle.sql_bound.specs.Carriers.{Expression}
 use Rattle.sql_bound.specs.Creates.{level_of}
 use Rattle.sql_bound.specs.Declarations.{definition_in, table_in}
-use Rattle.eng_value.specs.declared.cause.NameKind.TheVariants as kind
 use Rattle.sql_bound.specs.Refusals.{Checked}
-use Rattle.eng_value.specs.declared.cause.Cause.TheVariants.{NotYet}
 use Rattle.sql_bound.specs.Samples.{around_of, col, dot, no_facts, why}
 use Rattle.sql_bound.specs.Scopes.{Around, Level, begun}
 use Rattle.sql_bound.specs.Statements.{bound_of}
 use Rattle.sql_bound.specs.Targets.{constraint_bound, in_check}
-use Rattle.bound_tree.specs.declared.statements.BoundCommand.{BoundCommand}
-use Rattle.bound_tree.specs.declared.statements.BoundCommand.TheVariants.{Nothing, Removed}
-use Rattle.bound_tree.specs.declared.statements.BoundStatement.{BoundStatement}
-use Rattle.bound_tree.specs.declared.statements.ThingKind.TheVariants.{ATable, AView, AnIndex}
-use Rattle.eng_value.specs.declared.cause.Cause.{Cause}
-use Rattle.eng_value.specs.declared.cause.Cause.TheVariants.{Exists, Misuse, Real, Reserved, Unknown}
 
 abbrev things : Around
 things = around_of (codes "CREATE TABLE t(a, B)" ∷ codes "CREATE VIEW v AS SELECT 1" ∷ codes "CREATE INDEX i ON t(a)" ∷ []) (codes "CREATE TRIGGER g AFTER DELETE ON t BEGIN SELECT 1; END" ∷ [])

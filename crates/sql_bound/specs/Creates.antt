@@ -4,27 +4,30 @@ use Rattle.std.specs.List.{find}
 use Rattle.eng_entry.specs.Entries.{entry_named}
 use Rattle.eng_entry.specs.Names.{is_same_name}
 use Rattle.eng_entry.specs.declared.entry.Entry.{Entry}
-use Rattle.eng_entry.specs.declared.entry.EntryKind.{EntryKind}
 use Rattle.eng_entry.specs.declared.entry.EntryKind.TheVariants as entry_kind
-use Rattle.eng_value.specs.declared.affinity.Affinity.{Affinity}
+use Rattle.eng_entry.specs.declared.entry.EntryKind.{EntryKind}
 use Rattle.eng_value.specs.declared.affinity.Affinity.TheVariants as affinity
+use Rattle.eng_value.specs.declared.affinity.Affinity.{Affinity}
+use Rattle.eng_value.specs.declared.cause.Cause.TheVariants.{Exists, Misuse, Real, Reserved, Unknown}
+use Rattle.eng_value.specs.declared.cause.NameKind.TheVariants as kind
+use Rattle.eng_value.specs.declared.cause.NameKind.{NameKind}
 use Rattle.sql_tree.specs.declared.expr.Expr.{Expr}
-use Rattle.sql_tree.specs.declared.statement.ColumnConstraint.{ColumnConstraint}
 use Rattle.sql_tree.specs.declared.statement.ColumnConstraint.TheVariants as column_constraint
+use Rattle.sql_tree.specs.declared.statement.ColumnConstraint.{ColumnConstraint}
 use Rattle.sql_tree.specs.declared.statement.ColumnDefinition.{ColumnDefinition}
 use Rattle.sql_tree.specs.declared.statement.Create.{Create}
-use Rattle.sql_tree.specs.declared.statement.Definition.{Definition}
 use Rattle.sql_tree.specs.declared.statement.Definition.TheVariants as definition
+use Rattle.sql_tree.specs.declared.statement.Definition.{Definition}
 use Rattle.sql_tree.specs.declared.statement.IndexDefinition.{IndexDefinition}
 use Rattle.sql_tree.specs.declared.statement.IndexedColumn.{IndexedColumn}
-use Rattle.sql_tree.specs.declared.statement.TableConstraint.{TableConstraint}
 use Rattle.sql_tree.specs.declared.statement.TableConstraint.TheVariants as table_constraint
+use Rattle.sql_tree.specs.declared.statement.TableConstraint.{TableConstraint}
 use Rattle.sql_tree.specs.declared.statement.TableDefinition.{TableDefinition}
 use Rattle.sql_tree.specs.declared.statement.TriggerDefinition.{TriggerDefinition}
-use Rattle.sql_tree.specs.declared.statement.TriggerEvent.{TriggerEvent}
 use Rattle.sql_tree.specs.declared.statement.TriggerEvent.TheVariants as event
-use Rattle.sql_tree.specs.declared.statement.TriggerTime.{TriggerTime}
+use Rattle.sql_tree.specs.declared.statement.TriggerEvent.{TriggerEvent}
 use Rattle.sql_tree.specs.declared.statement.TriggerTime.TheVariants as time
+use Rattle.sql_tree.specs.declared.statement.TriggerTime.{TriggerTime}
 use Rattle.sql_tree.specs.declared.statement.ViewDefinition.{ViewDefinition}
 use Rattle.sql_tree.specs.declared.statement.VirtualTableDefinition.{VirtualTableDefinition}
 use Rattle.sql_tree.specs.declared.token.Span.{Span}
@@ -33,10 +36,16 @@ use Rattle.sql_meaning.specs.Binding.{◌>>=◌}
 use Rattle.sql_meaning.specs.Declarations.{type_affinity}
 use Rattle.sql_meaning.specs.Names.{is_named_in, is_reserved_name}
 use Rattle.sql_meaning.specs.Spelled.{name_at}
+use Rattle.bound_tree.specs.declared.statements.BoundCommand.TheVariants.{Created, Nothing}
+use Rattle.bound_tree.specs.declared.statements.BoundCommand.{BoundCommand}
+use Rattle.bound_tree.specs.declared.statements.BoundCreation.{BoundCreation}
+use Rattle.bound_tree.specs.declared.statements.ThingKind.TheVariants.{AModuleTable, ATable, ATrigger, AView, AnIndex}
+use Rattle.bound_tree.specs.declared.statements.ThingKind.{ThingKind}
+use Rattle.bound_tree.specs.declared.units.BoundColumn.{BoundColumn}
+use Rattle.bound_tree.specs.declared.units.BoundSource.TheVariants as bound_source
 use Rattle.sql_bound.specs.Declarations.{DeclaredTable, bound_columns, declared_table, definition_of, index_parts, place_of_column, table_in, table_named}
 use Rattle.sql_bound.specs.Expressions.{collation_called}
 use Rattle.sql_bound.specs.Froms.{nothing_found, of_catalog, plain_source, scope_item}
-use Rattle.eng_value.specs.declared.cause.NameKind.TheVariants as kind
 use Rattle.sql_bound.specs.Lasting.{collations_kept}
 use Rattle.sql_bound.specs.Limits.{by_column, room_behind, within_columns}
 use Rattle.sql_bound.specs.Parameters.{query_has_parameter, trigger_has_parameter}
@@ -45,16 +54,6 @@ use Rattle.sql_bound.specs.Results.{text_of}
 use Rattle.sql_bound.specs.Scopes.{Around, Facts, Level, Outer, begun}
 use Rattle.sql_bound.specs.Targets.{constraint_bound, found_place, in_check, in_default, inside_write, place_written}
 use Rattle.sql_bound.specs.Trees.{of_expr}
-use Rattle.bound_tree.specs.declared.statements.BoundCommand.{BoundCommand}
-use Rattle.bound_tree.specs.declared.statements.BoundCommand.TheVariants.{Created, Nothing}
-use Rattle.bound_tree.specs.declared.statements.BoundCreation.{BoundCreation}
-use Rattle.bound_tree.specs.declared.statements.ThingKind.{ThingKind}
-use Rattle.bound_tree.specs.declared.statements.ThingKind.TheVariants.{AModuleTable, ATable, ATrigger, AView, AnIndex}
-use Rattle.bound_tree.specs.declared.units.BoundColumn.{BoundColumn}
-use Rattle.bound_tree.specs.declared.units.BoundSource.TheVariants as bound_source
-use Rattle.bound_tree.specs.declared.units.IndexPart.{IndexPart}
-use Rattle.eng_value.specs.declared.cause.Cause.TheVariants.{Exists, Misuse, Real, Reserved, Unknown}
-use Rattle.eng_value.specs.declared.cause.NameKind.{NameKind}
 use Rattle.sql_bound.specs.declared.froms.Sourced.{Sourced}
 use Rattle.sql_bound.specs.declared.scopes.Allowed.{Allowed}
 use Rattle.sql_bound.specs.declared.scopes.ScopeColumn.{ScopeColumn}

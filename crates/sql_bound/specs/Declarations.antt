@@ -6,23 +6,23 @@ use Rattle.std.specs.Option.{option_map, option_to_list}
 use Rattle.eng_entry.specs.Entries.{Entries, entry_named}
 use Rattle.eng_entry.specs.Names.{is_same_name}
 use Rattle.eng_entry.specs.declared.entry.Entry.{Entry}
-use Rattle.eng_entry.specs.declared.entry.EntryKind.{EntryKind}
 use Rattle.eng_entry.specs.declared.entry.EntryKind.TheVariants as entry_kind
-use Rattle.eng_value.specs.declared.collation.Collation.{Collation}
+use Rattle.eng_entry.specs.declared.entry.EntryKind.{EntryKind}
 use Rattle.eng_value.specs.declared.collation.Collation.TheVariants as collation
+use Rattle.eng_value.specs.declared.collation.Collation.{Collation}
 use Rattle.sql_tree.specs.declared.expr.Expr.{Expr}
 use Rattle.sql_tree.specs.declared.expr.TypeName.{TypeName}
-use Rattle.sql_tree.specs.declared.statement.ColumnConstraint.{ColumnConstraint}
 use Rattle.sql_tree.specs.declared.statement.ColumnConstraint.TheVariants as column_constraint
+use Rattle.sql_tree.specs.declared.statement.ColumnConstraint.{ColumnConstraint}
 use Rattle.sql_tree.specs.declared.statement.ColumnDefinition.{ColumnDefinition}
-use Rattle.sql_tree.specs.declared.statement.Command.{Command}
 use Rattle.sql_tree.specs.declared.statement.Command.TheVariants as command
-use Rattle.sql_tree.specs.declared.statement.Definition.{Definition}
+use Rattle.sql_tree.specs.declared.statement.Command.{Command}
 use Rattle.sql_tree.specs.declared.statement.Definition.TheVariants as definition
+use Rattle.sql_tree.specs.declared.statement.Definition.{Definition}
 use Rattle.sql_tree.specs.declared.statement.IndexDefinition.{IndexDefinition}
 use Rattle.sql_tree.specs.declared.statement.IndexedColumn.{IndexedColumn}
-use Rattle.sql_tree.specs.declared.statement.TableConstraint.{TableConstraint}
 use Rattle.sql_tree.specs.declared.statement.TableConstraint.TheVariants as table_constraint
+use Rattle.sql_tree.specs.declared.statement.TableConstraint.{TableConstraint}
 use Rattle.sql_tree.specs.declared.statement.TableDefinition.{TableDefinition}
 use Rattle.sql_tree.specs.declared.statement.TriggerDefinition.{TriggerDefinition}
 use Rattle.sql_tree.specs.declared.statement.ViewDefinition.{ViewDefinition}
@@ -30,10 +30,10 @@ use Rattle.sql_tree.specs.declared.token.Token.{Token}
 use Rattle.sql_meaning.specs.Binding.{by_bytes, collation_named, or_else}
 use Rattle.sql_meaning.specs.Declarations.{type_affinity}
 use Rattle.sql_meaning.specs.Spelled.{name_at}
-use Rattle.sql_bound.specs.Scopes.{Facts}
 use Rattle.bound_tree.specs.declared.units.BoundColumn.{BoundColumn}
 use Rattle.bound_tree.specs.declared.units.BoundIndex.{BoundIndex}
 use Rattle.bound_tree.specs.declared.units.IndexPart.{IndexPart}
+use Rattle.sql_bound.specs.Scopes.{Facts}
 
 -- ---- columns
 

@@ -1,29 +1,29 @@
 -- Expressions: the names in them are looked up from left to right, and the first refusal counts (SQL Language Expressions).
 use Rattle.std.specs.Prelude.{ℕ, Bool, true, false, ◌||◌, List, [], ◌∷◌, ◌++◌, length, Option, Some, None, Ok, Err, unwrap_or, if◌then◌else◌, codes}
 use Rattle.std.specs.List.{list_any}
-use Rattle.eng_value.specs.declared.collation.Collation.{Collation}
+use Rattle.eng_value.specs.declared.cause.Cause.TheVariants.{Arity, Misuse, Unknown}
+use Rattle.eng_value.specs.declared.cause.NameKind.TheVariants as kind
 use Rattle.eng_value.specs.declared.collation.Collation.TheVariants as collation
+use Rattle.eng_value.specs.declared.collation.Collation.{Collation}
 use Rattle.eng_value.specs.declared.operators.BinaryOperator.TheVariants as binary
 use Rattle.sql_lex.specs.Tokens.{slice_of}
-use Rattle.sql_tree.specs.declared.expr.BinaryOp.TheVariants as op
+use Rattle.sql_tree.specs.Kinds.{same_kind}
 use Rattle.sql_tree.specs.declared.expr.Arguments.{Arguments}
+use Rattle.sql_tree.specs.declared.expr.BinaryOp.TheVariants as op
 use Rattle.sql_tree.specs.declared.expr.Expr.TheOpen.{Expr-F}
 use Rattle.sql_tree.specs.declared.token.Token.{Token}
 use Rattle.sql_tree.specs.declared.token.TokenKind.TheVariants as token
-use Rattle.sql_tree.specs.Kinds.{same_kind}
-use Rattle.bound_tree.specs.Exprs.{BoundExpr}
-use Rattle.bound_tree.specs.Exprs as e
 use Rattle.sql_meaning.specs.Binding.{◌>>=◌, affinity_of_type, collation_named}
 use Rattle.sql_meaning.specs.Spelled.{as_text, inside, name_at, undoubled}
+use Rattle.bound_tree.specs.Exprs as e
+use Rattle.bound_tree.specs.Exprs.{BoundExpr}
+use Rattle.bound_tree.specs.declared.units.BoundAggregate.{BoundAggregate}
 use Rattle.sql_bound.specs.Callees.{Aggregate, Aggregator, Callee, HostScalar, Nobody, Scalar, callee_of, is_aggregate, is_distinct, may_aggregate, may_call, without_filter}
 use Rattle.sql_bound.specs.Carriers.{ArmLayer, ArmParts, Binding, ExprLayer, Expression, Name, Number, Other, QueryParts, Term}
 use Rattle.sql_bound.specs.Columns.{called_column_bound, column_bound}
-use Rattle.eng_value.specs.declared.cause.NameKind.TheVariants as kind
 use Rattle.sql_bound.specs.Operands.{binary_of, between_of, call_of, case_of, cast_of, collated, collation_of_arguments, host_call_of, in_of, like_of, literal_operand, option_list, over, result_operand, sides_of, trees_of, unary_of}
 use Rattle.sql_bound.specs.Refusals.{Checked}
 use Rattle.sql_bound.specs.Scopes.{Answer, Facts, Outer, Scope, UnitsAnswer, handed}
-use Rattle.bound_tree.specs.declared.units.BoundAggregate.{BoundAggregate}
-use Rattle.eng_value.specs.declared.cause.Cause.TheVariants.{Arity, Misuse, Unknown}
 use Rattle.sql_bound.specs.declared.scopes.ArmOperands.{ArmOperands}
 use Rattle.sql_bound.specs.declared.scopes.Asked.{Asked}
 use Rattle.sql_bound.specs.declared.scopes.Operand.{Operand}

@@ -3,54 +3,54 @@ use Rattle.std.specs.Prelude.{ℕ, suc, ◌-◌, nat_eq, nat_lt, nat_le, Bool, t
 use Rattle.std.specs.List.{flat_map}
 use Rattle.eng_entry.specs.Names.{is_same_name}
 use Rattle.eng_entry.specs.declared.entry.Entry.{Entry}
-use Rattle.eng_entry.specs.declared.entry.EntryKind.{EntryKind}
 use Rattle.eng_entry.specs.declared.entry.EntryKind.TheVariants as entry_kind
+use Rattle.eng_entry.specs.declared.entry.EntryKind.{EntryKind}
 use Rattle.eng_value.specs.declared.affinity.Affinity.TheVariants as affinity
+use Rattle.eng_value.specs.declared.cause.Cause.TheVariants.{Ambiguous, Arity, Limit, Misuse, Unknown}
+use Rattle.eng_value.specs.declared.cause.Cause.TheVariants.{Fault}
+use Rattle.eng_value.specs.declared.cause.LimitKind.TheVariants as limit
+use Rattle.eng_value.specs.declared.cause.NameKind.TheVariants as kind
 use Rattle.eng_value.specs.declared.compare_op.CompareOp.TheVariants as compare
-use Rattle.eng_value.specs.declared.modules.ColumnKind.{ColumnKind}
 use Rattle.eng_value.specs.declared.modules.ColumnKind.TheVariants as column_kind
+use Rattle.eng_value.specs.declared.modules.ColumnKind.{ColumnKind}
 use Rattle.eng_value.specs.declared.modules.ModColumn.{ModColumn}
 use Rattle.sql_tree.specs.declared.query.Query.{Query}
 use Rattle.sql_tree.specs.declared.statement.TableDefinition.{TableDefinition}
 use Rattle.sql_tree.specs.declared.statement.ViewDefinition.{ViewDefinition}
 use Rattle.sql_tree.specs.declared.token.Token.{Token}
-use Rattle.bound_tree.specs.Exprs.{BoundExpr}
-use Rattle.bound_tree.specs.Exprs as e
 use Rattle.sql_meaning.specs.Binding.{◌>>=◌, affinity_of_words, by_bytes}
 use Rattle.sql_meaning.specs.Spelled.{name_at}
-use Rattle.sql_bound.specs.Carriers.{ConstraintParts, Expression, ItemParts, On, QueryParts, SourceParts, Unconstrained, Using}
+use Rattle.bound_tree.specs.Exprs as e
+use Rattle.bound_tree.specs.Exprs.{BoundExpr}
+use Rattle.bound_tree.specs.declared.units.BoundColumn.{BoundColumn}
+use Rattle.bound_tree.specs.declared.units.BoundIndex.{BoundIndex}
+use Rattle.bound_tree.specs.declared.units.BoundItem.{BoundItem}
+use Rattle.bound_tree.specs.declared.units.BoundSource.TheVariants as bound_source
+use Rattle.bound_tree.specs.declared.units.BoundSource.{BoundSource}
+use Rattle.bound_tree.specs.declared.units.BoundUnit.{BoundUnit}
+use Rattle.bound_tree.specs.declared.units.JoinKind.TheVariants as join_kind
+use Rattle.bound_tree.specs.declared.units.JoinKind.{JoinKind}
 use Rattle.sql_bound.specs.Carriers as parts
+use Rattle.sql_bound.specs.Carriers.{ConstraintParts, Expression, ItemParts, On, QueryParts, SourceParts, Unconstrained, Using}
 use Rattle.sql_bound.specs.Declarations.{DeclaredTable, bound_columns, declared_table, definition_of, indexes_of, is_empty, table_in, table_named, view_in}
 use Rattle.sql_bound.specs.Expressions.{all_bound, asked}
-use Rattle.eng_value.specs.declared.cause.NameKind.TheVariants as kind
-use Rattle.eng_value.specs.declared.cause.LimitKind.TheVariants as limit
 use Rattle.sql_bound.specs.Lasting.{collations_kept}
 use Rattle.sql_bound.specs.Limits.{by_column, most_items, within_columns}
 use Rattle.sql_bound.specs.Operands.{collation_of_result, column_operand, compared, trees_of}
 use Rattle.sql_bound.specs.Refusals.{Checked}
-use Rattle.eng_value.specs.declared.cause.Cause.TheVariants.{Fault}
 use Rattle.sql_bound.specs.Scopes.{Answer, Facts, Level, Outer, UnitsAnswer, further, handed, inside, is_shown, scope_over, unjoined, columns_named, with_named}
-use Rattle.bound_tree.specs.declared.units.BoundColumn.{BoundColumn}
-use Rattle.bound_tree.specs.declared.units.BoundIndex.{BoundIndex}
-use Rattle.bound_tree.specs.declared.units.BoundItem.{BoundItem}
-use Rattle.bound_tree.specs.declared.units.BoundSource.{BoundSource}
-use Rattle.bound_tree.specs.declared.units.BoundSource.TheVariants as bound_source
-use Rattle.bound_tree.specs.declared.units.BoundUnit.{BoundUnit}
-use Rattle.bound_tree.specs.declared.units.JoinKind.{JoinKind}
-use Rattle.bound_tree.specs.declared.units.JoinKind.TheVariants as join_kind
-use Rattle.eng_value.specs.declared.cause.Cause.TheVariants.{Ambiguous, Arity, Limit, Misuse, Unknown}
+use Rattle.sql_bound.specs.declared.froms.Found.{Found}
+use Rattle.sql_bound.specs.declared.froms.Joining.{Joining}
+use Rattle.sql_bound.specs.declared.froms.QueueTable.{QueueTable}
+use Rattle.sql_bound.specs.declared.froms.Sourced.{Sourced}
 use Rattle.sql_bound.specs.declared.scopes.Asked.{Asked}
 use Rattle.sql_bound.specs.declared.scopes.ResultColumn.{ResultColumn}
 use Rattle.sql_bound.specs.declared.scopes.ScopeColumn.{ScopeColumn}
 use Rattle.sql_bound.specs.declared.scopes.ScopeItem.{ScopeItem}
 use Rattle.sql_bound.specs.declared.scopes.WithEntry.{WithEntry}
-use Rattle.sql_bound.specs.declared.scopes.WithMeaning.{WithMeaning}
 use Rattle.sql_bound.specs.declared.scopes.WithMeaning.TheVariants.{Bound, Itself}
+use Rattle.sql_bound.specs.declared.scopes.WithMeaning.{WithMeaning}
 use Rattle.sql_bound.specs.declared.scopes.Work.{Work}
-use Rattle.sql_bound.specs.declared.froms.QueueTable.{QueueTable}
-use Rattle.sql_bound.specs.declared.froms.Found.{Found}
-use Rattle.sql_bound.specs.declared.froms.Sourced.{Sourced}
-use Rattle.sql_bound.specs.declared.froms.Joining.{Joining}
 
 -- what a query is bound in once it is entered, and how the query of a view is bound there
 pub record Inside : Type 0 where

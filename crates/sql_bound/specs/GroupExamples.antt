@@ -1,21 +1,21 @@
 -- Groups, ORDER BY and compounds.
 use Rattle.std.specs.Prelude.{pos, ◌≡◌, List, [], ◌∷◌, Option, Some, None, codes, refl}
+use Rattle.eng_value.specs.declared.cause.Cause.TheVariants.{Arity, BareColumn, Misuse, Unknown}
+use Rattle.eng_value.specs.declared.cause.NameKind.TheVariants as kind
+use Rattle.eng_value.specs.declared.operators.ArithmeticOp.TheVariants as arithmetic
+use Rattle.eng_value.specs.declared.operators.BinaryOperator.TheVariants as binary
+use Rattle.eng_value.specs.declared.value.Value.TheVariants as value
 use Rattle.sql_grammar.specs.Marks.{count}
 use Rattle.sql_grammar.specs.Statements.{all_statement_rules}
 use Rattle.sql_lex.specs.Pieces.{word_kind}
 use Rattle.sql_lex.specs.Tokens.{tokens_of}
 use Rattle.sql_tree.specs.declared.expr.BinaryOp.TheVariants as op
 use Rattle.sql_tree.specs.declared.query.CompoundOp.TheVariants as compound_op
-use Rattle.eng_value.specs.declared.operators.ArithmeticOp.TheVariants as arithmetic
-use Rattle.eng_value.specs.declared.operators.BinaryOperator.TheVariants as binary
-use Rattle.eng_value.specs.declared.value.Value.TheVariants as value
-use Rattle.sql_meaning.specs.declared.bound.Literal.TheVariants as literal
 use Rattle.sql_meaning.specs.Spelled.{the_text_test}
-use Rattle.sql_bound.specs.Carriers.{CoreParts, Expression, SpannedExpression}
+use Rattle.sql_meaning.specs.declared.bound.Literal.TheVariants as literal
 use Rattle.bound_tree.specs.Exprs as e
-use Rattle.eng_value.specs.declared.cause.NameKind.TheVariants as kind
+use Rattle.sql_bound.specs.Carriers.{CoreParts, Expression, SpannedExpression}
 use Rattle.sql_bound.specs.Samples.{both, bound, by, call, col, compound, core, dot, lit, named, named_as, ordered, query, refused, res, res_as, results_at, scalar, span, starred}
-use Rattle.eng_value.specs.declared.cause.Cause.TheVariants.{Arity, BareColumn, Misuse, Unknown}
 
 -- grouped by the first, with HAVING if any
 abbrev grouped : CoreParts → List SpannedExpression → Option Expression → CoreParts

@@ -1,13 +1,13 @@
 -- Groups: the columns of a grouped query that stand outside its aggregates and in no group expression (SELECT, section 2.5).
 use Rattle.std.specs.Prelude.{ℕ, Bool, true, false, List, [], Option, Some, None, Ok, Err, slice_get, codes, if◌then◌else◌}
 use Rattle.std.specs.List.{list_any}
-use Rattle.bound_tree.specs.Exprs.{AMatch, AnArm, AnExpr, BoundArms, BoundExpr, BoundExprs, BoundMatches, NoArms, NoExprs, NoMatches}
-use Rattle.bound_tree.specs.Exprs as e
-use Rattle.sql_bound.specs.Refusals.{Checked}
-use Rattle.bound_tree.specs.Same.{same_expr}
-use Rattle.sql_bound.specs.Scopes.{Level}
-use Rattle.bound_tree.specs.declared.units.BoundKey.{BoundKey}
 use Rattle.eng_value.specs.declared.cause.Cause.TheVariants.{BareColumn}
+use Rattle.bound_tree.specs.Exprs as e
+use Rattle.bound_tree.specs.Exprs.{AMatch, AnArm, AnExpr, BoundArms, BoundExpr, BoundExprs, BoundMatches, NoArms, NoExprs, NoMatches}
+use Rattle.bound_tree.specs.Same.{same_expr}
+use Rattle.bound_tree.specs.declared.units.BoundKey.{BoundKey}
+use Rattle.sql_bound.specs.Refusals.{Checked}
+use Rattle.sql_bound.specs.Scopes.{Level}
 use Rattle.sql_bound.specs.declared.scopes.ScopeColumn.{ScopeColumn}
 use Rattle.sql_bound.specs.declared.scopes.ScopeItem.{ScopeItem}
 

@@ -1,5 +1,5 @@
 -- What plain data of hosts tells.
-use Rattle.std.specs.Prelude.{ℕ, nat_eq, Bool, ◌&&◌, List, position}
+use Rattle.std.specs.Prelude.{nat_eq, ◌&&◌, position}
 use Rattle.std.specs.List.{find, list_any}
 use Rattle.std.specs.Option.{option_map}
 use Rattle.eng_entry.specs.Names.{is_same_name}

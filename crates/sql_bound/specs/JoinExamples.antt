@@ -1,17 +1,17 @@
 -- FROM: USING, NATURAL, ON, and what `*` shows.
 use Rattle.std.specs.Prelude.{◌≡◌, [], ◌∷◌, Some, None, codes, refl, true}
+use Rattle.eng_value.specs.declared.cause.Cause.TheVariants.{Ambiguous, Arity, Limit, Misuse, Unknown}
+use Rattle.eng_value.specs.declared.cause.LimitKind.TheVariants as limit
+use Rattle.eng_value.specs.declared.cause.NameKind.TheVariants as kind
 use Rattle.sql_grammar.specs.Marks.{count}
 use Rattle.sql_grammar.specs.Statements.{all_statement_rules}
 use Rattle.sql_lex.specs.Pieces.{word_kind}
 use Rattle.sql_lex.specs.Tokens.{tokens_of}
 use Rattle.sql_meaning.specs.Spelled.{the_text_test}
-use Rattle.sql_bound.specs.Carriers.{All, AllOf, On}
 use Rattle.bound_tree.specs.Exprs as e
-use Rattle.eng_value.specs.declared.cause.NameKind.TheVariants as kind
-use Rattle.eng_value.specs.declared.cause.LimitKind.TheVariants as limit
+use Rattle.sql_bound.specs.Carriers.{All, AllOf, On}
 use Rattle.sql_bound.specs.Samples.{around_of, bound, bound_over, called, col, core, dot, lit, named, named_as, natural, query, refused, refused_over, res, results_at, token_at, using}
 use Rattle.sql_bound.specs.Scopes.{Around}
-use Rattle.eng_value.specs.declared.cause.Cause.TheVariants.{Ambiguous, Arity, Limit, Misuse, Unknown}
 
 -- the joined column is shown once, the left one
 shown_once : results_at 0 (bound (codes "SELECT * FROM t JOIN u USING (b)") (λ t. query (core (All ∷ []) (named t 3 ∷ using t 5 (8 ∷ []) ∷ []) None))) ≡ e.Column 0 0 ∷ e.Column 0 1 ∷ e.Column 1 1 ∷ []

@@ -3,13 +3,13 @@ use Rattle.std.specs.Prelude.{ℕ, List, [], ◌∷◌, ◌++◌, Option, Some, 
 use Rattle.std.specs.List.{flat_map}
 use Rattle.std.specs.Option.{option_to_list}
 use Rattle.eng_entry.specs.declared.entry.Entry.{Entry}
-use Rattle.sql_tree.specs.declared.statement.ColumnConstraint.{ColumnConstraint}
 use Rattle.sql_tree.specs.declared.statement.ColumnConstraint.TheVariants as column_constraint
+use Rattle.sql_tree.specs.declared.statement.ColumnConstraint.{ColumnConstraint}
 use Rattle.sql_tree.specs.declared.statement.ColumnDefinition.{ColumnDefinition}
 use Rattle.sql_tree.specs.declared.statement.IndexDefinition.{IndexDefinition}
 use Rattle.sql_tree.specs.declared.statement.IndexedColumn.{IndexedColumn}
-use Rattle.sql_tree.specs.declared.statement.TableConstraint.{TableConstraint}
 use Rattle.sql_tree.specs.declared.statement.TableConstraint.TheVariants as table_constraint
+use Rattle.sql_tree.specs.declared.statement.TableConstraint.{TableConstraint}
 use Rattle.sql_tree.specs.declared.statement.TableDefinition.{TableDefinition}
 use Rattle.sql_tree.specs.declared.token.Token.{Token}
 use Rattle.sql_meaning.specs.Binding.{◌>>=◌, or_else}

@@ -1,11 +1,10 @@
 -- Lists that are walked from left to right, of which no more than so many members count.
 use Rattle.std.specs.Prelude.{ℕ, zero, suc, nat_le, nat_lt, List, [], ◌∷◌, length, Ok, Err, if◌then◌else◌}
+use Rattle.eng_value.specs.declared.cause.Cause.TheVariants.{Limit}
+use Rattle.eng_value.specs.declared.cause.LimitKind.TheVariants as limit
 use Rattle.eng_value.specs.declared.limits.TheConstants.{MAX_COLUMNS}
 use Rattle.sql_meaning.specs.Binding.{◌>>=◌}
-use Rattle.eng_value.specs.declared.cause.NameKind.TheVariants as kind
-use Rattle.eng_value.specs.declared.cause.LimitKind.TheVariants as limit
 use Rattle.sql_bound.specs.Refusals.{Checked}
-use Rattle.eng_value.specs.declared.cause.Cause.TheVariants.{Limit}
 
 -- one member after another, and the limit at the first one that is too many
 abbrev pub walked : {A B : Type 0} → (A → B → Checked B) → ℕ → List A → B → Checked B

@@ -1,25 +1,25 @@
 -- Tables of modules and functions of hosts.
 use Rattle.std.specs.Prelude.{◌≡◌, true, false, List, [], ◌∷◌, map, pos, Option, Some, None, if◌then◌else◌, codes, refl}
 use Rattle.eng_entry.specs.Names.{is_same_name}
-use Rattle.eng_value.specs.declared.modules.ColumnKind.{ColumnKind}
+use Rattle.eng_value.specs.declared.cause.Cause.TheVariants.{Arity, Misuse, Unknown}
+use Rattle.eng_value.specs.declared.cause.NameKind.TheVariants as kind
 use Rattle.eng_value.specs.declared.modules.ColumnKind.TheVariants as column_kind
+use Rattle.eng_value.specs.declared.modules.ColumnKind.{ColumnKind}
 use Rattle.eng_value.specs.declared.modules.ModColumn.{ModColumn}
 use Rattle.eng_value.specs.declared.value.Value.TheVariants as value
 use Rattle.sql_grammar.specs.Marks.{count}
 use Rattle.sql_grammar.specs.Statements.{all_statement_rules}
 use Rattle.sql_lex.specs.Pieces.{word_kind}
 use Rattle.sql_lex.specs.Tokens.{tokens_of}
-use Rattle.sql_meaning.specs.declared.bound.Literal.TheVariants as literal
 use Rattle.sql_meaning.specs.Spelled.{the_text_test}
-use Rattle.sql_bound.specs.Carriers.{All, AllOf}
+use Rattle.sql_meaning.specs.declared.bound.Literal.TheVariants as literal
 use Rattle.bound_tree.specs.Exprs as e
-use Rattle.eng_value.specs.declared.cause.NameKind.TheVariants as kind
-use Rattle.sql_bound.specs.Samples.{around_of, bound_over, call, called_with, col, commanded_over, core, core_at, delete, dot, lit, named, named_as, natural, no_facts, query, refused_over, res, results_at, scalar, sources_at, span, token_at, using, why}
-use Rattle.sql_bound.specs.Scopes.{Around, Facts}
 use Rattle.bound_tree.specs.declared.units.BoundCore.{BoundCore}
 use Rattle.bound_tree.specs.declared.units.BoundItem.{BoundItem}
 use Rattle.bound_tree.specs.declared.units.BoundSource.TheVariants.{Module}
-use Rattle.eng_value.specs.declared.cause.Cause.TheVariants.{Arity, Misuse, Unknown}
+use Rattle.sql_bound.specs.Carriers.{All, AllOf}
+use Rattle.sql_bound.specs.Samples.{around_of, bound_over, call, called_with, col, commanded_over, core, core_at, delete, dot, lit, named, named_as, natural, no_facts, query, refused_over, res, results_at, scalar, sources_at, span, token_at, using, why}
+use Rattle.sql_bound.specs.Scopes.{Around, Facts}
 
 -- ---- a module whose name is a table: value, and the arguments start, stop and step; and a function of one argument
 

@@ -1,12 +1,15 @@
 -- Affinities and collations of operands, calls, and what may stand in CHECK and DEFAULT.
 use Rattle.std.specs.Prelude.{length, ◌≡◌, ℕ, List, [], ◌∷◌, negsuc, Option, Some, None, codes, refl}
-use Rattle.eng_value.specs.declared.affinity.Affinity.{Affinity}
 use Rattle.eng_value.specs.declared.affinity.Affinity.TheVariants as affinity
+use Rattle.eng_value.specs.declared.affinity.Affinity.{Affinity}
 use Rattle.eng_value.specs.declared.built.Built.TheVariants as built
-use Rattle.eng_value.specs.declared.collation.Collation.{Collation}
+use Rattle.eng_value.specs.declared.cause.Cause.TheVariants.{Arity, Misuse, Unknown}
+use Rattle.eng_value.specs.declared.cause.Cause.{Cause}
+use Rattle.eng_value.specs.declared.cause.NameKind.TheVariants as kind
 use Rattle.eng_value.specs.declared.collation.Collation.TheVariants as collation
-use Rattle.eng_value.specs.declared.operators.BinaryOperator.{BinaryOperator}
+use Rattle.eng_value.specs.declared.collation.Collation.{Collation}
 use Rattle.eng_value.specs.declared.operators.BinaryOperator.TheVariants as binary
+use Rattle.eng_value.specs.declared.operators.BinaryOperator.{BinaryOperator}
 use Rattle.eng_value.specs.declared.operators.Sides.{Sides}
 use Rattle.eng_value.specs.declared.value.Value.TheVariants as value
 use Rattle.sql_grammar.specs.Marks.{count}
@@ -16,19 +19,16 @@ use Rattle.sql_lex.specs.Tokens.{tokens_of}
 use Rattle.sql_tree.specs.declared.expr.BinaryOp.TheVariants as op
 use Rattle.sql_tree.specs.declared.expr.UnaryOp.TheVariants as sign
 use Rattle.sql_tree.specs.declared.token.Token.{Token}
-use Rattle.sql_meaning.specs.declared.bound.Literal.TheVariants as literal
 use Rattle.sql_meaning.specs.Spelled.{the_text_test}
-use Rattle.sql_bound.specs.Carriers.{Expression}
-use Rattle.bound_tree.specs.Exprs.{BoundExpr}
+use Rattle.sql_meaning.specs.declared.bound.Literal.TheVariants as literal
 use Rattle.bound_tree.specs.Exprs as e
+use Rattle.bound_tree.specs.Exprs.{BoundExpr}
+use Rattle.bound_tree.specs.declared.units.BoundSource.TheVariants.{Given}
+use Rattle.sql_bound.specs.Carriers.{Expression}
 use Rattle.sql_bound.specs.Froms.{plain_source, scope_item}
-use Rattle.eng_value.specs.declared.cause.NameKind.TheVariants as kind
 use Rattle.sql_bound.specs.Samples.{around_of, between, both, bound, bound_over, call, call_distinct, call_filtered, col, collate, conjuncts_at, core, dot, in_query, lit, named, nested, parameter, query, raise_ignore, refused, res, res_as, results_at, scalar, starred, tables, unary, why}
 use Rattle.sql_bound.specs.Scopes.{Around, Level, begun}
 use Rattle.sql_bound.specs.Targets.{constraint_bound, in_check, in_default}
-use Rattle.eng_value.specs.declared.cause.Cause.{Cause}
-use Rattle.eng_value.specs.declared.cause.Cause.TheVariants.{Arity, Misuse, Unknown}
-use Rattle.bound_tree.specs.declared.units.BoundSource.TheVariants.{Given}
 use Rattle.sql_bound.specs.declared.scopes.Allowed.{Allowed}
 
 -- ---- how the sides of a comparison are compared

@@ -1,12 +1,12 @@
 -- What operators, calls and CASE make of operands (SQL Language Expressions; Datatypes In SQLite, sections 4.2 and 7.1).
 use Rattle.std.specs.Prelude.{ℕ, Bool, true, false, ◌-◌, ◌^◌, List, [], ◌∷◌, ◌++◌, map, negsuc, Option, Some, None, unwrap_or}
-use Rattle.eng_value.specs.declared.affinity.Affinity.{Affinity}
-use Rattle.eng_value.specs.declared.affinity.Affinity.TheVariants as affinity
 use Rattle.eng_value.specs.Functions.{FunctionKind, FirstKnown, Choice, kind_of}
+use Rattle.eng_value.specs.declared.affinity.Affinity.TheVariants as affinity
+use Rattle.eng_value.specs.declared.affinity.Affinity.{Affinity}
 use Rattle.eng_value.specs.declared.builtin.Builtin.{Builtin}
 use Rattle.eng_value.specs.declared.collation.Collation.{Collation}
-use Rattle.eng_value.specs.declared.compare_op.CompareOp.{CompareOp}
 use Rattle.eng_value.specs.declared.compare_op.CompareOp.TheVariants as compare
+use Rattle.eng_value.specs.declared.compare_op.CompareOp.{CompareOp}
 use Rattle.eng_value.specs.declared.operators.ArithmeticOp.TheVariants as arithmetic
 use Rattle.eng_value.specs.declared.operators.BinaryOperator.TheVariants as binary
 use Rattle.eng_value.specs.declared.operators.BinaryOperator.{BinaryOperator}
@@ -14,25 +14,25 @@ use Rattle.eng_value.specs.declared.operators.IntegerOp.TheVariants as integer
 use Rattle.eng_value.specs.declared.operators.Sides.{Sides}
 use Rattle.eng_value.specs.declared.operators.UnaryOperator.TheVariants as unary
 use Rattle.eng_value.specs.declared.value.Value.TheVariants as value
-use Rattle.sql_tree.specs.declared.expr.BinaryOp.{BinaryOp}
-use Rattle.sql_tree.specs.declared.expr.BinaryOp.TheVariants as op
-use Rattle.sql_tree.specs.declared.expr.UnaryOp.{UnaryOp}
-use Rattle.sql_tree.specs.declared.expr.UnaryOp.TheVariants as sign
 use Rattle.sql_lex.specs.Tokens.{slice_of}
+use Rattle.sql_tree.specs.declared.expr.BinaryOp.TheVariants as op
+use Rattle.sql_tree.specs.declared.expr.BinaryOp.{BinaryOp}
+use Rattle.sql_tree.specs.declared.expr.UnaryOp.TheVariants as sign
+use Rattle.sql_tree.specs.declared.expr.UnaryOp.{UnaryOp}
 use Rattle.sql_tree.specs.declared.token.Token.{Token}
-use Rattle.sql_tree.specs.declared.token.TokenKind.{TokenKind}
 use Rattle.sql_tree.specs.declared.token.TokenKind.TheVariants as token
-use Rattle.sql_meaning.specs.declared.bound.Literal.TheVariants as literal
-use Rattle.bound_tree.specs.Exprs.{BoundArm, BoundExpr, BoundMatch}
-use Rattle.bound_tree.specs.Exprs as e
+use Rattle.sql_tree.specs.declared.token.TokenKind.{TokenKind}
 use Rattle.sql_meaning.specs.Binding.{by_bytes, or_else}
 use Rattle.sql_meaning.specs.Spelled.{is_least_magnitude, literal_at}
+use Rattle.sql_meaning.specs.declared.bound.Literal.TheVariants as literal
+use Rattle.bound_tree.specs.Exprs as e
+use Rattle.bound_tree.specs.Exprs.{BoundArm, BoundExpr, BoundMatch}
+use Rattle.sql_bound.specs.declared.scopes.ArmOperands.{ArmOperands}
+use Rattle.sql_bound.specs.declared.scopes.Form.TheVariants.{LeastMagnitude, Plain, Truth}
+use Rattle.sql_bound.specs.declared.scopes.Form.{Form}
 use Rattle.sql_bound.specs.declared.scopes.Operand.{Operand}
 use Rattle.sql_bound.specs.declared.scopes.ResultColumn.{ResultColumn}
 use Rattle.sql_bound.specs.declared.scopes.ScopeColumn.{ScopeColumn}
-use Rattle.sql_bound.specs.declared.scopes.ArmOperands.{ArmOperands}
-use Rattle.sql_bound.specs.declared.scopes.Form.{Form}
-use Rattle.sql_bound.specs.declared.scopes.Form.TheVariants.{LeastMagnitude, Plain, Truth}
 
 -- ---- affinity and collation
 

@@ -2,30 +2,30 @@
 use Rattle.std.specs.Prelude.{ℕ, Bool, true, false, not, List, [], ◌∷◌, position, Option, Some, None, Ok, Err, unwrap_or, slice_get}
 use Rattle.std.specs.List.{list_any}
 use Rattle.eng_entry.specs.Names.{is_same_name}
+use Rattle.eng_value.specs.declared.cause.Cause.TheVariants.{Unknown}
+use Rattle.eng_value.specs.declared.cause.NameKind.TheVariants as kind
 use Rattle.eng_value.specs.declared.collation.Collation.{Collation}
-use Rattle.sql_tree.specs.declared.query.NullsOrder.{NullsOrder}
 use Rattle.sql_tree.specs.declared.query.NullsOrder.TheVariants as nulls
-use Rattle.bound_tree.specs.Exprs.{BoundExpr}
+use Rattle.sql_tree.specs.declared.query.NullsOrder.{NullsOrder}
 use Rattle.sql_meaning.specs.Binding.{◌>>=◌, by_bytes}
 use Rattle.sql_meaning.specs.Spelled.{literal_at, name_at}
+use Rattle.bound_tree.specs.Exprs.{BoundExpr}
+use Rattle.bound_tree.specs.declared.units.BoundTerm.{BoundTerm}
+use Rattle.bound_tree.specs.declared.units.TermKey.TheVariants.{Expression as ByExpression, Result as ByResult}
+use Rattle.bound_tree.specs.declared.units.TermKey.{TermKey}
 use Rattle.sql_bound.specs.Carriers.{Expression, LimitParts, Name, Number, Other, Term, TermParts}
 use Rattle.sql_bound.specs.Cores.{scope_with}
 use Rattle.sql_bound.specs.Groups.{grouped_checked}
-use Rattle.eng_value.specs.declared.cause.NameKind.TheVariants as kind
 use Rattle.sql_bound.specs.Operands.{collation_of, collation_of_result}
 use Rattle.sql_bound.specs.Refusals.{Checked}
 use Rattle.sql_bound.specs.Results.{ShownResult, at_place, place_named, text_of}
 use Rattle.sql_bound.specs.Scopes.{Answer, Outer, Scope, is_called, scope_over}
-use Rattle.bound_tree.specs.declared.units.BoundTerm.{BoundTerm}
-use Rattle.bound_tree.specs.declared.units.TermKey.{TermKey}
-use Rattle.bound_tree.specs.declared.units.TermKey.TheVariants.{Expression as ByExpression, Result as ByResult}
-use Rattle.eng_value.specs.declared.cause.Cause.TheVariants.{Unknown}
+use Rattle.sql_bound.specs.declared.queries.BoundLimit.{BoundLimit}
 use Rattle.sql_bound.specs.declared.queries.BoundSelect.{BoundSelect}
 use Rattle.sql_bound.specs.declared.scopes.Operand.{Operand}
 use Rattle.sql_bound.specs.declared.scopes.ResultColumn.{ResultColumn}
 use Rattle.sql_bound.specs.declared.scopes.Standing.TheVariants.{Taken}
 use Rattle.sql_bound.specs.declared.scopes.Work.{Work}
-use Rattle.sql_bound.specs.declared.queries.BoundLimit.{BoundLimit}
 
 -- ---- where NULLs stand: first where it ascends, unless it is said otherwise
 

@@ -1,14 +1,14 @@
 -- Whether a parameter stands in a tree: a CREATE has none outside the arguments of a module.
 use Rattle.std.specs.Prelude.{Bool, true, false, ◌||◌, List, Option, Some, None}
 use Rattle.std.specs.List.{list_any}
-use Rattle.sql_tree.specs.declared.expr.Expr.{Expr, fold-Expr}
 use Rattle.sql_tree.specs.declared.expr.Expr.TheOpen.{Arm-F, CommonTable-F, CompoundPart-F, Expr-F, FromItem-F, JoinConstraint-F, OrderingTerm-F, Query-F, QueryPart-F, ResultColumn-F, RowLimit-F, SelectCore-F, Source-F, SpannedExpr-F}
+use Rattle.sql_tree.specs.declared.expr.Expr.{Expr, fold-Expr}
 use Rattle.sql_tree.specs.declared.query.Query.{Query, fold-Query}
 use Rattle.sql_tree.specs.declared.statement.Assignment.{Assignment}
-use Rattle.sql_tree.specs.declared.statement.InsertSource.{InsertSource}
 use Rattle.sql_tree.specs.declared.statement.InsertSource.TheVariants as source
-use Rattle.sql_tree.specs.declared.statement.RowCommand.{RowCommand}
+use Rattle.sql_tree.specs.declared.statement.InsertSource.{InsertSource}
 use Rattle.sql_tree.specs.declared.statement.RowCommand.TheVariants as rows_by
+use Rattle.sql_tree.specs.declared.statement.RowCommand.{RowCommand}
 use Rattle.sql_tree.specs.declared.statement.TriggerDefinition.{TriggerDefinition}
 
 -- one of the parts has one

@@ -1,18 +1,17 @@
 -- Whole queries: WITH, the parts, ORDER BY and LIMIT; each query is one unit (SELECT).
 use Rattle.std.specs.Prelude.{ℕ, List, [], ◌∷◌, ◌++◌, length, position, Option, Some, None, Ok, Err}
+use Rattle.eng_value.specs.declared.cause.Cause.TheVariants.{Limit}
+use Rattle.eng_value.specs.declared.cause.LimitKind.TheVariants as limit
 use Rattle.sql_meaning.specs.Binding.{◌>>=◌}
+use Rattle.bound_tree.specs.SameUnits.{same_unit}
+use Rattle.bound_tree.specs.declared.units.BoundUnit.TheVariants.{Queried}
+use Rattle.bound_tree.specs.declared.units.BoundUnit.{BoundUnit}
 use Rattle.sql_bound.specs.Carriers.{CompoundParts, LimitParts, PartParts, QueryBinding, TableParts, TermParts}
 use Rattle.sql_bound.specs.Compounds.{parts_bound}
 use Rattle.sql_bound.specs.Froms.{Inside, as_columns}
-use Rattle.eng_value.specs.declared.cause.NameKind.TheVariants as kind
-use Rattle.eng_value.specs.declared.cause.LimitKind.TheVariants as limit
 use Rattle.sql_bound.specs.Orders.{limit_bound}
-use Rattle.bound_tree.specs.SameUnits.{same_unit}
 use Rattle.sql_bound.specs.Scopes.{Bottom, Deeper, Depth, Outer, UnitsAnswer, begun}
 use Rattle.sql_bound.specs.Withs.{tables_bound}
-use Rattle.bound_tree.specs.declared.units.BoundUnit.{BoundUnit}
-use Rattle.bound_tree.specs.declared.units.BoundUnit.TheVariants.{Queried}
-use Rattle.eng_value.specs.declared.cause.Cause.TheVariants.{Limit}
 use Rattle.sql_bound.specs.declared.queries.BoundLimit.{BoundLimit}
 use Rattle.sql_bound.specs.declared.queries.Gathered.{Gathered}
 use Rattle.sql_bound.specs.declared.scopes.Asked.{Asked}

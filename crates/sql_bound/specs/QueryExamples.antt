@@ -1,22 +1,22 @@
 -- Names in queries: which column each stands for, and which refusal comes first.
 use Rattle.std.specs.Prelude.{ℕ, zero, suc, true, pos, replicate, ◌++◌, ◌≡◌, [], ◌∷◌, Some, None, codes, refl}
+use Rattle.eng_value.specs.declared.cause.Cause.TheVariants.{Ambiguous, Arity, Limit, Unknown}
+use Rattle.eng_value.specs.declared.cause.LimitKind.TheVariants as limit
+use Rattle.eng_value.specs.declared.cause.NameKind.TheVariants as kind
+use Rattle.eng_value.specs.declared.operators.BinaryOperator.TheVariants as binary
+use Rattle.eng_value.specs.declared.operators.UnaryOperator.TheVariants as unary
+use Rattle.eng_value.specs.declared.value.Value.TheVariants as value
 use Rattle.sql_grammar.specs.Marks.{count}
 use Rattle.sql_grammar.specs.Statements.{all_statement_rules}
 use Rattle.sql_lex.specs.Pieces.{word_kind}
 use Rattle.sql_lex.specs.Tokens.{tokens_of}
 use Rattle.sql_tree.specs.declared.expr.BinaryOp.TheVariants as op
-use Rattle.eng_value.specs.declared.value.Value.TheVariants as value
-use Rattle.sql_meaning.specs.declared.bound.Literal.TheVariants as literal
-use Rattle.sql_bound.specs.Carriers.{QueryParts}
 use Rattle.sql_meaning.specs.Spelled.{the_text_test}
-use Rattle.bound_tree.specs.Exprs.{BoundExpr}
+use Rattle.sql_meaning.specs.declared.bound.Literal.TheVariants as literal
 use Rattle.bound_tree.specs.Exprs as e
-use Rattle.eng_value.specs.declared.operators.BinaryOperator.TheVariants as binary
-use Rattle.eng_value.specs.declared.operators.UnaryOperator.TheVariants as unary
-use Rattle.eng_value.specs.declared.cause.NameKind.TheVariants as kind
-use Rattle.eng_value.specs.declared.cause.LimitKind.TheVariants as limit
+use Rattle.bound_tree.specs.Exprs.{BoundExpr}
+use Rattle.sql_bound.specs.Carriers.{QueryParts}
 use Rattle.sql_bound.specs.Samples.{asked_in, both, bound, refused, tables, col, conjuncts_at, core, dot, in_query, lit, named, named_as, names_of, nested, query, refusal_of, res, res_as, results_at, scalar}
-use Rattle.eng_value.specs.declared.cause.Cause.TheVariants.{Ambiguous, Arity, Limit, Unknown}
 
 -- ---- the order of work
 

@@ -2,33 +2,33 @@
 use Rattle.std.specs.Prelude.{ℕ, Bool, true, false, ◌&&◌, List, [], ◌∷◌, length, Option, Some, None, Ok, Err, codes, if◌then◌else◌}
 use Rattle.std.specs.List.{list_any}
 use Rattle.eng_entry.specs.Names.{is_same_name}
-use Rattle.sql_tree.specs.declared.query.CompoundOp.{CompoundOp}
+use Rattle.eng_value.specs.declared.cause.Cause.TheVariants.{Misuse}
 use Rattle.sql_tree.specs.declared.query.CompoundOp.TheVariants as op
+use Rattle.sql_tree.specs.declared.query.CompoundOp.{CompoundOp}
 use Rattle.sql_meaning.specs.Binding.{◌>>=◌}
 use Rattle.sql_meaning.specs.Spelled.{name_at}
-use Rattle.sql_bound.specs.Carriers.{CompoundParts, CoreParts, ItemParts, PartParts, QueryBinding, QueryParts, Select, SourceParts, TableParts, TermParts, Values}
+use Rattle.bound_tree.specs.declared.units.BoundCompound.{BoundCompound}
+use Rattle.bound_tree.specs.declared.units.BoundUnit.TheVariants.{Recursed}
+use Rattle.bound_tree.specs.declared.units.BoundUnit.{BoundUnit}
 use Rattle.sql_bound.specs.Carriers as parts
+use Rattle.sql_bound.specs.Carriers.{CompoundParts, CoreParts, ItemParts, PartParts, QueryBinding, QueryParts, Select, SourceParts, TableParts, TermParts, Values}
 use Rattle.sql_bound.specs.Compounds.{collations_of, first_word, others_bound, part_bound, width_fits}
 use Rattle.sql_bound.specs.Cores.{core_of, recursive_select_bound, without_aggregates}
 use Rattle.sql_bound.specs.Declarations.{is_empty}
 use Rattle.sql_bound.specs.Froms.{Inside, as_columns, or_none, with_names}
 use Rattle.sql_bound.specs.Orders.{limit_bound}
+use Rattle.sql_bound.specs.Queries.{Written, asked_as, body_bound, entered, query_bound}
 use Rattle.sql_bound.specs.Refusals.{Checked}
 use Rattle.sql_bound.specs.Scopes.{Outer, UnitsAnswer, begun, with_named}
-use Rattle.sql_bound.specs.Queries.{Written, asked_as, body_bound, entered, query_bound}
 use Rattle.sql_bound.specs.Withs.{tables_bound}
-use Rattle.bound_tree.specs.declared.units.BoundCompound.{BoundCompound}
-use Rattle.bound_tree.specs.declared.units.BoundUnit.{BoundUnit}
-use Rattle.bound_tree.specs.declared.units.BoundUnit.TheVariants.{Recursed}
-use Rattle.eng_value.specs.declared.cause.Cause.TheVariants.{Misuse}
 use Rattle.sql_bound.specs.declared.queries.BoundLimit.{BoundLimit}
 use Rattle.sql_bound.specs.declared.queries.BoundSelect.{BoundSelect}
 use Rattle.sql_bound.specs.declared.queries.Given.{Given}
 use Rattle.sql_bound.specs.declared.scopes.Asked.{Asked}
 use Rattle.sql_bound.specs.declared.scopes.ResultColumn.{ResultColumn}
 use Rattle.sql_bound.specs.declared.scopes.WithEntry.{WithEntry}
-use Rattle.sql_bound.specs.declared.scopes.WithMeaning.{WithMeaning}
 use Rattle.sql_bound.specs.declared.scopes.WithMeaning.TheVariants.{Bound, Itself}
+use Rattle.sql_bound.specs.declared.scopes.WithMeaning.{WithMeaning}
 use Rattle.sql_bound.specs.declared.scopes.Work.{Work}
 
 -- ---- the query of a WITH table: it is recursive where it is `first UNION [ALL] part`, part its last one, and an item of part's FROM names the table

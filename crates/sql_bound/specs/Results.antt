@@ -1,29 +1,28 @@
 -- Result columns: what `*` shows, what each result is, and what it is called (SELECT, section 2.4).
 use Rattle.std.specs.Prelude.{ℕ, zero, suc, ◌-◌, Bool, not, ◌&&◌, List, [], ◌∷◌, ◌++◌, map, filter, take, drop, slice_get, ℤ, pos, negsuc, Option, Some, None, Ok, Err, unwrap_or, if◌then◌else◌, codes}
 use Rattle.std.specs.List.{flat_map, list_any}
+use Rattle.eng_value.specs.declared.cause.Cause.TheVariants.{Misuse, Unknown}
+use Rattle.eng_value.specs.declared.cause.NameKind.TheVariants as kind
 use Rattle.eng_value.specs.declared.value.Value.TheVariants as value
 use Rattle.sql_tree.specs.declared.token.Span.{Span}
 use Rattle.sql_tree.specs.declared.token.Token.{Token}
-use Rattle.sql_meaning.specs.declared.bound.Literal.{Literal}
-use Rattle.sql_meaning.specs.declared.bound.Literal.TheVariants as literal
-use Rattle.bound_tree.specs.Exprs.{BoundExpr}
 use Rattle.sql_meaning.specs.Binding.{◌>>=◌, or_else}
 use Rattle.sql_meaning.specs.Spelled.{as_text, name_at}
+use Rattle.sql_meaning.specs.declared.bound.Literal.TheVariants as literal
+use Rattle.sql_meaning.specs.declared.bound.Literal.{Literal}
+use Rattle.bound_tree.specs.declared.units.BoundKey.{BoundKey}
 use Rattle.sql_bound.specs.Carriers.{All, AllOf, Binding, One, ResultParts, SpannedExpression}
 use Rattle.sql_bound.specs.Groups.{grouped_checked}
-use Rattle.eng_value.specs.declared.cause.NameKind.TheVariants as kind
 use Rattle.sql_bound.specs.Limits.{room_behind}
 use Rattle.sql_bound.specs.Operands.{column_operand}
 use Rattle.sql_bound.specs.Refusals.{Checked}
 use Rattle.sql_bound.specs.Scopes.{Alias, Answer, Level, Scope, is_called, is_shown}
-use Rattle.bound_tree.specs.declared.units.BoundKey.{BoundKey}
-use Rattle.eng_value.specs.declared.cause.Cause.TheVariants.{Misuse, Unknown}
+use Rattle.sql_bound.specs.declared.queries.Shown.{Shown}
 use Rattle.sql_bound.specs.declared.scopes.Operand.{Operand}
 use Rattle.sql_bound.specs.declared.scopes.ResultColumn.{ResultColumn}
 use Rattle.sql_bound.specs.declared.scopes.ScopeColumn.{ScopeColumn}
 use Rattle.sql_bound.specs.declared.scopes.ScopeItem.{ScopeItem}
 use Rattle.sql_bound.specs.declared.scopes.Work.{Work}
-use Rattle.sql_bound.specs.declared.queries.Shown.{Shown}
 
 -- ---- what `*` shows
 

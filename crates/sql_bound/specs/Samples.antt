@@ -1,8 +1,9 @@
 -- What worked examples are written with: what trees come to, by the tokens of a text, and entries by the texts of CREATEs. A tree's fold comes to the same, since it makes these steps; here nothing stands between the steps and what they compute.
 use Rattle.std.specs.Prelude.{ℕ, suc, true, false, List, [], ◌∷◌, ◌++◌, map, Option, Some, None, Ok, Err, slice_get, slice_index_or, codes}
 use Rattle.eng_entry.specs.declared.entry.Entry.{Entry}
-use Rattle.eng_entry.specs.declared.entry.EntryKind.{EntryKind}
 use Rattle.eng_entry.specs.declared.entry.EntryKind.TheVariants as entry_kind
+use Rattle.eng_entry.specs.declared.entry.EntryKind.{EntryKind}
+use Rattle.eng_value.specs.declared.cause.Cause.{Cause}
 use Rattle.sql_grammar.specs.Answers.{Answer, Tree, Syntax, TooMuch}
 use Rattle.sql_lex.specs.Tokens.{tokens_of}
 use Rattle.sql_tree.specs.declared.expr.Arguments.TheVariants as arguments
@@ -11,37 +12,36 @@ use Rattle.sql_tree.specs.declared.expr.Expr.TheOpen.{Expr-F}
 use Rattle.sql_tree.specs.declared.expr.UnaryOp.{UnaryOp}
 use Rattle.sql_tree.specs.declared.query.CompoundOp.{CompoundOp}
 use Rattle.sql_tree.specs.declared.query.Join.{Join}
-use Rattle.sql_tree.specs.declared.statement.Command.{Command}
 use Rattle.sql_tree.specs.declared.statement.Command.TheVariants as command
-use Rattle.sql_tree.specs.declared.statement.Definition.{Definition}
-use Rattle.sql_tree.specs.declared.statement.Definition.TheVariants as definition
-use Rattle.sql_tree.specs.declared.statement.Statement.{Statement}
-use Rattle.sql_tree.specs.declared.statement.ConflictChoice.{ConflictChoice}
+use Rattle.sql_tree.specs.declared.statement.Command.{Command}
 use Rattle.sql_tree.specs.declared.statement.ConflictChoice.TheVariants as choice
+use Rattle.sql_tree.specs.declared.statement.ConflictChoice.{ConflictChoice}
+use Rattle.sql_tree.specs.declared.statement.Definition.TheVariants as definition
+use Rattle.sql_tree.specs.declared.statement.Definition.{Definition}
+use Rattle.sql_tree.specs.declared.statement.Statement.{Statement}
 use Rattle.sql_tree.specs.declared.token.Token.{Token}
 use Rattle.sql_tree.specs.declared.token.TokenKind.TheVariants as token
 use Rattle.sql_meaning.specs.Spelled.{name_at}
 use Rattle.sql_meaning.specs.Statement.{answer_of}
+use Rattle.bound_tree.specs.Exprs.{BoundExpr}
+use Rattle.bound_tree.specs.declared.statements.BoundCommand.TheVariants as bound_command
+use Rattle.bound_tree.specs.declared.statements.BoundCommand.{BoundCommand}
+use Rattle.bound_tree.specs.declared.units.BoundCore.{BoundCore}
+use Rattle.bound_tree.specs.declared.units.BoundItem.{BoundItem}
+use Rattle.bound_tree.specs.declared.units.BoundPart.TheVariants as bound_part
+use Rattle.bound_tree.specs.declared.units.BoundPart.{BoundPart}
+use Rattle.bound_tree.specs.declared.units.BoundSource.{BoundSource}
+use Rattle.bound_tree.specs.declared.units.BoundUnit.TheVariants.{Queried, Recursed}
+use Rattle.bound_tree.specs.declared.units.BoundUnit.{BoundUnit}
+use Rattle.bound_tree.specs.declared.writes.BoundChange.{BoundChange}
 use Rattle.sql_bound.specs.Carriers.{CoreParts, Expression, ItemParts, QueryParts, ResultParts, SpannedExpression, SetParts, Inserts, Updates, Deletes, RowParts, TableParts, TermParts, Unconstrained, Using, Table, Derived, Select, Values, One}
 use Rattle.sql_bound.specs.Expressions.{expr_step}
 use Rattle.sql_bound.specs.Recursions.{parts_of_query}
 use Rattle.sql_bound.specs.Refusals.{Checked}
 use Rattle.sql_bound.specs.Scopes.{Around, Facts, UnitsAnswer, in_statement}
-use Rattle.sql_bound.specs.Trees.{depth_of, full_depth, outer_at}
-use Rattle.bound_tree.specs.Exprs.{BoundExpr}
 use Rattle.sql_bound.specs.Statements.{rows_bound}
+use Rattle.sql_bound.specs.Trees.{depth_of, full_depth, outer_at}
 use Rattle.sql_bound.specs.Writes.{Opened}
-use Rattle.bound_tree.specs.declared.statements.BoundCommand.{BoundCommand}
-use Rattle.bound_tree.specs.declared.statements.BoundCommand.TheVariants as bound_command
-use Rattle.bound_tree.specs.declared.units.BoundCore.{BoundCore}
-use Rattle.bound_tree.specs.declared.units.BoundItem.{BoundItem}
-use Rattle.bound_tree.specs.declared.units.BoundPart.{BoundPart}
-use Rattle.bound_tree.specs.declared.units.BoundPart.TheVariants as bound_part
-use Rattle.bound_tree.specs.declared.units.BoundSource.{BoundSource}
-use Rattle.bound_tree.specs.declared.units.BoundUnit.{BoundUnit}
-use Rattle.bound_tree.specs.declared.units.BoundUnit.TheVariants.{Queried, Recursed}
-use Rattle.bound_tree.specs.declared.writes.BoundChange.{BoundChange}
-use Rattle.eng_value.specs.declared.cause.Cause.{Cause}
 use Rattle.sql_bound.specs.declared.scopes.Asked.{Asked}
 use Rattle.sql_bound.specs.declared.scopes.ResultColumn.{ResultColumn}
 

@@ -2,35 +2,29 @@
 use Rattle.std.specs.Prelude.{ℕ, suc, zero, ◌+◌, nat_eq, Bool, true, false, not, ◌&&◌, List, [], ◌∷◌, ◌++◌, filter, length, position, ℤ, Option, Some, None, Ok, Err, codes, if◌then◌else◌}
 use Rattle.std.specs.List.{find, flat_map, list_any}
 use Rattle.std.specs.Option.{option_to_list}
+use Rattle.eng_text.specs.Texts.{folded}
 use Rattle.eng_entry.specs.Entries.{Entries}
 use Rattle.eng_entry.specs.Names.{is_same_name}
-use Rattle.eng_text.specs.Texts.{folded}
-use Rattle.eng_value.specs.declared.affinity.Affinity.{Affinity}
-use Rattle.eng_value.specs.declared.collation.Collation.{Collation}
+use Rattle.eng_value.specs.declared.cause.Cause.TheVariants.{Ambiguous}
 use Rattle.eng_value.specs.declared.modules.ModColumn.{ModColumn}
 use Rattle.sql_tree.specs.declared.query.Query.{Query}
-use Rattle.bound_tree.specs.Exprs.{BoundExpr}
-use Rattle.bound_tree.specs.Exprs as e
-use Rattle.sql_meaning.specs.Binding.{Form}
-use Rattle.sql_bound.specs.Refusals.{Checked}
-use Rattle.bound_tree.specs.Same.{same_expr}
 use Rattle.sql_meaning.specs.Names.{is_named_in}
-use Rattle.bound_tree.specs.declared.units.BoundAggregate.{BoundAggregate}
+use Rattle.bound_tree.specs.Exprs as e
+use Rattle.bound_tree.specs.Exprs.{BoundExpr}
+use Rattle.bound_tree.specs.Same.{same_expr}
 use Rattle.bound_tree.specs.declared.units.BoundUnit.{BoundUnit}
-use Rattle.eng_value.specs.declared.cause.Cause.TheVariants.{Ambiguous}
+use Rattle.sql_bound.specs.Refusals.{Checked}
+use Rattle.sql_bound.specs.declared.scopes.Allowed.{Allowed}
+use Rattle.sql_bound.specs.declared.scopes.Asked.{Asked}
+use Rattle.sql_bound.specs.declared.scopes.Need.{Need}
+use Rattle.sql_bound.specs.declared.scopes.Operand.{Operand}
 use Rattle.sql_bound.specs.declared.scopes.ScopeColumn.{ScopeColumn}
 use Rattle.sql_bound.specs.declared.scopes.ScopeItem.{ScopeItem}
 use Rattle.sql_bound.specs.declared.scopes.Sight.{Sight}
-use Rattle.sql_bound.specs.declared.scopes.Need.{Need}
-use Rattle.sql_bound.specs.declared.scopes.Work.{Work}
-use Rattle.sql_bound.specs.declared.scopes.ResultColumn.{ResultColumn}
-use Rattle.sql_bound.specs.declared.scopes.Asked.{Asked}
-use Rattle.sql_bound.specs.declared.scopes.WithMeaning.{WithMeaning}
-use Rattle.sql_bound.specs.declared.scopes.WithEntry.{WithEntry}
-use Rattle.sql_bound.specs.declared.scopes.Allowed.{Allowed}
-use Rattle.sql_bound.specs.declared.scopes.Operand.{Operand}
+use Rattle.sql_bound.specs.declared.scopes.Standing.TheVariants.{Nowhere}
 use Rattle.sql_bound.specs.declared.scopes.Standing.{Standing}
-use Rattle.sql_bound.specs.declared.scopes.Standing.TheVariants.{Nowhere, Taken}
+use Rattle.sql_bound.specs.declared.scopes.WithEntry.{WithEntry}
+use Rattle.sql_bound.specs.declared.scopes.Work.{Work}
 
 -- ---- what hosts tell of their names
 

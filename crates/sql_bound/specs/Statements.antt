@@ -3,41 +3,39 @@ use Rattle.std.specs.Prelude.{ℕ, Bool, true, false, ◌&&◌, List, [], Option
 use Rattle.eng_entry.specs.Entries.{entry_named}
 use Rattle.eng_entry.specs.Names.{is_same_name}
 use Rattle.eng_entry.specs.declared.entry.Entry.{Entry}
-use Rattle.eng_entry.specs.declared.entry.EntryKind.{EntryKind}
 use Rattle.eng_entry.specs.declared.entry.EntryKind.TheVariants as entry_kind
-use Rattle.sql_tree.specs.declared.statement.Command.{Command}
+use Rattle.eng_entry.specs.declared.entry.EntryKind.{EntryKind}
+use Rattle.eng_value.specs.declared.cause.Cause.TheVariants.{Unknown}
+use Rattle.eng_value.specs.declared.cause.NameKind.TheVariants as kind
+use Rattle.eng_value.specs.declared.cause.NameKind.{NameKind}
 use Rattle.sql_tree.specs.declared.statement.Command.TheVariants as command
+use Rattle.sql_tree.specs.declared.statement.Command.{Command}
 use Rattle.sql_tree.specs.declared.statement.Explain.{Explain}
-use Rattle.sql_tree.specs.declared.statement.ObjectKind.{ObjectKind}
 use Rattle.sql_tree.specs.declared.statement.ObjectKind.TheVariants as object
+use Rattle.sql_tree.specs.declared.statement.ObjectKind.{ObjectKind}
 use Rattle.sql_tree.specs.declared.statement.Pragma.{Pragma}
 use Rattle.sql_tree.specs.declared.statement.Remove.{Remove}
 use Rattle.sql_tree.specs.declared.statement.Statement.{Statement}
-use Rattle.sql_tree.specs.declared.statement.Transaction.{Transaction}
 use Rattle.sql_tree.specs.declared.statement.Transaction.TheVariants as transaction
+use Rattle.sql_tree.specs.declared.statement.Transaction.{Transaction}
 use Rattle.sql_meaning.specs.Binding.{◌>>=◌}
 use Rattle.sql_meaning.specs.Spelled.{name_at}
 use Rattle.sql_meaning.specs.Statement.{is_off}
+use Rattle.bound_tree.specs.declared.statements.BoundCommand.TheVariants as bound_command
+use Rattle.bound_tree.specs.declared.statements.BoundCommand.TheVariants.{Asked, Nothing, Removed, Transacted, Written}
+use Rattle.bound_tree.specs.declared.statements.BoundCommand.{BoundCommand}
+use Rattle.bound_tree.specs.declared.statements.BoundStatement.{BoundStatement}
+use Rattle.bound_tree.specs.declared.statements.BoundTransaction.TheVariants.{Begins, Commits, Releases, RollsBack, RollsBackTo, Saves}
+use Rattle.bound_tree.specs.declared.statements.BoundTransaction.{BoundTransaction}
+use Rattle.bound_tree.specs.declared.statements.ThingKind.TheVariants.{AModuleTable, ATable, ATrigger, AView, AnIndex}
+use Rattle.bound_tree.specs.declared.statements.ThingKind.{ThingKind}
 use Rattle.sql_bound.specs.Carriers.{Deletes, Inserts, Queries, RowParts, Updates}
 use Rattle.sql_bound.specs.Creates.{create_bound, name_of_entry}
-use Rattle.eng_value.specs.declared.cause.NameKind.TheVariants as kind
 use Rattle.sql_bound.specs.Refusals.{Checked}
 use Rattle.sql_bound.specs.Scopes.{Answer, Around, Outer, begun, in_statement}
 use Rattle.sql_bound.specs.Trees.{full_depth, of_rows, outer_at}
 use Rattle.sql_bound.specs.Triggers.{opening}
 use Rattle.sql_bound.specs.Writes.{Begun, Opened, delete_begun, insert_begun, update_begun, write_bound}
-use Rattle.bound_tree.specs.declared.statements.BoundCommand.{BoundCommand}
-use Rattle.bound_tree.specs.declared.statements.BoundCommand.TheVariants.{Asked, Nothing, Removed, Transacted, Written}
-use Rattle.bound_tree.specs.declared.statements.BoundCommand.TheVariants as bound_command
-use Rattle.bound_tree.specs.declared.statements.BoundRemoval.{BoundRemoval}
-use Rattle.bound_tree.specs.declared.statements.BoundStatement.{BoundStatement}
-use Rattle.bound_tree.specs.declared.statements.BoundTransaction.{BoundTransaction}
-use Rattle.bound_tree.specs.declared.statements.BoundTransaction.TheVariants.{Begins, Commits, Releases, RollsBack, RollsBackTo, Saves}
-use Rattle.bound_tree.specs.declared.statements.ThingKind.{ThingKind}
-use Rattle.bound_tree.specs.declared.statements.ThingKind.TheVariants.{AModuleTable, ATable, ATrigger, AView, AnIndex}
-use Rattle.bound_tree.specs.declared.units.BoundUnit.{BoundUnit}
-use Rattle.eng_value.specs.declared.cause.Cause.TheVariants.{Unknown}
-use Rattle.eng_value.specs.declared.cause.NameKind.{NameKind}
 
 -- ---- a command, with the units and the triggers that it opens
 

@@ -3,32 +3,32 @@ use Rattle.std.specs.Prelude.{ℕ, nat_eq, Bool, true, false, not, ◌&&◌, ◌
 use Rattle.std.specs.List.{list_any}
 use Rattle.eng_entry.specs.Names.{is_same_name}
 use Rattle.eng_entry.specs.declared.entry.Entry.{Entry}
-use Rattle.eng_entry.specs.declared.entry.EntryKind.{EntryKind}
 use Rattle.eng_entry.specs.declared.entry.EntryKind.TheVariants as entry_kind
+use Rattle.eng_entry.specs.declared.entry.EntryKind.{EntryKind}
+use Rattle.eng_value.specs.declared.cause.Cause.TheVariants.{Misuse, Unknown}
+use Rattle.eng_value.specs.declared.cause.NameKind.TheVariants as kind
 use Rattle.sql_tree.specs.declared.expr.Expr.{Expr}
 use Rattle.sql_tree.specs.declared.statement.TableDefinition.{TableDefinition}
 use Rattle.sql_tree.specs.declared.statement.TriggerDefinition.{TriggerDefinition}
-use Rattle.sql_tree.specs.declared.statement.TriggerEvent.{TriggerEvent}
 use Rattle.sql_tree.specs.declared.statement.TriggerEvent.TheVariants as event
-use Rattle.bound_tree.specs.Exprs.{BoundExpr}
+use Rattle.sql_tree.specs.declared.statement.TriggerEvent.{TriggerEvent}
 use Rattle.sql_meaning.specs.Binding.{◌>>=◌}
 use Rattle.sql_meaning.specs.Spelled.{name_at}
+use Rattle.bound_tree.specs.Exprs.{BoundExpr}
+use Rattle.bound_tree.specs.Same.{both_same}
+use Rattle.bound_tree.specs.declared.units.BoundColumn.{BoundColumn}
+use Rattle.bound_tree.specs.declared.units.BoundSource.TheVariants as bound_source
+use Rattle.bound_tree.specs.declared.units.BoundSource.{BoundSource}
+use Rattle.bound_tree.specs.declared.writes.BoundTarget.{BoundTarget}
+use Rattle.bound_tree.specs.declared.writes.FiringEvent.TheVariants.{AtDelete, AtInsert, AtUpdate}
+use Rattle.bound_tree.specs.declared.writes.FiringEvent.{FiringEvent}
 use Rattle.sql_bound.specs.Carriers.{Expression}
 use Rattle.sql_bound.specs.Declarations.{DeclaredColumn, DeclaredTable, declared_table, definition_of, is_empty, table_in, table_named, trigger_in}
 use Rattle.sql_bound.specs.Froms.{Inside, nothing_found, of_catalog, plain_item, scope_item}
-use Rattle.eng_value.specs.declared.cause.NameKind.TheVariants as kind
 use Rattle.sql_bound.specs.Refusals.{Checked}
-use Rattle.bound_tree.specs.Same.{both_same}
 use Rattle.sql_bound.specs.Scopes.{Answer, Around, Level, Outer, is_rowid_name, scope_over}
-use Rattle.sql_bound.specs.Trees.{full_depth, of_expr, of_query, outer_at, within}
 use Rattle.sql_bound.specs.Scopes.{in_statement}
-use Rattle.bound_tree.specs.declared.units.BoundColumn.{BoundColumn}
-use Rattle.bound_tree.specs.declared.units.BoundSource.{BoundSource}
-use Rattle.bound_tree.specs.declared.units.BoundSource.TheVariants as bound_source
-use Rattle.bound_tree.specs.declared.writes.BoundTarget.{BoundTarget}
-use Rattle.bound_tree.specs.declared.writes.FiringEvent.{FiringEvent}
-use Rattle.bound_tree.specs.declared.writes.FiringEvent.TheVariants.{AtDelete, AtInsert, AtUpdate}
-use Rattle.eng_value.specs.declared.cause.Cause.TheVariants.{Misuse, Unknown}
+use Rattle.sql_bound.specs.Trees.{full_depth, of_expr, of_query, outer_at, within}
 use Rattle.sql_bound.specs.declared.froms.Sourced.{Sourced}
 use Rattle.sql_bound.specs.declared.scopes.Allowed.{Allowed}
 use Rattle.sql_bound.specs.declared.scopes.Work.{Work}

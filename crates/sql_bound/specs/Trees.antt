@@ -1,16 +1,16 @@
 -- Every expression and query, by one fold over the trees; and views, each bound one level deeper than its use.
 use Rattle.std.specs.Prelude.{ℕ, zero, suc, List, [], map, Option, Some, None}
-use Rattle.sql_tree.specs.declared.expr.Expr.{Expr, fold-Expr}
 use Rattle.sql_tree.specs.declared.expr.Expr.TheOpen.{JoinConstraint-F, QueryPart-F, ResultColumn-F, Source-F}
+use Rattle.sql_tree.specs.declared.expr.Expr.{Expr, fold-Expr}
 use Rattle.sql_tree.specs.declared.query.Query.{Query, fold-Query}
 use Rattle.sql_tree.specs.declared.statement.Assignment.{Assignment}
-use Rattle.sql_tree.specs.declared.statement.InsertSource.{InsertSource}
 use Rattle.sql_tree.specs.declared.statement.InsertSource.TheVariants as source
-use Rattle.sql_tree.specs.declared.statement.RowCommand.{RowCommand}
+use Rattle.sql_tree.specs.declared.statement.InsertSource.{InsertSource}
 use Rattle.sql_tree.specs.declared.statement.RowCommand.TheVariants as rows_by
+use Rattle.sql_tree.specs.declared.statement.RowCommand.{RowCommand}
 use Rattle.sql_tree.specs.declared.statement.TriggerDefinition.{TriggerDefinition}
-use Rattle.sql_bound.specs.Carriers.{Deletes, Inserts, Queries, RowParts, SetParts, TriggerParts, Updates}
 use Rattle.sql_bound.specs.Carriers.{All, AllOf, ArmParts, CommonTableLayer, CompoundParts, CompoundPartLayer, ConstraintParts, CoreParts, Derived, Expression, FromItemLayer, ItemParts, JoinConstraintLayer, LimitParts, On, One, OrderingTermLayer, PartParts, QueryLayer, QueryParts, QueryPartLayer, ResultColumnLayer, ResultParts, RowLimitLayer, Select, SelectCoreLayer, SourceLayer, SourceParts, SpannedExprLayer, SpannedExpression, Table, TableParts, TermParts, Unconstrained, Using, Values}
+use Rattle.sql_bound.specs.Carriers.{Deletes, Inserts, Queries, RowParts, SetParts, TriggerParts, Updates}
 use Rattle.sql_bound.specs.Expressions.{arm_step, expr_step}
 use Rattle.sql_bound.specs.Limits.{most_queries}
 use Rattle.sql_bound.specs.Recursions.{parts_of_query}

@@ -2,44 +2,44 @@
 use Rattle.std.specs.Prelude.{◌≡◌, ℕ, Bool, true, false, List, [], ◌∷◌, Option, Some, None, Ok, Err, length, map, codes, refl}
 use Rattle.eng_entry.specs.Names.{is_same_name}
 use Rattle.eng_entry.specs.declared.entry.Entry.{Entry}
+use Rattle.eng_entry.specs.declared.entry.EntryKind.TheVariants as entry_kind
+use Rattle.eng_value.specs.declared.affinity.Affinity.TheVariants as affinity
+use Rattle.eng_value.specs.declared.cause.Cause.TheVariants.{Misuse, Unknown}
+use Rattle.eng_value.specs.declared.cause.Cause.TheVariants.{NotYet}
+use Rattle.eng_value.specs.declared.cause.Cause.{Cause}
+use Rattle.eng_value.specs.declared.cause.NameKind.TheVariants as kind
 use Rattle.sql_grammar.specs.Marks.{count}
 use Rattle.sql_grammar.specs.Statements.{all_statement_rules}
 use Rattle.sql_lex.specs.Pieces.{word_kind}
 use Rattle.sql_lex.specs.Tokens.{tokens_of}
+use Rattle.sql_tree.specs.declared.statement.Command.TheVariants as command
 use Rattle.sql_tree.specs.declared.statement.ConflictChoice.TheVariants as choice
+use Rattle.sql_tree.specs.declared.statement.Transaction.TheVariants as transaction
 use Rattle.sql_tree.specs.declared.statement.TriggerEvent.TheVariants as event
 use Rattle.sql_tree.specs.declared.statement.TriggerTime.TheVariants as time
 use Rattle.sql_tree.specs.declared.token.Token.{Token}
-use Rattle.eng_entry.specs.declared.entry.EntryKind.TheVariants as entry_kind
-use Rattle.eng_value.specs.declared.affinity.Affinity.TheVariants as affinity
-use Rattle.sql_tree.specs.declared.statement.Command.TheVariants as command
-use Rattle.sql_tree.specs.declared.statement.Transaction.TheVariants as transaction
 use Rattle.sql_meaning.specs.Binding.{by_bytes}
-use Rattle.sql_bound.specs.Froms.{plain_source}
-use Rattle.sql_bound.specs.Targets.{may_write_view}
 use Rattle.sql_meaning.specs.Spelled.{the_text_test}
-use Rattle.sql_bound.specs.Carriers.{All, Deletes, Expression, InsertParts, Inserts, Queries, QueryParts, RowParts, TriggerParts, Updates}
-use Rattle.bound_tree.specs.Exprs.{BoundExpr}
 use Rattle.bound_tree.specs.Exprs as e
-use Rattle.eng_value.specs.declared.cause.NameKind.TheVariants as kind
-use Rattle.sql_bound.specs.Refusals.{Checked}
-use Rattle.eng_value.specs.declared.cause.Cause.TheVariants.{NotYet}
-use Rattle.sql_bound.specs.Samples.{around_of, asked_by, asked_in, col, common, core, dot, insert, lit, named, no_facts, no_token, query, raise_ignore, refusal_of, res, results_at, scalar, set, sources_at, units_of, update, values, why, with_tables}
-use Rattle.sql_bound.specs.Scopes.{Around, UnitsAnswer, begun, in_statement}
-use Rattle.sql_bound.specs.Statements.{nothing_opened}
-use Rattle.sql_bound.specs.Trees.{full_depth, outer_at}
-use Rattle.sql_bound.specs.Triggers.{opening_of}
-use Rattle.sql_bound.specs.Writes.{Opened, delete_begun, insert_begun, update_begun, write_bound}
+use Rattle.bound_tree.specs.Exprs.{BoundExpr}
+use Rattle.bound_tree.specs.declared.units.BoundSource.TheVariants.{Given}
 use Rattle.bound_tree.specs.declared.units.BoundSource.TheVariants.{Table, View}
-use Rattle.bound_tree.specs.declared.writes.BoundStep.{BoundStep}
 use Rattle.bound_tree.specs.declared.writes.BoundStep.TheVariants.{Asks, Writes}
+use Rattle.bound_tree.specs.declared.writes.BoundStep.{BoundStep}
 use Rattle.bound_tree.specs.declared.writes.BoundTrigger.{BoundTrigger}
 use Rattle.bound_tree.specs.declared.writes.BoundWrite.{BoundWrite}
 use Rattle.bound_tree.specs.declared.writes.FiringEvent.TheVariants.{AtUpdate}
-use Rattle.eng_value.specs.declared.cause.Cause.{Cause}
-use Rattle.eng_value.specs.declared.cause.Cause.TheVariants.{Misuse, Unknown}
+use Rattle.sql_bound.specs.Carriers.{All, Deletes, Expression, InsertParts, Inserts, Queries, QueryParts, RowParts, TriggerParts, Updates}
+use Rattle.sql_bound.specs.Froms.{plain_source}
+use Rattle.sql_bound.specs.Refusals.{Checked}
+use Rattle.sql_bound.specs.Samples.{around_of, asked_by, asked_in, col, common, core, dot, insert, lit, named, no_facts, no_token, query, raise_ignore, refusal_of, res, results_at, scalar, set, sources_at, units_of, update, values, why, with_tables}
+use Rattle.sql_bound.specs.Scopes.{Around, UnitsAnswer, begun, in_statement}
+use Rattle.sql_bound.specs.Statements.{nothing_opened}
+use Rattle.sql_bound.specs.Targets.{may_write_view}
+use Rattle.sql_bound.specs.Trees.{full_depth, outer_at}
+use Rattle.sql_bound.specs.Triggers.{opening_of}
+use Rattle.sql_bound.specs.Writes.{Opened, delete_begun, insert_begun, update_begun, write_bound}
 use Rattle.sql_bound.specs.declared.froms.Sourced.{Sourced}
-use Rattle.bound_tree.specs.declared.units.BoundSource.TheVariants.{Given}
 use Rattle.sql_bound.specs.declared.scopes.Asked.{Asked}
 
 -- ---- a view: its query is bound in its own text, and its list of columns must fit

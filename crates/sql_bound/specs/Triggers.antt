@@ -3,27 +3,27 @@ use Rattle.std.specs.Prelude.{ℕ, zero, suc, true, false, List, [], ◌∷◌, 
 use Rattle.std.specs.Option.{option_map}
 use Rattle.eng_entry.specs.Names.{is_same_name}
 use Rattle.eng_entry.specs.declared.entry.Entry.{Entry}
-use Rattle.sql_tree.specs.declared.statement.TriggerEvent.{TriggerEvent}
+use Rattle.eng_value.specs.declared.cause.Cause.TheVariants.{Unknown}
+use Rattle.eng_value.specs.declared.cause.NameKind.TheVariants as kind
 use Rattle.sql_tree.specs.declared.statement.TriggerEvent.TheVariants as event
-use Rattle.bound_tree.specs.Exprs.{BoundExpr}
+use Rattle.sql_tree.specs.declared.statement.TriggerEvent.{TriggerEvent}
 use Rattle.sql_meaning.specs.Binding.{◌>>=◌}
+use Rattle.bound_tree.specs.Exprs.{BoundExpr}
+use Rattle.bound_tree.specs.declared.units.BoundItem.{BoundItem}
+use Rattle.bound_tree.specs.declared.units.BoundSource.TheVariants.{Given}
+use Rattle.bound_tree.specs.declared.writes.BoundStep.TheVariants.{Asks, Writes}
+use Rattle.bound_tree.specs.declared.writes.BoundStep.{BoundStep}
+use Rattle.bound_tree.specs.declared.writes.BoundTrigger.{BoundTrigger}
+use Rattle.bound_tree.specs.declared.writes.FiringEvent.TheVariants.{AtDelete, AtInsert, AtUpdate}
+use Rattle.bound_tree.specs.declared.writes.FiringEvent.{FiringEvent}
 use Rattle.sql_bound.specs.Carriers.{Deletes, Expression, Inserts, Queries, RowParts, TriggerParts, Updates}
 use Rattle.sql_bound.specs.Declarations.{definition_of, trigger_in}
 use Rattle.sql_bound.specs.Froms.{plain_item, scope_item}
 use Rattle.sql_bound.specs.Refusals.{Checked}
-use Rattle.eng_value.specs.declared.cause.Cause.TheVariants.{Unknown}
-use Rattle.eng_value.specs.declared.cause.NameKind.TheVariants as kind
 use Rattle.sql_bound.specs.Scopes.{Answer, Around, Level, Outer, begun, in_statement, scope_over}
 use Rattle.sql_bound.specs.Trees.{full_depth, of_trigger, outer_at, within}
 use Rattle.sql_bound.specs.Writes.{Begun, Opened, Opening, captures_of, delete_begun, insert_begun, update_begun, write_bound}
-use Rattle.bound_tree.specs.declared.units.BoundItem.{BoundItem}
-use Rattle.bound_tree.specs.declared.writes.BoundStep.{BoundStep}
-use Rattle.bound_tree.specs.declared.writes.BoundStep.TheVariants.{Asks, Writes}
-use Rattle.bound_tree.specs.declared.writes.BoundTrigger.{BoundTrigger}
-use Rattle.bound_tree.specs.declared.writes.FiringEvent.{FiringEvent}
-use Rattle.bound_tree.specs.declared.writes.FiringEvent.TheVariants.{AtDelete, AtInsert, AtUpdate}
 use Rattle.sql_bound.specs.declared.froms.Sourced.{Sourced}
-use Rattle.bound_tree.specs.declared.units.BoundSource.TheVariants.{Given}
 use Rattle.sql_bound.specs.declared.scopes.Allowed.{Allowed}
 use Rattle.sql_bound.specs.declared.scopes.ScopeItem.{ScopeItem}
 

@@ -1,5 +1,7 @@
 -- WITH: tables and recursive tables.
 use Rattle.std.specs.Prelude.{◌≡◌, List, [], ◌∷◌, Some, None, codes, refl}
+use Rattle.eng_value.specs.declared.cause.Cause.TheVariants.{Arity, Misuse, Unknown}
+use Rattle.eng_value.specs.declared.cause.NameKind.TheVariants as kind
 use Rattle.sql_grammar.specs.Marks.{count}
 use Rattle.sql_grammar.specs.Statements.{all_statement_rules}
 use Rattle.sql_lex.specs.Pieces.{word_kind}
@@ -8,13 +10,11 @@ use Rattle.sql_tree.specs.declared.expr.BinaryOp.TheVariants as op
 use Rattle.sql_tree.specs.declared.query.CompoundOp.TheVariants as compound_op
 use Rattle.sql_tree.specs.declared.token.Token.{Token}
 use Rattle.sql_meaning.specs.Spelled.{the_text_test}
+use Rattle.bound_tree.specs.Exprs as e
+use Rattle.bound_tree.specs.declared.units.BoundSource.TheVariants.{Queue, Recursive, With}
 use Rattle.sql_bound.specs.Carriers.{All, QueryParts, Select}
 use Rattle.sql_bound.specs.Recursions.{parts_of_query}
-use Rattle.bound_tree.specs.Exprs as e
-use Rattle.eng_value.specs.declared.cause.NameKind.TheVariants as kind
 use Rattle.sql_bound.specs.Samples.{both, bound, by, col, common, compound, core, exists, lit, named, query, refused, res, res_as, results_at, scalar, sources_at, span, starred, with_tables}
-use Rattle.bound_tree.specs.declared.units.BoundSource.TheVariants.{Queue, Recursive, With}
-use Rattle.eng_value.specs.declared.cause.Cause.TheVariants.{Arity, Misuse, Unknown}
 
 -- bound where it is written, though nothing uses it
 never_used : refused (codes "WITH c AS (SELECT nosuch) SELECT 1") (λ t. with_tables (common t 1 [] (query (core (res t (col t 5) 5 5 ∷ []) [] None)) ∷ []) (core (res t (lit t 8) 8 8 ∷ []) [] None)) ≡ Some (Unknown kind.Column (codes "nosuch"))

@@ -2,12 +2,12 @@
 use Rattle.std.specs.Prelude.{ℕ, Bool, true, false, List, [], ◌∷◌, ◌++◌, map, length, slice_get, Option, Some, Ok}
 use Rattle.sql_meaning.specs.Binding.{◌>>=◌}
 use Rattle.sql_meaning.specs.Spelled.{name_at}
+use Rattle.bound_tree.specs.declared.units.BoundUnit.TheVariants.{Recursed}
+use Rattle.bound_tree.specs.declared.units.BoundUnit.{BoundUnit}
 use Rattle.sql_bound.specs.Carriers.{TableParts}
 use Rattle.sql_bound.specs.Froms.{Inside, beside_from}
 use Rattle.sql_bound.specs.Limits.{within_columns}
 use Rattle.sql_bound.specs.Scopes.{UnitsAnswer}
-use Rattle.bound_tree.specs.declared.units.BoundUnit.{BoundUnit}
-use Rattle.bound_tree.specs.declared.units.BoundUnit.TheVariants.{Recursed}
 use Rattle.sql_bound.specs.declared.scopes.Asked.{Asked}
 use Rattle.sql_bound.specs.declared.scopes.WithEntry.{WithEntry}
 use Rattle.sql_bound.specs.declared.scopes.WithMeaning.TheVariants.{Bound}

@@ -1,5 +1,7 @@
 -- INSERT, UPDATE and DELETE.
 use Rattle.std.specs.Prelude.{◌≡◌, [], ◌∷◌, Some, None, codes, refl}
+use Rattle.eng_value.specs.declared.cause.Cause.TheVariants.{Arity, Misuse, Unknown}
+use Rattle.eng_value.specs.declared.cause.NameKind.TheVariants as kind
 use Rattle.sql_grammar.specs.Marks.{count}
 use Rattle.sql_grammar.specs.Statements.{all_statement_rules}
 use Rattle.sql_lex.specs.Pieces.{word_kind}
@@ -7,11 +9,9 @@ use Rattle.sql_lex.specs.Tokens.{tokens_of}
 use Rattle.sql_tree.specs.declared.statement.ConflictChoice.TheVariants as choice
 use Rattle.sql_meaning.specs.Spelled.{the_text_test}
 use Rattle.bound_tree.specs.Exprs as e
-use Rattle.eng_value.specs.declared.cause.NameKind.TheVariants as kind
+use Rattle.bound_tree.specs.declared.writes.BoundChange.TheVariants.{Inserted, Updated}
 use Rattle.sql_bound.specs.Samples.{around_of, change_of, col, commanded, commanded_over, core, delete, dot, insert, lit, query, refused_write, res, set, starred, update, values, why}
 use Rattle.sql_bound.specs.Scopes.{Around}
-use Rattle.bound_tree.specs.declared.writes.BoundChange.TheVariants.{Inserted, Updated}
-use Rattle.eng_value.specs.declared.cause.Cause.TheVariants.{Arity, Misuse, Unknown}
 
 -- ---- the target, the columns, and then the source
 

@@ -2,11 +2,21 @@
 use Rattle.std.specs.Prelude.{ℕ, suc, nat_eq, Bool, true, false, ◌&&◌, List, [], ◌∷◌, ◌++◌, map, length, position, Option, Some, None, Ok}
 use Rattle.std.specs.List.{range_with_len}
 use Rattle.eng_entry.specs.declared.entry.Entry.{Entry}
-use Rattle.sql_tree.specs.declared.statement.ConflictChoice.{ConflictChoice}
 use Rattle.sql_tree.specs.declared.statement.ConflictChoice.TheVariants as choice
-use Rattle.bound_tree.specs.Exprs.{BoundExpr}
+use Rattle.sql_tree.specs.declared.statement.ConflictChoice.{ConflictChoice}
 use Rattle.sql_meaning.specs.Binding.{◌>>=◌}
 use Rattle.sql_meaning.specs.Spelled.{name_at}
+use Rattle.bound_tree.specs.Exprs.{BoundExpr}
+use Rattle.bound_tree.specs.Same.{both_same}
+use Rattle.bound_tree.specs.declared.units.BoundSource.TheVariants as bound_source
+use Rattle.bound_tree.specs.declared.units.BoundSource.{BoundSource}
+use Rattle.bound_tree.specs.declared.units.BoundUnit.{BoundUnit}
+use Rattle.bound_tree.specs.declared.writes.BoundChange.TheVariants.{Defaulted, Deleted, Inserted, Updated}
+use Rattle.bound_tree.specs.declared.writes.BoundChange.{BoundChange}
+use Rattle.bound_tree.specs.declared.writes.BoundSet.{BoundSet}
+use Rattle.bound_tree.specs.declared.writes.BoundTrigger.{BoundTrigger}
+use Rattle.bound_tree.specs.declared.writes.BoundWrite.{BoundWrite}
+use Rattle.bound_tree.specs.declared.writes.FiringEvent.TheVariants.{AtDelete, AtInsert, AtUpdate}
 use Rattle.sql_bound.specs.Carriers.{DeleteParts, InsertParts, QueryParts, SetParts, UpdateParts}
 use Rattle.sql_bound.specs.Compounds.{width_fits}
 use Rattle.sql_bound.specs.Cores.{conjuncts_bound}
@@ -14,18 +24,8 @@ use Rattle.sql_bound.specs.Expressions.{asked}
 use Rattle.sql_bound.specs.Froms.{beside_from}
 use Rattle.sql_bound.specs.Limits.{by_column, room_behind}
 use Rattle.sql_bound.specs.Refusals.{Checked}
-use Rattle.bound_tree.specs.Same.{both_same}
 use Rattle.sql_bound.specs.Scopes.{Answer, Around, Outer, Scope, scope_over}
 use Rattle.sql_bound.specs.Targets.{Firing, Target, can_fire, found_place, place_written, target_bound}
-use Rattle.bound_tree.specs.declared.units.BoundSource.{BoundSource}
-use Rattle.bound_tree.specs.declared.units.BoundSource.TheVariants as bound_source
-use Rattle.bound_tree.specs.declared.units.BoundUnit.{BoundUnit}
-use Rattle.bound_tree.specs.declared.writes.BoundChange.{BoundChange}
-use Rattle.bound_tree.specs.declared.writes.BoundChange.TheVariants.{Defaulted, Deleted, Inserted, Updated}
-use Rattle.bound_tree.specs.declared.writes.BoundSet.{BoundSet}
-use Rattle.bound_tree.specs.declared.writes.BoundTrigger.{BoundTrigger}
-use Rattle.bound_tree.specs.declared.writes.BoundWrite.{BoundWrite}
-use Rattle.bound_tree.specs.declared.writes.FiringEvent.TheVariants.{AtDelete, AtInsert, AtUpdate}
 use Rattle.sql_bound.specs.declared.froms.Sourced.{Sourced}
 use Rattle.sql_bound.specs.declared.scopes.Need.{Need}
 use Rattle.sql_bound.specs.declared.scopes.Work.{Work}
