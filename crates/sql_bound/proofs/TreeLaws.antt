@@ -1,31 +1,31 @@
 -- A tree comes to what its parts come to, by one step: so what worked examples are written with stands for trees.
 use Rattle.std.specs.Prelude.{◌≡◌, List, map}
 use Rattle.std.proofs.Common.{rules, option_map}
-use Rattle.sql_tree.specs.declared.expr.Arm.{Arm, fold-Arm}
+use Rattle.sql_tree.specs.declared.expr.Arm.{Arm}
 use Rattle.sql_tree.specs.declared.expr.BinaryOp.{BinaryOp}
 use Rattle.sql_tree.specs.declared.expr.Expr.TheOpen.{Expr-F}
 use Rattle.sql_tree.specs.declared.expr.Expr.TheVariants as e
 use Rattle.sql_tree.specs.declared.expr.Expr.{Expr, the_lemmas}
 use Rattle.sql_tree.specs.declared.expr.UnaryOp.{UnaryOp}
-use Rattle.sql_tree.specs.declared.query.CommonTable.{CommonTable, fold-CommonTable}
-use Rattle.sql_tree.specs.declared.query.CompoundPart.{CompoundPart, fold-CompoundPart}
-use Rattle.sql_tree.specs.declared.query.FromItem.{FromItem, fold-FromItem}
-use Rattle.sql_tree.specs.declared.query.JoinConstraint.{JoinConstraint, fold-JoinConstraint}
-use Rattle.sql_tree.specs.declared.query.OrderingTerm.{OrderingTerm, fold-OrderingTerm}
+use Rattle.sql_tree.specs.declared.query.CommonTable.{CommonTable}
+use Rattle.sql_tree.specs.declared.query.CompoundPart.{CompoundPart}
+use Rattle.sql_tree.specs.declared.query.FromItem.{FromItem}
+use Rattle.sql_tree.specs.declared.query.JoinConstraint.{JoinConstraint}
+use Rattle.sql_tree.specs.declared.query.OrderingTerm.{OrderingTerm}
 use Rattle.sql_tree.specs.declared.query.Query.{Query}
 use Rattle.sql_tree.specs.declared.query.Query.{out-Query}
-use Rattle.sql_tree.specs.declared.query.QueryPart.{QueryPart, fold-QueryPart}
-use Rattle.sql_tree.specs.declared.query.ResultColumn.{ResultColumn, fold-ResultColumn}
-use Rattle.sql_tree.specs.declared.query.RowLimit.{RowLimit, fold-RowLimit}
-use Rattle.sql_tree.specs.declared.query.SelectCore.{SelectCore, fold-SelectCore, out-SelectCore}
-use Rattle.sql_tree.specs.declared.query.Source.{Source, fold-Source}
-use Rattle.sql_tree.specs.declared.query.SpannedExpr.{SpannedExpr, fold-SpannedExpr}
+use Rattle.sql_tree.specs.declared.query.QueryPart.{QueryPart}
+use Rattle.sql_tree.specs.declared.query.ResultColumn.{ResultColumn}
+use Rattle.sql_tree.specs.declared.query.RowLimit.{RowLimit}
+use Rattle.sql_tree.specs.declared.query.SelectCore.{SelectCore, out-SelectCore}
+use Rattle.sql_tree.specs.declared.query.Source.{Source}
+use Rattle.sql_tree.specs.declared.query.SpannedExpr.{SpannedExpr}
 use Rattle.sql_tree.specs.declared.token.Token.{Token}
 use Rattle.sql_bound.specs.Carriers.{ArmParts, CompoundParts, ConstraintParts, CoreParts, Expression, ItemParts, LimitParts, PartParts, QueryParts, ResultParts, SourceParts, SpannedExpression, TableParts, TermParts}
 use Rattle.sql_bound.specs.Expressions.{arm_step}
 use Rattle.sql_bound.specs.Expressions.{expr_step}
-use Rattle.sql_bound.specs.Trees.{compound_step, constraint_step, core_step, item_step, limit_step, part_step, query_step, result_step, source_step, spanned_step, table_step, term_step}
-use Rattle.sql_bound.specs.Trees.{of_expr, of_query}
+use Rattle.sql_bound.specs.Trees.{of_constraint, of_part, of_result, of_source, of_arm, of_table, of_compound, of_item, of_term, of_limit, of_core, of_spanned, compound_step, constraint_step, core_step, item_step, limit_step, part_step, query_step, result_step, source_step, spanned_step, table_step, term_step}
+use Rattle.sql_bound.specs.Trees.{of_constraint, of_part, of_result, of_source, of_arm, of_table, of_compound, of_item, of_term, of_limit, of_core, of_spanned, of_expr, of_query}
 
 -- ---- expressions
 
@@ -55,56 +55,6 @@ of_expr-Exists q = search (rules, the_lemmas)
 
 pub of_expr-InQuery : (a : Expr) (q : Query) → of_expr (e.InQuery a q) ≡ expr_step (Expr-F.InQuery (of_expr a) (of_query q))
 of_expr-InQuery a q = search (rules, the_lemmas)
-
--- ---- the parts of queries, by the same fold
-
-abbrev pub of_constraint : JoinConstraint → ConstraintParts
-of_constraint = fold-JoinConstraint Expression ConstraintParts PartParts ResultParts SourceParts ArmParts TableParts CompoundParts ItemParts TermParts QueryParts LimitParts CoreParts SpannedExpression
-    expr_step constraint_step part_step result_step source_step arm_step table_step compound_step item_step term_step query_step limit_step core_step spanned_step
-
-abbrev pub of_part : QueryPart → PartParts
-of_part = fold-QueryPart Expression ConstraintParts PartParts ResultParts SourceParts ArmParts TableParts CompoundParts ItemParts TermParts QueryParts LimitParts CoreParts SpannedExpression
-    expr_step constraint_step part_step result_step source_step arm_step table_step compound_step item_step term_step query_step limit_step core_step spanned_step
-
-abbrev pub of_result : ResultColumn → ResultParts
-of_result = fold-ResultColumn Expression ConstraintParts PartParts ResultParts SourceParts ArmParts TableParts CompoundParts ItemParts TermParts QueryParts LimitParts CoreParts SpannedExpression
-    expr_step constraint_step part_step result_step source_step arm_step table_step compound_step item_step term_step query_step limit_step core_step spanned_step
-
-abbrev pub of_source : Source → SourceParts
-of_source = fold-Source Expression ConstraintParts PartParts ResultParts SourceParts ArmParts TableParts CompoundParts ItemParts TermParts QueryParts LimitParts CoreParts SpannedExpression
-    expr_step constraint_step part_step result_step source_step arm_step table_step compound_step item_step term_step query_step limit_step core_step spanned_step
-
-abbrev pub of_arm : Arm → ArmParts
-of_arm = fold-Arm Expression ConstraintParts PartParts ResultParts SourceParts ArmParts TableParts CompoundParts ItemParts TermParts QueryParts LimitParts CoreParts SpannedExpression
-    expr_step constraint_step part_step result_step source_step arm_step table_step compound_step item_step term_step query_step limit_step core_step spanned_step
-
-abbrev pub of_table : CommonTable → TableParts
-of_table = fold-CommonTable Expression ConstraintParts PartParts ResultParts SourceParts ArmParts TableParts CompoundParts ItemParts TermParts QueryParts LimitParts CoreParts SpannedExpression
-    expr_step constraint_step part_step result_step source_step arm_step table_step compound_step item_step term_step query_step limit_step core_step spanned_step
-
-abbrev pub of_compound : CompoundPart → CompoundParts
-of_compound = fold-CompoundPart Expression ConstraintParts PartParts ResultParts SourceParts ArmParts TableParts CompoundParts ItemParts TermParts QueryParts LimitParts CoreParts SpannedExpression
-    expr_step constraint_step part_step result_step source_step arm_step table_step compound_step item_step term_step query_step limit_step core_step spanned_step
-
-abbrev pub of_item : FromItem → ItemParts
-of_item = fold-FromItem Expression ConstraintParts PartParts ResultParts SourceParts ArmParts TableParts CompoundParts ItemParts TermParts QueryParts LimitParts CoreParts SpannedExpression
-    expr_step constraint_step part_step result_step source_step arm_step table_step compound_step item_step term_step query_step limit_step core_step spanned_step
-
-abbrev pub of_term : OrderingTerm → TermParts
-of_term = fold-OrderingTerm Expression ConstraintParts PartParts ResultParts SourceParts ArmParts TableParts CompoundParts ItemParts TermParts QueryParts LimitParts CoreParts SpannedExpression
-    expr_step constraint_step part_step result_step source_step arm_step table_step compound_step item_step term_step query_step limit_step core_step spanned_step
-
-abbrev pub of_limit : RowLimit → LimitParts
-of_limit = fold-RowLimit Expression ConstraintParts PartParts ResultParts SourceParts ArmParts TableParts CompoundParts ItemParts TermParts QueryParts LimitParts CoreParts SpannedExpression
-    expr_step constraint_step part_step result_step source_step arm_step table_step compound_step item_step term_step query_step limit_step core_step spanned_step
-
-abbrev pub of_core : SelectCore → CoreParts
-of_core = fold-SelectCore Expression ConstraintParts PartParts ResultParts SourceParts ArmParts TableParts CompoundParts ItemParts TermParts QueryParts LimitParts CoreParts SpannedExpression
-    expr_step constraint_step part_step result_step source_step arm_step table_step compound_step item_step term_step query_step limit_step core_step spanned_step
-
-abbrev pub of_spanned : SpannedExpr → SpannedExpression
-of_spanned = fold-SpannedExpr Expression ConstraintParts PartParts ResultParts SourceParts ArmParts TableParts CompoundParts ItemParts TermParts QueryParts LimitParts CoreParts SpannedExpression
-    expr_step constraint_step part_step result_step source_step arm_step table_step compound_step item_step term_step query_step limit_step core_step spanned_step
 
 -- ---- queries, layer by layer
 

@@ -16,6 +16,18 @@ use Rattle.sql_bound.specs.Limits.{most_queries}
 use Rattle.sql_bound.specs.Recursions.{parts_of_query}
 use Rattle.sql_bound.specs.Scopes.{Around, Bottom, Deeper, Depth, Level, Outer, in_statement}
 use Rattle.sql_bound.specs.declared.scopes.Allowed.{Allowed}
+use Rattle.sql_tree.specs.declared.expr.Arm.{Arm, fold-Arm}
+use Rattle.sql_tree.specs.declared.query.CommonTable.{CommonTable, fold-CommonTable}
+use Rattle.sql_tree.specs.declared.query.CompoundPart.{CompoundPart, fold-CompoundPart}
+use Rattle.sql_tree.specs.declared.query.FromItem.{FromItem, fold-FromItem}
+use Rattle.sql_tree.specs.declared.query.JoinConstraint.{JoinConstraint, fold-JoinConstraint}
+use Rattle.sql_tree.specs.declared.query.OrderingTerm.{OrderingTerm, fold-OrderingTerm}
+use Rattle.sql_tree.specs.declared.query.QueryPart.{QueryPart, fold-QueryPart}
+use Rattle.sql_tree.specs.declared.query.ResultColumn.{ResultColumn, fold-ResultColumn}
+use Rattle.sql_tree.specs.declared.query.RowLimit.{RowLimit, fold-RowLimit}
+use Rattle.sql_tree.specs.declared.query.SelectCore.{SelectCore, fold-SelectCore}
+use Rattle.sql_tree.specs.declared.query.Source.{Source, fold-Source}
+use Rattle.sql_tree.specs.declared.query.SpannedExpr.{SpannedExpr, fold-SpannedExpr}
 
 -- ---- the steps
 
@@ -70,6 +82,56 @@ of_expr = fold-Expr Expression ConstraintParts PartParts ResultParts SourceParts
 
 abbrev pub of_query : Query → QueryParts
 of_query = fold-Query Expression ConstraintParts PartParts ResultParts SourceParts ArmParts TableParts CompoundParts ItemParts TermParts QueryParts LimitParts CoreParts SpannedExpression
+    expr_step constraint_step part_step result_step source_step arm_step table_step compound_step item_step term_step query_step limit_step core_step spanned_step
+
+-- ---- the parts of queries, by the same fold
+
+abbrev pub of_constraint : JoinConstraint → ConstraintParts
+of_constraint = fold-JoinConstraint Expression ConstraintParts PartParts ResultParts SourceParts ArmParts TableParts CompoundParts ItemParts TermParts QueryParts LimitParts CoreParts SpannedExpression
+    expr_step constraint_step part_step result_step source_step arm_step table_step compound_step item_step term_step query_step limit_step core_step spanned_step
+
+abbrev pub of_part : QueryPart → PartParts
+of_part = fold-QueryPart Expression ConstraintParts PartParts ResultParts SourceParts ArmParts TableParts CompoundParts ItemParts TermParts QueryParts LimitParts CoreParts SpannedExpression
+    expr_step constraint_step part_step result_step source_step arm_step table_step compound_step item_step term_step query_step limit_step core_step spanned_step
+
+abbrev pub of_result : ResultColumn → ResultParts
+of_result = fold-ResultColumn Expression ConstraintParts PartParts ResultParts SourceParts ArmParts TableParts CompoundParts ItemParts TermParts QueryParts LimitParts CoreParts SpannedExpression
+    expr_step constraint_step part_step result_step source_step arm_step table_step compound_step item_step term_step query_step limit_step core_step spanned_step
+
+abbrev pub of_source : Source → SourceParts
+of_source = fold-Source Expression ConstraintParts PartParts ResultParts SourceParts ArmParts TableParts CompoundParts ItemParts TermParts QueryParts LimitParts CoreParts SpannedExpression
+    expr_step constraint_step part_step result_step source_step arm_step table_step compound_step item_step term_step query_step limit_step core_step spanned_step
+
+abbrev pub of_arm : Arm → ArmParts
+of_arm = fold-Arm Expression ConstraintParts PartParts ResultParts SourceParts ArmParts TableParts CompoundParts ItemParts TermParts QueryParts LimitParts CoreParts SpannedExpression
+    expr_step constraint_step part_step result_step source_step arm_step table_step compound_step item_step term_step query_step limit_step core_step spanned_step
+
+abbrev pub of_table : CommonTable → TableParts
+of_table = fold-CommonTable Expression ConstraintParts PartParts ResultParts SourceParts ArmParts TableParts CompoundParts ItemParts TermParts QueryParts LimitParts CoreParts SpannedExpression
+    expr_step constraint_step part_step result_step source_step arm_step table_step compound_step item_step term_step query_step limit_step core_step spanned_step
+
+abbrev pub of_compound : CompoundPart → CompoundParts
+of_compound = fold-CompoundPart Expression ConstraintParts PartParts ResultParts SourceParts ArmParts TableParts CompoundParts ItemParts TermParts QueryParts LimitParts CoreParts SpannedExpression
+    expr_step constraint_step part_step result_step source_step arm_step table_step compound_step item_step term_step query_step limit_step core_step spanned_step
+
+abbrev pub of_item : FromItem → ItemParts
+of_item = fold-FromItem Expression ConstraintParts PartParts ResultParts SourceParts ArmParts TableParts CompoundParts ItemParts TermParts QueryParts LimitParts CoreParts SpannedExpression
+    expr_step constraint_step part_step result_step source_step arm_step table_step compound_step item_step term_step query_step limit_step core_step spanned_step
+
+abbrev pub of_term : OrderingTerm → TermParts
+of_term = fold-OrderingTerm Expression ConstraintParts PartParts ResultParts SourceParts ArmParts TableParts CompoundParts ItemParts TermParts QueryParts LimitParts CoreParts SpannedExpression
+    expr_step constraint_step part_step result_step source_step arm_step table_step compound_step item_step term_step query_step limit_step core_step spanned_step
+
+abbrev pub of_limit : RowLimit → LimitParts
+of_limit = fold-RowLimit Expression ConstraintParts PartParts ResultParts SourceParts ArmParts TableParts CompoundParts ItemParts TermParts QueryParts LimitParts CoreParts SpannedExpression
+    expr_step constraint_step part_step result_step source_step arm_step table_step compound_step item_step term_step query_step limit_step core_step spanned_step
+
+abbrev pub of_core : SelectCore → CoreParts
+of_core = fold-SelectCore Expression ConstraintParts PartParts ResultParts SourceParts ArmParts TableParts CompoundParts ItemParts TermParts QueryParts LimitParts CoreParts SpannedExpression
+    expr_step constraint_step part_step result_step source_step arm_step table_step compound_step item_step term_step query_step limit_step core_step spanned_step
+
+abbrev pub of_spanned : SpannedExpr → SpannedExpression
+of_spanned = fold-SpannedExpr Expression ConstraintParts PartParts ResultParts SourceParts ArmParts TableParts CompoundParts ItemParts TermParts QueryParts LimitParts CoreParts SpannedExpression
     expr_step constraint_step part_step result_step source_step arm_step table_step compound_step item_step term_step query_step limit_step core_step spanned_step
 
 -- ---- statements that read or change rows, and triggers
