@@ -1,1 +1,1 @@
-pub mod Collations
+pub mod Explicits

@@ -40,7 +40,7 @@ pub fn case_of(
 }
 
 /// CASE without an operand.
-#[tactic(auto, using(crate::proofs::Collations::first_explicit_appends))]
+#[tactic(auto, using(crate::proofs::Explicits::first_explicit_appends))]
 fn chosen(
     alloc: Global,
     arms: Items<ArmOperands>,
@@ -59,7 +59,7 @@ fn chosen(
 }
 
 /// CASE with an operand.
-#[tactic(auto, using(crate::proofs::Collations::first_explicit_appends))]
+#[tactic(auto, using(crate::proofs::Explicits::first_explicit_appends))]
 fn matched(
     alloc: Global,
     a: Operand,

@@ -85,7 +85,7 @@ pub(crate) fn first_explicit(operands: &[Operand]) -> Option<Collation>
 }
 
 /// The same of one operand.
-#[tactic(auto, using(crate::proofs::Collations::or_elses))]
+#[tactic(auto, using(crate::proofs::Explicits::or_elses))]
 pub(crate) fn explicit_of(a: &Operand) -> Option<Collation>
     ensures { result ≡ first_explicit (a.now ∷ []) }
 {
@@ -93,7 +93,7 @@ pub(crate) fn explicit_of(a: &Operand) -> Option<Collation>
 }
 
 /// The same of two.
-#[tactic(auto, using(crate::proofs::Collations::or_elses))]
+#[tactic(auto, using(crate::proofs::Explicits::or_elses))]
 pub(crate) fn explicit_of_two(a: &Operand, b: &Operand) -> Option<Collation>
     ensures { result ≡ first_explicit (a.now ∷ b.now ∷ []) }
 {
@@ -108,7 +108,7 @@ pub(crate) fn explicit_of_three(a: &Operand, b: &Operand, c: &Operand) -> Option
 }
 
 /// The same of an operand that may be absent.
-#[tactic(auto, using(crate::proofs::Collations::or_elses))]
+#[tactic(auto, using(crate::proofs::Explicits::or_elses))]
 pub(crate) fn explicit_of_option(a: &Option<Operand>) -> Option<Collation>
     ensures { result ≡ first_explicit (option_list a.now) }
 {
@@ -119,7 +119,7 @@ pub(crate) fn explicit_of_option(a: &Option<Operand>) -> Option<Collation>
 }
 
 /// The same of the arms of a CASE.
-#[tactic(auto, using(crate::proofs::Collations::or_elses))]
+#[tactic(auto, using(crate::proofs::Explicits::or_elses))]
 pub(crate) fn explicit_of_arms(arms: &[ArmOperands]) -> Option<Collation>
     ensures { result ≡ first_explicit (arm_parts arms.now) }
 {

@@ -1,5 +1,5 @@
 -- Bound expressions as they are stored, and as contracts see them.
-use Rattle.std.specs.Prelude.{List, [], ◌∷◌}
+use Rattle.std.specs.Prelude.{◌≡◌, ℕ, List, [], ◌∷◌, refl}
 use Rattle.bound_tree.specs.declared.tree.ArmTree.{ArmTree, fold-ArmTree}
 use Rattle.bound_tree.specs.declared.tree.ExprTree.{ExprTree, fold-ExprTree}
 use Rattle.bound_tree.specs.declared.tree.ExprTree.TheOpen.{ExprTree-F, ArmTree-F, MatchTree-F}

@@ -1,18 +1,18 @@
 -- A stored expression is seen as what its parts are seen as, and each expression can be stored.
-use Rattle.std.proofs.Common.{◌≡◌, ℕ, List, map, refl, ap, ◌∙◌, rules}
+use Rattle.std.proofs.Common.{◌≡◌, ℕ, List, [], ◌∷◌, map, refl, ap, ◌∙◌, rules}
 use Rattle.eng_value.specs.declared.builtin.Builtin.{Builtin}
 use Rattle.eng_value.specs.declared.collation.Collation.{Collation}
 use Rattle.eng_value.specs.declared.operators.BinaryOperator.{BinaryOperator}
 use Rattle.eng_value.specs.declared.operators.Sides.{Sides}
 use Rattle.eng_value.specs.declared.operators.UnaryOperator.{UnaryOperator}
 use Rattle.sql_meaning.specs.declared.bound.Literal.{Literal}
-use Rattle.bound_tree.specs.declared.tree.ArmTree.{ArmTree}
+use Rattle.bound_tree.specs.declared.tree.ArmTree.{ArmTree, fold-ArmTree}
 use Rattle.bound_tree.specs.declared.tree.ExprTree.{ExprTree, the_lemmas}
 use Rattle.bound_tree.specs.declared.tree.ExprTree.TheVariants as t
-use Rattle.bound_tree.specs.declared.tree.MatchTree.{MatchTree}
+use Rattle.bound_tree.specs.declared.tree.MatchTree.{MatchTree, fold-MatchTree}
 use Rattle.bound_tree.specs.Exprs.{BoundArm, BoundArms, BoundExpr, BoundExprs, BoundMatch, BoundMatches, NoExprs, AnExpr, NoArms, AnArm, NoMatches, AMatch, arms, exprs, matches}
 use Rattle.bound_tree.specs.Exprs as e
-use Rattle.bound_tree.specs.Seen.{arms_of, matches_of, seen, seen_arm, seen_match, tree_of, trees_of}
+use Rattle.bound_tree.specs.Seen.{arm_step, arms_of, expr_step, match_step, matches_of, seen, seen_arm, seen_match, tree_of, trees_of}
 
 pub seen-Literal : (l : Literal) → seen (t.Literal l) ≡ e.Literal l
 seen-Literal l = search (rules, the_lemmas)
