@@ -3,3 +3,4 @@ pub mod Seen
 pub mod SeenLaws
 pub mod Same
 pub mod SameUnits
+pub mod Halves

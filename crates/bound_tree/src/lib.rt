@@ -1,12 +1,15 @@
 //! Statements whose names are bound: the trees of their expressions, their units, writes and triggers.
 #![tactic(auto)]
 
+mod arms;
 mod expr;
+mod lists;
 mod statements;
 mod tree;
 mod units;
 mod writes;
 
+pub use arms::{BoundArm, BoundMatch};
 pub use expr::BoundExpr;
 pub use statements::{
     BoundCommand, BoundCreation, BoundRemoval, BoundStatement, BoundTransaction, ThingKind,
