@@ -1,12 +1,14 @@
 //! Statements whose names are bound: the trees of their expressions, their units, writes and triggers.
 #![tactic(auto)]
 
+mod copies;
 mod expr;
 mod statements;
 mod tree;
 mod units;
 mod writes;
 
+pub use copies::{copied_columns, copied_exprs};
 pub use expr::BoundExpr;
 pub use statements::{
     BoundCommand, BoundCreation, BoundRemoval, BoundStatement, BoundTransaction, ThingKind,
