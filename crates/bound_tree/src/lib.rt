@@ -3,13 +3,18 @@
 
 mod copies;
 mod expr;
+mod same;
+mod same_units;
 mod statements;
+mod stored;
 mod tree;
 mod units;
 mod writes;
 
 pub use copies::{copied_columns, copied_exprs};
 pub use expr::BoundExpr;
+pub use same::{same_expr, same_tree};
+pub use same_units::{Same, all_same, same_unit};
 pub use statements::{
     BoundCommand, BoundCreation, BoundRemoval, BoundStatement, BoundTransaction, ThingKind,
 };
