@@ -4,7 +4,7 @@ use Rattle.std.specs.Ordering.{is_eq}
 use Rattle.std.specs.Str.{bytes_eq}
 use denote.Enum.Bare.{sameb}
 use Rattle.eng_entry.specs.Names.{is_same_name}
-use Rattle.eng_value.specs.CauseText.{text_of}
+use Rattle.eng_value.specs.Causes.{is_same_cause}
 use Rattle.eng_value.specs.Compare.{value_cmp}
 use Rattle.eng_value.specs.contracts.affinity.Affinity as affinity
 use Rattle.eng_value.specs.contracts.built.Built as built
@@ -57,10 +57,9 @@ same_collation _ _ = false
 abbrev pub same_sides : Sides → Sides → Bool
 same_sides a b = same_affinity a.left b.left && same_affinity a.right b.right && same_collation a.collation b.collation
 
--- the causes of literals have texts of their own
 abbrev pub same_literal : Literal → Literal → Bool
 same_literal (literal.Value a) (literal.Value b) = is_eq (value_cmp a b)
-same_literal (literal.Bad a) (literal.Bad b) = bytes_eq (text_of a) (text_of b)
+same_literal (literal.Bad a) (literal.Bad b) = is_same_cause a b
 same_literal _ _ = false
 
 abbrev pub same_unary : UnaryOperator → UnaryOperator → Bool

@@ -2,15 +2,22 @@
 #![tactic(auto)]
 
 mod arms;
+mod copies;
 mod expr;
 mod lists;
+mod same;
+mod same_units;
 mod statements;
+mod stored;
 mod tree;
 mod units;
 mod writes;
 
 pub use arms::{BoundArm, BoundMatch};
+pub use copies::{copied_columns, copied_exprs};
 pub use expr::BoundExpr;
+pub use same::{same_expr, same_tree};
+pub use same_units::{Same, all_same, same_unit};
 pub use statements::{
     BoundCommand, BoundCreation, BoundRemoval, BoundStatement, BoundTransaction, ThingKind,
 };

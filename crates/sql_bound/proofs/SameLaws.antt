@@ -8,7 +8,7 @@ use Rattle.std.proofs.lemmas.Map.Text.{is_eq-slice_cmp}
 use Rattle.std.proofs.lemmas.Slice.Eq.{bytes_eq-Decides}
 use denote.Enum.Bare.{true_same}
 use Rattle.eng_text.specs.Texts.{folded}
-use Rattle.eng_value.specs.CauseText.{text_of}
+use Rattle.eng_value.specs.Causes.{cause_key}
 use Rattle.eng_value.specs.Compare.{value_cmp}
 use Rattle.eng_value.specs.contracts.affinity.Affinity as affinity
 use Rattle.eng_value.specs.contracts.built.Built as built
@@ -67,7 +67,7 @@ value_itself (Blob b) = is_eq-slice_cmp b b ∙ bytes_itself b
 
 literal_itself : (l : Literal) → same_literal l l ≡ true
 literal_itself (literal.Value v) = value_itself v
-literal_itself (literal.Bad why) = bytes_itself (text_of why)
+literal_itself (literal.Bad why) = bytes_itself (cause_key why)
 
 truth_itself : (b : Bool) → same_truth b b ≡ true
 truth_itself true = refl
