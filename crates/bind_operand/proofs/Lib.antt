@@ -1,1 +1,3 @@
 pub mod Explicits
+pub mod Splits
+pub mod CheckLaws
