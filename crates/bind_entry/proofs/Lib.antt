@@ -1,0 +1,4 @@
+pub mod ColumnLaws
+pub mod KeyLaws
+pub mod PlaceLaws
+pub mod ThereLaws
