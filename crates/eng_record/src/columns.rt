@@ -49,6 +49,7 @@ pub fn lent_column(bytes: &[u8], place: usize) -> Lent<'_>
 }
 
 /// The type of the value in a column, and the bytes from its body on; behind the last column the type of NULL, which has no body.
+#[inline(always)]
 fn body_of(bytes: &[u8], number: usize) -> Result<(SerialType, &[u8]), RecordErr>
     ensures exact { Gives (λ x. (x.0, x.1.now)) result (body_of number bytes.now) }
     ensures no_memory { IfErr result (λ e. e ≢ Mem) }

@@ -163,6 +163,7 @@ fn hex_number(digits: &[u8], bytes: &[u8]) -> Piece
 }
 
 /// The number that a text begins with.
+#[inline(never)]
 pub(crate) fn number(bytes: &[u8]) -> Piece
     ensures { result ≡ number_piece bytes.now }
 {

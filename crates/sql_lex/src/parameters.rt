@@ -52,6 +52,7 @@ fn numbered(digits: &[u8]) -> Piece
 }
 
 /// The parameter behind whose `?` these bytes stand.
+#[inline(never)]
 pub(crate) fn parameter(bytes: &[u8]) -> Piece
     ensures { result ≡ parameter_piece (take_while is_ascii_digit bytes.now) }
 {

@@ -23,6 +23,7 @@ pub(crate) enum Piece {
 }
 
 // What a text begins with, by cases. The signs that begin no longer one are the most common pieces but for words and blanks.
+#[inline(always)]
 fn by_first(text: &[u8], first: u8, rest: &[u8]) -> Piece
     requires { text.now ≡ first ∷ rest.now }
     ensures { result ≡ piece first rest.now }
@@ -48,6 +49,7 @@ fn by_first(text: &[u8], first: u8, rest: &[u8]) -> Piece
 }
 
 /// What a text begins with, given its first byte and what is behind that.
+#[inline(always)]
 pub(crate) fn front_piece(text: &[u8], first: u8, rest: &[u8]) -> Piece
     requires { text.now ≡ first ∷ rest.now }
     ensures value { result ≡ piece first rest.now }

@@ -68,6 +68,7 @@ fn blob_kind(digits: &[u8]) -> TokenKind
 }
 
 /// The blob behind `x'`.
+#[inline(never)]
 pub(crate) fn blob(bytes: &[u8]) -> Piece
     ensures { result ≡ blob_up_to (up_to 39 bytes.now) bytes.now }
 {

@@ -58,6 +58,7 @@ fn single_kind(first: u8) -> TokenKind
 }
 
 /// The sign that a byte begins, where these bytes follow it.
+#[inline(never)]
 pub(crate) fn sign(first: u8, bytes: &[u8]) -> Piece
     ensures { result ≡ sign_piece first bytes.now }
 {

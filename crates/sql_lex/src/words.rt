@@ -61,6 +61,7 @@ fn word_kind(word: &[u8]) -> TokenKind
 }
 
 /// The word that a text begins with.
+#[inline(never)]
 pub(crate) fn word(bytes: &[u8]) -> Piece
     ensures { result ≡ word_piece bytes.now }
 {

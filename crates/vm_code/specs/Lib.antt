@@ -3,6 +3,7 @@ pub mod Machine
 pub mod Reading
 pub mod Honesty
 pub mod Track
+pub mod OpenCursors
 pub mod Stretches
 pub mod Draft
 pub mod Tracked

@@ -10,6 +10,9 @@ use sqlite_items::Items;
 use std::alloc::{AllocError, Global};
 use std::marker::Model;
 
+/// How many instructions a unit usually has at most. They have room from the start, so that the list of few units grows.
+const USUAL_INSTRUCTIONS: usize = 16;
+
 /// A unit under construction: instructions whose jumps go to labels, registers and cursors that are taken, and the units that
 /// are ready or have a number. Code is only added behind the other, a label gets its place once, and so does a number its unit.
 #[derive(Drop)]
@@ -51,7 +54,7 @@ impl Builder {
         ensures { result ≡ begun units }
     {
         Builder {
-            code: Vec::new(alloc),
+            code: usual_room(alloc),
             labels: Vec::new(alloc),
             next: 0,
             most: 0,
@@ -205,6 +208,16 @@ impl Builder {
             main: finished(code, &labels, most, cursors),
             units,
         }
+    }
+}
+
+/// No instruction yet, with room for the usual number where there is memory for it.
+fn usual_room(alloc: Global) -> Vec<Op>
+    ensures { result.items ≡ [] }
+{
+    match Vec::with_capacity(alloc, USUAL_INSTRUCTIONS) {
+        Ok(code) => code,
+        Err(_) => Vec::new(alloc),
     }
 }
 

@@ -8,19 +8,28 @@ use std::marker::Model;
 use std::mem;
 use std::rc::Rc;
 
-/// The cursors that are open somewhere, in the order in which they were opened. Copies share them; where none is open there is nothing to share.
+/// The cursors that are open somewhere, in the order in which they were opened. Mostly they are none or one, which takes no memory;
+/// copies share more.
+#[derive(Drop)]
+enum Cursors {
+    None,
+    One(u32),
+    Several(Rc<Vec<u32>>),
+}
+
+/// The set of cursors that are open somewhere. Contracts see them in the order in which they were opened.
 #[derive(Drop)]
 struct OpenSet {
-    cursors: Option<Rc<Vec<u32>>>,
+    cursors: Cursors,
 }
 
 impl Model for OpenSet {
-    ghost use Rattle.std.specs.Prelude.{List, ℕ, []};
-    ghost use Rattle.std.specs.Option.{option_map_or};
+    ghost use Rattle.std.specs.Prelude.{List, ℕ};
+    ghost use Rattle.vm_code.specs.OpenCursors.{listed};
 
     ghost Value = { List ℕ };
 
-    ghost view = { λ s. option_map_or (λ rc. rc.value.items) s.cursors [] };
+    ghost view = { λ s. listed s.cursors };
 }
 
 impl Clone for OpenSet {
@@ -28,9 +37,10 @@ impl Clone for OpenSet {
 
     fn clone(&self) -> Result<OpenSet, AllocError> {
         match &self.cursors {
-            None => Ok(OpenSet { cursors: None }),
-            Some(cursors) => Ok(OpenSet {
-                cursors: Some(cursors.clone()?),
+            Cursors::None => Ok(OpenSet::none()),
+            Cursors::One(cursor) => Ok(OpenSet::one(*cursor)),
+            Cursors::Several(cursors) => Ok(OpenSet {
+                cursors: Cursors::Several(cursors.clone()?),
             }),
         }
     }
@@ -40,26 +50,27 @@ impl OpenSet {
     fn none() -> OpenSet
         ensures { result ≡ [] }
     {
-        OpenSet { cursors: None }
+        OpenSet {
+            cursors: Cursors::None,
+        }
     }
 
-    fn of(alloc: Global, cursors: Vec<u32>) -> Result<OpenSet, AllocError>
+    fn one(cursor: u32) -> OpenSet
+        ensures { result ≡ cursor ∷ [] }
+    {
+        OpenSet {
+            cursors: Cursors::One(cursor),
+        }
+    }
+
+    fn several(alloc: Global, cursors: Vec<u32>) -> Result<OpenSet, AllocError>
         ensures { IfOk result (λ s. s ≡ cursors.items) }
     {
         match Rc::new(alloc, cursors) {
             Ok(cursors) => Ok(OpenSet {
-                cursors: Some(cursors),
+                cursors: Cursors::Several(cursors),
             }),
             Err(_) => Err(AllocError),
-        }
-    }
-
-    fn as_slice(&self) -> &[u32]
-        ensures { result.now ≡ self.now }
-    {
-        match &self.cursors {
-            None => &[],
-            Some(cursors) => cursors.as_slice(),
         }
     }
 
@@ -67,36 +78,72 @@ impl OpenSet {
     fn opened(&self, alloc: Global, cursor: u32) -> Result<OpenSet, AllocError>
         ensures { IfOk result (λ s. s ≡ opened cursor self.now) }
     {
-        let mut cursors = self.as_slice().to_vec(alloc)?;
-        cursors.push(cursor)?;
-        OpenSet::of(alloc, cursors)
+        match &self.cursors {
+            Cursors::None => Ok(OpenSet::one(cursor)),
+            Cursors::One(open) => OpenSet::several(alloc, vec![in alloc; *open, cursor]?),
+            Cursors::Several(open) => {
+                let mut cursors = open.to_vec(alloc)?;
+                cursors.push(cursor)?;
+                OpenSet::several(alloc, cursors)
+            }
+        }
     }
 
     /// Without one cursor.
     fn closed(&self, alloc: Global, cursor: u32) -> Result<OpenSet, AllocError>
         ensures { IfOk result (λ s. s ≡ closed cursor self.now) }
     {
-        let mut cursors = Vec::new(alloc);
-        for open in self.as_slice() {
-            if *open != cursor {
-                cursors.push(*open)?;
-            }
+        match &self.cursors {
+            Cursors::None => Ok(OpenSet::none()),
+            Cursors::One(open) if *open == cursor => Ok(OpenSet::none()),
+            Cursors::One(open) => Ok(OpenSet::one(*open)),
+            Cursors::Several(open) => OpenSet::several(
+                alloc,
+                without(alloc, open.as_slice(), cursor)?,
+            ),
         }
-        OpenSet::of(alloc, cursors)
     }
 
     /// Without the cursors from a number on.
     fn closed_from(&self, alloc: Global, cursor: u32) -> Result<OpenSet, AllocError>
         ensures { IfOk result (λ s. s ≡ closed_from cursor self.now) }
     {
-        let mut cursors = Vec::new(alloc);
-        for open in self.as_slice() {
-            if *open < cursor {
-                cursors.push(*open)?;
-            }
+        match &self.cursors {
+            Cursors::None => Ok(OpenSet::none()),
+            Cursors::One(open) if *open < cursor => Ok(OpenSet::one(*open)),
+            Cursors::One(_) => Ok(OpenSet::none()),
+            Cursors::Several(open) => OpenSet::several(
+                alloc,
+                below(alloc, open.as_slice(), cursor)?,
+            ),
         }
-        OpenSet::of(alloc, cursors)
     }
+}
+
+/// The cursors of a list but for one.
+fn without(alloc: Global, among: &[u32], cursor: u32) -> Result<Vec<u32>, AllocError>
+    ensures { IfOk result (λ left. left.items ≡ closed cursor among.now) }
+{
+    let mut cursors = Vec::new(alloc);
+    for each in among {
+        if *each != cursor {
+            cursors.push(*each)?;
+        }
+    }
+    Ok(cursors)
+}
+
+/// The cursors of a list that stand below a number.
+fn below(alloc: Global, among: &[u32], cursor: u32) -> Result<Vec<u32>, AllocError>
+    ensures { IfOk result (λ left. left.items ≡ closed_from cursor among.now) }
+{
+    let mut cursors = Vec::new(alloc);
+    for each in among {
+        if *each < cursor {
+            cursors.push(*each)?;
+        }
+    }
+    Ok(cursors)
 }
 
 /// Instructions one after another, in front of each of which the same is open.

@@ -135,6 +135,7 @@ impl Running {
     }
 
     /// Ends the run.
+    #[inline(never)]
     pub fn finish(&self, event: &mut Event) -> Result<Pace, AllocError>
         ensures { StopsOrActs result event.new self.now self.now (λ s. End Finished s.shared) }
     {

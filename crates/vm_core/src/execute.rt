@@ -4,6 +4,8 @@ ghost use Rattle.vm_code.specs.Machine.{act, cursor_at, cursor_rows, drawn, sett
 ghost use Rattle.eng_value.specs.HostMeanings.{Oracle, no_hosts};
 ghost use Rattle.eng_value.specs.StoredRows.{next_rowid};
 ghost use Rattle.vm_core.specs.Events.{ActsAs, ActsOver};
+ghost use Rattle.vm_core.specs.declared.event.Event.TheVariants as event_is;
+ghost use Rattle.vm_core.specs.declared.pace.Pace.TheVariants as pace_is;
 
 use crate::Event;
 use crate::jumping::Test;
@@ -27,18 +29,33 @@ pub(crate) fn instruction(
     ensures marks { tables.new.marks ≡ tables.old.marks }
 {
     match running.op(program) {
-        None => {
-            *event = Event::Done;
-            Pace::Stopping
-        }
+        None => stop_at_end(event),
         Some(op) => match execute(running, alloc, program, params, op, tables, event) {
             Ok(pace) => pace,
-            Err(_) => {
-                *event = Event::Mem;
-                Pace::Pausing
-            }
+            Err(_) => pause_for_memory(event),
         },
     }
+}
+
+/// Leaves word that the run is at its end. This and the next are functions of their own, so that no instruction pays for the room of an
+/// event.
+#[inline(never)]
+fn stop_at_end(event: &mut Event) -> Pace
+    ensures event { event.new ≡ event_is.Done }
+    ensures pace { result ≡ pace_is.Stopping }
+{
+    *event = Event::Done;
+    Pace::Stopping
+}
+
+/// Leaves word that memory was wanting.
+#[inline(never)]
+fn pause_for_memory(event: &mut Event) -> Pace
+    ensures event { event.new ≡ event_is.Mem }
+    ensures pace { result ≡ pace_is.Pausing }
+{
+    *event = Event::Mem;
+    Pace::Pausing
 }
 
 /// Runs an instruction, by an arm each. An arm is one call that answers in its place, so that no instruction pays for the locals of

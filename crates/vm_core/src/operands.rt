@@ -245,7 +245,7 @@ impl Running {
     }
 
     /// The integer that an operand reads, if it reads one.
-    #[inline]
+    #[inline(always)]
     fn integer(&self, params: &Row, tables: &Tables, operand: &Operand) -> Option<i64>
         ensures { result ≡ held_integer (operand_now params.now self.now tables.now.world operand.now) }
     {

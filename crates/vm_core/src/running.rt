@@ -204,6 +204,7 @@ impl Running {
     }
 
     /// Writes an integer.
+    #[inline(always)]
     pub fn put_integer(&mut self, n: i64, to: u32) -> Result<Pace, AllocError>
         requires { self.old.pc + 1 < 2 ^ 64 }
         ensures { Acts result self.old self.new (λ s. put s to (Good (Integer n))) }
@@ -371,6 +372,7 @@ impl Running {
     }
 
     /// The integer or the text in a column of a cursor's row, where there is one.
+    #[inline(always)]
     pub fn lent<'t>(&self, tables: &'t Tables, number: u32, place: u32) -> Lent<'t>
         ensures { LendsColumn result (column_of (current tables.now.world (cursor_at self.now.scene.cursors number)) place) }
     {

@@ -1,5 +1,5 @@
 // The instructions that write into registers, and `Insert`, which reads them. Each has a method of its own that is not inlined, so
-// that it alone pays for the locals that it needs.
+// that it alone pays for the locals that it needs; but for `put_binary`, the most common one, whose own locals are few.
 ghost use Rattle.std.specs.Prelude.{◌≡◌, ◌+◌, ◌^◌, ◌<◌, map};
 ghost use Rattle.eng_key.specs.Values.{value_keys};
 ghost use Rattle.eng_value.specs.Applied.{binary_of, function_by, merged, unary_of};
@@ -134,7 +134,7 @@ impl Running {
     }
 
     /// Writes what an operator with two operands gives.
-    #[inline(never)]
+    #[inline(always)]
     pub(crate) fn put_binary(
         &mut self,
         alloc: Global,

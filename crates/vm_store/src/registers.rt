@@ -156,7 +156,7 @@ impl Registers {
     }
 
     /// Writes an integer.
-    #[inline]
+    #[inline(always)]
     pub fn write_integer(&mut self, register: u32, n: i64)
         ensures { self.new ≡ slice_set self.old register (Good (Integer n)) }
     {

@@ -178,6 +178,7 @@ impl Table {
     }
 
     /// The integer or the text in a column of the row of this rowid, where there is one.
+    #[inline(always)]
     pub fn lent(&self, rowid: i64, place: usize, near: usize) -> Lent<'_>
         ensures { LendsColumn result (column_of (row_read (row_under self.now rowid)) place) }
     {

@@ -149,6 +149,7 @@ impl Tables {
     }
 
     /// The integer or the text in a column of the row of a rowid, where there is one.
+    #[inline(always)]
     pub fn lent(&self, table: u32, rowid: i64, place: usize, near: usize) -> Lent<'_>
         ensures { LendsColumn result (column_of (row_read (row_under (rows_of self.now.world table) rowid)) place) }
     {
