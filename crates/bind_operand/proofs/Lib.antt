@@ -1,3 +1,4 @@
 pub mod Explicits
 pub mod Splits
 pub mod CheckLaws
+pub mod HoldLaws
