@@ -1,3 +1,2 @@
 pub mod Bare
-pub mod Meant
-pub mod Told
+pub mod Kinds

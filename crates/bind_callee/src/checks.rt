@@ -4,10 +4,10 @@ ghost use Rattle.std.specs.Option.{option_map};
 ghost use Rattle.eng_value.specs.declared.cause.Cause.TheVariants as cause;
 ghost use Rattle.sql_meaning.specs.Binding.{takes};
 ghost use Rattle.sql_bound.specs.Answers.{Answers, Refuses};
-ghost use Rattle.sql_bound.specs.Callees.{aggregates_so, is_distinct, may_aggregate, may_call, takes_arity, without_filter};
+ghost use Rattle.sql_bound.specs.Callees.{aggregates_so, may_aggregate, may_call, takes_arity, without_filter};
 ghost use Rattle.sql_bound.specs.Expressions.{if_allowed};
 ghost use Rattle.sql_bound.specs.Trees.{of_expr};
-ghost use Rattle.bind_operand.specs.Meant.{aggregator_meant, called_so, counts_meant};
+ghost use Rattle.bind_callee.specs.Meant.{aggregator_meant, called_so, counts_meant};
 
 use crate::{AggregateCount, CalledAggregate};
 use eng_value::{Cause, Text};
@@ -16,16 +16,6 @@ use sql_meaning::ArgumentCount;
 use sql_tree::{Arguments, Expr};
 use sqlite_items::Boxed;
 use std::alloc::Global;
-
-/// Whether DISTINCT stands in front of the arguments.
-pub(crate) fn is_distinct(how: Arguments) -> bool
-    ensures { result ≡ is_distinct how }
-{
-    match how {
-        Arguments::Distinct => true,
-        _ => false,
-    }
-}
 
 /// Refuses a name that may not stand there.
 fn misused(alloc: Global, name: &str) -> Result<(), Cause>

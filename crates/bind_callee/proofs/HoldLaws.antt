@@ -28,7 +28,7 @@ use Rattle.sql_tree.specs.declared.token.Token.{Token}
 use Rattle.sql_bound.specs.Expressions.{any_holds, arm_holds, calls_aggregate, option_holds}
 use Rattle.sql_bound.specs.Scopes.{Facts, Outer}
 use Rattle.sql_bound.specs.Trees.{of_expr}
-use Rattle.bind_operand.specs.Told.{of_arm, told}
+use Rattle.bind_callee.specs.Told.{of_arm, told}
 
 -- ---- clause by clause
 

@@ -8,7 +8,7 @@ ghost use Rattle.sql_meaning.specs.Binding.{builtin_named, takes};
 ghost use Rattle.sql_bound.specs.Answers.{OnlyMem};
 ghost use Rattle.sql_bound.specs.Callees.{HostScalar, Scalar, built_aggregator, built_scalar, callee_of, count_by, host_aggregator, host_scalar, is_one, one_of, takes_arity};
 ghost use Rattle.sql_bound.specs.HostFacts.{facts_of};
-ghost use Rattle.bind_operand.specs.Meant.{aggregator_meant, callee_meant, counts_meant, named_in, row};
+ghost use Rattle.bind_callee.specs.Meant.{aggregator_meant, callee_meant, counts_meant, named_in, row};
 
 use crate::hosts::{host_aggregate_named, host_function_named};
 use crate::{AggregateCount, Called, CalledAggregate};

@@ -4,9 +4,9 @@ use Rattle.sql_tree.specs.declared.expr.Expr.{Expr}
 use Rattle.sql_bound.specs.HostFacts.{facts_of}
 use Rattle.sql_bound.specs.Scopes.{Facts, Outer}
 use Rattle.sql_bound.specs.Trees.{of_expr}
-use Rattle.bind_operand.specs.Told.{told}
-use Rattle.bind_operand.proofs.HoldLaws.{holds-told}
-use Rattle.bind_operand.proofs.holds.holds_aggregate.Goals as goal
+use Rattle.bind_callee.specs.Told.{told}
+use Rattle.bind_callee.proofs.HoldLaws.{holds-told}
+use Rattle.bind_callee.proofs.holds.holds_aggregate.Goals as goal
 
 wherever : (e : Expr) (text : List ℕ) (facts : Facts) (r : Result Bool Cause)
     → IfOk r (λ b. b ≡ (of_expr e).aggregates (told text facts))

@@ -8,8 +8,8 @@ ghost use Rattle.sql_bound.specs.Expressions.{any_holds, arm_holds, calls_aggreg
 ghost use Rattle.sql_bound.specs.HostFacts.{facts_of};
 ghost use Rattle.sql_bound.specs.Scopes.{Outer};
 ghost use Rattle.sql_bound.specs.Trees.{of_expr};
-ghost use Rattle.bind_operand.specs.Meant.{callee_meant};
-ghost use Rattle.bind_operand.specs.Told.{of_arm, told};
+ghost use Rattle.bind_callee.specs.Meant.{callee_meant};
+ghost use Rattle.bind_callee.specs.Told.{of_arm, told};
 
 use crate::callees::callee_of;
 use crate::Called;
