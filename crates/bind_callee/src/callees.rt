@@ -63,11 +63,7 @@ fn aggregate(
 }
 
 /// An aggregate of one argument.
-fn one_of(
-    alloc: Global,
-    kind: AggregateKind,
-    name: &str,
-) -> Result<Option<CalledAggregate>, Cause>
+fn one_of(alloc: Global, kind: AggregateKind, name: &str) -> Result<Option<CalledAggregate>, Cause>
     ensures ok { IfOk result (λ a. option_map aggregator_meant a ≡ Some (one_of kind name.now)) }
     ensures mem { OnlyMem result }
 {
@@ -162,10 +158,7 @@ fn built_scalar(alloc: Global, facts: &HostFacts, name: &str) -> Result<Called, 
 }
 
 /// A built-in function.
-fn function(
-    alloc: Global,
-    known: (&'static str, Builtin, ArgumentCount),
-) -> Result<Called, Cause>
+fn function(alloc: Global, known: (&'static str, Builtin, ArgumentCount)) -> Result<Called, Cause>
     ensures ok { IfOk result (λ c. callee_meant c ≡ Scalar known.entry.0.now known.entry.1 (takes known.entry.2)) }
     ensures mem { OnlyMem result }
 {

@@ -37,7 +37,11 @@ fn wrongly_counted(alloc: Global, name: &str) -> Result<(), Cause>
 pub fn if_allowed(alloc: Global, allowed: bool, name: &str) -> Result<(), Cause>
     ensures { Answers (if_allowed allowed name.now (Ok tt)) result }
 {
-    if allowed { Ok(()) } else { misused(alloc, name) }
+    if allowed {
+        Ok(())
+    } else {
+        misused(alloc, name)
+    }
 }
 
 /// Whether a function takes so many arguments.
@@ -112,14 +116,22 @@ fn counts(count: AggregateCount, given: usize) -> bool
 fn counted(alloc: Global, name: &str, takes: bool) -> Result<(), Cause>
     ensures { Answers (if takes then Ok tt else Err (cause.Arity name.now)) result }
 {
-    if takes { Ok(()) } else { wrongly_counted(alloc, name) }
+    if takes {
+        Ok(())
+    } else {
+        wrongly_counted(alloc, name)
+    }
 }
 
 /// A call with DISTINCT, which goes with one argument.
 fn distinct(alloc: Global, name: &str, takes: bool, given: usize) -> Result<(), Cause>
     ensures { Answers (if nat_eq given 1 then if takes then Ok tt else Err (cause.Arity name.now) else Err (cause.Misuse name.now)) result }
 {
-    if given == 1 { counted(alloc, name, takes) } else { misused(alloc, name) }
+    if given == 1 {
+        counted(alloc, name, takes)
+    } else {
+        misused(alloc, name)
+    }
 }
 
 /// Whether an aggregate may be called so.
@@ -156,11 +168,7 @@ pub fn may_aggregate(
 }
 
 /// A FILTER goes with an aggregate alone.
-pub fn without_filter(
-    alloc: Global,
-    name: &str,
-    filter: &Option<Boxed<Expr>>,
-) -> Result<(), Cause>
+pub fn without_filter(alloc: Global, name: &str, filter: &Option<Boxed<Expr>>) -> Result<(), Cause>
     ensures { Answers (without_filter name.now (option_map of_expr filter.now)) result }
 {
     match filter {

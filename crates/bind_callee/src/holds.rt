@@ -11,8 +11,8 @@ ghost use Rattle.sql_bound.specs.Trees.{of_expr};
 ghost use Rattle.bind_callee.specs.Meant.{callee_meant};
 ghost use Rattle.bind_callee.specs.Told.{of_arm, told};
 
-use crate::callees::callee_of;
 use crate::Called;
+use crate::callees::callee_of;
 use bind_name::name;
 use eng_value::Cause;
 use sql_bound::HostFacts;
