@@ -1,3 +1,2 @@
 pub mod Explicits
 pub mod Splits
-pub mod CheckLaws

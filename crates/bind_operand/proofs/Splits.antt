@@ -1,5 +1,5 @@
 -- What a condition is split into.
-use Rattle.std.proofs.Common.{◌≡◌, ◌≢◌, List, [], ◌∷◌, ◌++◌, Result, Ok, Err, refl, ap, ◌∙◌, rules, sym}
+use Rattle.std.proofs.Common.{◌≡◌, ◌≢◌, List, [], ◌∷◌, ◌++◌, Result, Ok, Err, refl, ◌∙◌, rules, sym}
 use Rattle.eng_value.specs.declared.operators.BinaryOperator.{BinaryOperator}
 use Rattle.eng_value.specs.declared.operators.BinaryOperator.TheVariants as binary
 use Rattle.sql_tree.specs.declared.expr.BinaryOp.{BinaryOp}
@@ -12,7 +12,7 @@ use Rattle.sql_tree.specs.Layers.{ExprLayer}
 use Rattle.bound_tree.specs.Exprs.{BoundExpr}
 use Rattle.bound_tree.specs.Exprs as e
 use Rattle.bound_tree.specs.Halves.{halves_of}
-use Rattle.sql_bound.specs.Expressions.{conjuncts_step, expr_step, split_by}
+use Rattle.sql_bound.specs.Expressions.{conjuncts_step, split_by}
 use Rattle.sql_bound.specs.Trees.{of_expr}
 
 -- ---- by the halves of the bound tree

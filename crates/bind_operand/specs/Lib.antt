@@ -1,2 +1,2 @@
 pub mod Bare
-pub mod Meant
+pub mod Kinds

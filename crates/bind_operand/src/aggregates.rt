@@ -4,21 +4,30 @@ ghost use Rattle.bound_tree.specs.Exprs as e;
 ghost use Rattle.sql_bound.specs.Answers.{OnlyMem};
 ghost use Rattle.sql_bound.specs.Expressions.{aggregate_of, option_tree};
 ghost use Rattle.sql_bound.specs.Operands.{option_list, over};
-ghost use Rattle.bind_operand.specs.Meant.{aggregator_meant};
+ghost use Rattle.sql_bound.specs.Callees.{is_distinct};
+ghost use Rattle.bind_operand.specs.Kinds.{of_kind};
 
-use crate::CalledAggregate;
-use crate::checks::is_distinct;
 use crate::collations::{
     collation_of_arguments, explicit_of_option, first_explicit, or_else,
 };
 use crate::leaves::bare;
 use crate::lists::trees_of;
-use bound_tree::{BoundAggregate, BoundExpr};
+use bound_tree::{AggregateKind, BoundAggregate, BoundExpr};
 use eng_value::Cause;
 use sql_bound::Operand;
 use sql_tree::Arguments;
 use sqlite_items::Items;
 use std::alloc::Global;
+
+/// Whether DISTINCT stands in front of the arguments.
+fn is_distinct(how: Arguments) -> bool
+    ensures { result ≡ is_distinct how }
+{
+    match how {
+        Arguments::Distinct => true,
+        _ => false,
+    }
+}
 
 /// The tree of an operand that may be absent.
 fn option_tree(a: Option<Operand>) -> Option<BoundExpr>
@@ -30,21 +39,21 @@ fn option_tree(a: Option<Operand>) -> Option<BoundExpr>
     }
 }
 
-/// An aggregate over its arguments, with its FILTER, if any. Only memory can fail.
+/// An aggregate of this kind over its arguments, with its FILTER, if any. Only memory can fail.
 pub fn aggregate_of(
     alloc: Global,
-    a: CalledAggregate,
+    kind: AggregateKind,
     how: Arguments,
     arguments: Items<Operand>,
     filter: Option<Operand>,
 ) -> Result<BoundAggregate, Cause>
-    ensures ok { IfOk result (λ made. made ≡ aggregate_of (aggregator_meant a) how arguments filter) }
+    ensures ok { IfOk result (λ made. made ≡ aggregate_of (of_kind kind) how arguments filter) }
     ensures mem { OnlyMem result }
 {
     let collation = collation_of_arguments(arguments.as_slice());
     let arguments = trees_of(alloc, arguments)?;
     Ok(BoundAggregate {
-        kind: a.kind,
+        kind,
         distinct: is_distinct(how),
         collation,
         arguments,

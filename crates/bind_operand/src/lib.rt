@@ -1,33 +1,24 @@
-//! What operators, calls and CASE make of operands whose names are bound, what the name of a call stands for, and how a condition is
-//! split at its ANDs.
+//! What operators, calls and CASE make of operands whose names are bound, and how a condition is split at its ANDs.
 //!
-//! Each function gives what the definition of its name in the library sql_bound says (specs/Operands.antt, Callees.antt and
-//! Expressions.antt there). Operands are taken by value, since their trees are moved. Begin with `binary_of`.
+//! Each function gives what the definition of its name in the library sql_bound says (specs/Operands.antt and Expressions.antt
+//! there). Operands are taken by value, since their trees are moved. Begin with `binary_of`.
 #![tactic(auto)]
 
 mod aggregates;
-mod called;
-mod callees;
 mod calls;
 mod cases;
-mod checks;
 mod collations;
 mod conditions;
-mod hosts;
 mod leaves;
 mod lists;
 mod members;
 mod operators;
 
 pub use aggregates::{aggregate_of, slot_operand};
-pub use called::{AggregateCount, Called, CalledAggregate};
-pub use callees::callee_of;
 pub use calls::{call_of, host_call_of};
 pub use cases::case_of;
-pub use checks::{if_allowed, may_aggregate, may_call, may_call_host, without_filter};
 pub use collations::{collation_of, collation_of_arguments, collation_of_result, sides_of};
 pub use conditions::conjuncts;
-pub use hosts::collation_called;
 pub use leaves::{collated, column_operand, literal_operand, own_column, plain};
 pub use members::{in_of, in_query_of};
 pub use operators::{between_of, binary_of, cast_of, compared, like_of, unary_of};

@@ -1,4 +1,4 @@
-use Rattle.std.proofs.Common.{◌≡◌, ◌++◌, map, reverse, length}
+use Rattle.std.proofs.Common.{◌≡◌, ◌++◌, reverse, length}
 use Rattle.bind_operand.proofs.lists.reversed.Given as goal
 
 abbrev pub invariant-loop-item : goal.invariant-loop-item

@@ -4,10 +4,10 @@ ghost use Rattle.std.specs.Option.{option_map};
 ghost use Rattle.eng_value.specs.declared.cause.Cause.TheVariants as cause;
 ghost use Rattle.sql_meaning.specs.Binding.{takes};
 ghost use Rattle.sql_bound.specs.Answers.{Answers, Refuses};
-ghost use Rattle.sql_bound.specs.Callees.{aggregates_so, is_distinct, may_aggregate, may_call, takes_arity, without_filter};
+ghost use Rattle.sql_bound.specs.Callees.{aggregates_so, may_aggregate, may_call, takes_arity, without_filter};
 ghost use Rattle.sql_bound.specs.Expressions.{if_allowed};
 ghost use Rattle.sql_bound.specs.Trees.{of_expr};
-ghost use Rattle.bind_operand.specs.Meant.{aggregator_meant, called_so, counts_meant};
+ghost use Rattle.bind_callee.specs.Meant.{aggregator_meant, called_so, counts_meant};
 
 use crate::{AggregateCount, CalledAggregate};
 use eng_value::{Cause, Text};
@@ -16,16 +16,6 @@ use sql_meaning::ArgumentCount;
 use sql_tree::{Arguments, Expr};
 use sqlite_items::Boxed;
 use std::alloc::Global;
-
-/// Whether DISTINCT stands in front of the arguments.
-pub(crate) fn is_distinct(how: Arguments) -> bool
-    ensures { result ≡ is_distinct how }
-{
-    match how {
-        Arguments::Distinct => true,
-        _ => false,
-    }
-}
 
 /// Refuses a name that may not stand there.
 fn misused(alloc: Global, name: &str) -> Result<(), Cause>
@@ -47,7 +37,11 @@ fn wrongly_counted(alloc: Global, name: &str) -> Result<(), Cause>
 pub fn if_allowed(alloc: Global, allowed: bool, name: &str) -> Result<(), Cause>
     ensures { Answers (if_allowed allowed name.now (Ok tt)) result }
 {
-    if allowed { Ok(()) } else { misused(alloc, name) }
+    if allowed {
+        Ok(())
+    } else {
+        misused(alloc, name)
+    }
 }
 
 /// Whether a function takes so many arguments.
@@ -122,14 +116,22 @@ fn counts(count: AggregateCount, given: usize) -> bool
 fn counted(alloc: Global, name: &str, takes: bool) -> Result<(), Cause>
     ensures { Answers (if takes then Ok tt else Err (cause.Arity name.now)) result }
 {
-    if takes { Ok(()) } else { wrongly_counted(alloc, name) }
+    if takes {
+        Ok(())
+    } else {
+        wrongly_counted(alloc, name)
+    }
 }
 
 /// A call with DISTINCT, which goes with one argument.
 fn distinct(alloc: Global, name: &str, takes: bool, given: usize) -> Result<(), Cause>
     ensures { Answers (if nat_eq given 1 then if takes then Ok tt else Err (cause.Arity name.now) else Err (cause.Misuse name.now)) result }
 {
-    if given == 1 { counted(alloc, name, takes) } else { misused(alloc, name) }
+    if given == 1 {
+        counted(alloc, name, takes)
+    } else {
+        misused(alloc, name)
+    }
 }
 
 /// Whether an aggregate may be called so.
@@ -166,11 +168,7 @@ pub fn may_aggregate(
 }
 
 /// A FILTER goes with an aggregate alone.
-pub fn without_filter(
-    alloc: Global,
-    name: &str,
-    filter: &Option<Boxed<Expr>>,
-) -> Result<(), Cause>
+pub fn without_filter(alloc: Global, name: &str, filter: &Option<Boxed<Expr>>) -> Result<(), Cause>
     ensures { Answers (without_filter name.now (option_map of_expr filter.now)) result }
 {
     match filter {

@@ -8,7 +8,7 @@ ghost use Rattle.sql_meaning.specs.Binding.{builtin_named, takes};
 ghost use Rattle.sql_bound.specs.Answers.{OnlyMem};
 ghost use Rattle.sql_bound.specs.Callees.{HostScalar, Scalar, built_aggregator, built_scalar, callee_of, count_by, host_aggregator, host_scalar, is_one, one_of, takes_arity};
 ghost use Rattle.sql_bound.specs.HostFacts.{facts_of};
-ghost use Rattle.bind_operand.specs.Meant.{aggregator_meant, callee_meant, counts_meant, named_in, row};
+ghost use Rattle.bind_callee.specs.Meant.{aggregator_meant, callee_meant, counts_meant, named_in, row};
 
 use crate::hosts::{host_aggregate_named, host_function_named};
 use crate::{AggregateCount, Called, CalledAggregate};
@@ -63,11 +63,7 @@ fn aggregate(
 }
 
 /// An aggregate of one argument.
-fn one_of(
-    alloc: Global,
-    kind: AggregateKind,
-    name: &str,
-) -> Result<Option<CalledAggregate>, Cause>
+fn one_of(alloc: Global, kind: AggregateKind, name: &str) -> Result<Option<CalledAggregate>, Cause>
     ensures ok { IfOk result (λ a. option_map aggregator_meant a ≡ Some (one_of kind name.now)) }
     ensures mem { OnlyMem result }
 {
@@ -162,10 +158,7 @@ fn built_scalar(alloc: Global, facts: &HostFacts, name: &str) -> Result<Called, 
 }
 
 /// A built-in function.
-fn function(
-    alloc: Global,
-    known: (&'static str, Builtin, ArgumentCount),
-) -> Result<Called, Cause>
+fn function(alloc: Global, known: (&'static str, Builtin, ArgumentCount)) -> Result<Called, Cause>
     ensures ok { IfOk result (λ c. callee_meant c ≡ Scalar known.entry.0.now known.entry.1 (takes known.entry.2)) }
     ensures mem { OnlyMem result }
 {

@@ -2,7 +2,7 @@ use Rattle.std.proofs.Common.{◌≡◌, drop}
 use Rattle.std.specs.List.{find}
 use Rattle.eng_entry.specs.Names.{is_same_name}
 use Rattle.sql_bound.specs.declared.facts.HostFunction.{HostFunction}
-use Rattle.bind_operand.proofs.hosts.function_in.Given as goal
+use Rattle.bind_callee.proofs.hosts.function_in.Given as goal
 
 abbrev pub invariant-loop-f : goal.invariant-loop-f
 invariant-loop-f l = find (λ (f : HostFunction). is_same_name f.name l.name) (drop l.f-index l.functions) ≡ find (λ (f : HostFunction). is_same_name f.name l.name) l.functions

@@ -11,11 +11,11 @@ use Rattle.sql_bound.specs.Refusals.{Checked}
 use Rattle.sql_tree.specs.declared.expr.Arguments.{Arguments}
 use Rattle.sql_tree.specs.declared.expr.Arguments.TheVariants as arguments
 use Rattle.eng_value.specs.declared.cause.Cause.TheVariants.{Arity, Misuse}
-use Rattle.bind_operand.specs.declared.called.AggregateCount.{AggregateCount}
-use Rattle.bind_operand.specs.declared.called.AggregateCount.TheVariants as count
-use Rattle.bind_operand.specs.declared.called.Called.{Called}
-use Rattle.bind_operand.specs.declared.called.Called.TheVariants as called
-use Rattle.bind_operand.specs.declared.called.CalledAggregate.{CalledAggregate}
+use Rattle.bind_callee.specs.declared.called.AggregateCount.{AggregateCount}
+use Rattle.bind_callee.specs.declared.called.AggregateCount.TheVariants as count
+use Rattle.bind_callee.specs.declared.called.Called.{Called}
+use Rattle.bind_callee.specs.declared.called.Called.TheVariants as called
+use Rattle.bind_callee.specs.declared.called.CalledAggregate.{CalledAggregate}
 
 -- how many arguments it takes
 abbrev pub counts_meant : AggregateCount → ℕ → Bool
