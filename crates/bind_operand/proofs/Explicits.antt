@@ -18,4 +18,5 @@ first_explicit-append [] ys = refl
 first_explicit-append (x ∷ xs) ys = rw (or_else-assoc, ← first_explicit-append xs ys) refl
 
 pub ruleset or_elses = (or_else-none, or_else-assoc)
+
 pub ruleset first_explicit_appends = (first_explicit-append, or_else-assoc)

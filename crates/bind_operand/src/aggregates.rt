@@ -7,9 +7,7 @@ ghost use Rattle.sql_bound.specs.Operands.{option_list, over};
 ghost use Rattle.sql_bound.specs.Callees.{is_distinct};
 ghost use Rattle.bind_operand.specs.Kinds.{of_kind};
 
-use crate::collations::{
-    collation_of_arguments, explicit_of_option, first_explicit, or_else,
-};
+use crate::collations::{collation_of_arguments, explicit_of_option, first_explicit, or_else};
 use crate::leaves::bare;
 use crate::lists::trees_of;
 use bound_tree::{AggregateKind, BoundAggregate, BoundExpr};

@@ -86,11 +86,7 @@ pub fn call_of(alloc: Global, f: Builtin, arguments: Items<Operand>) -> Result<O
 }
 
 /// A call of a host's function. Only memory can fail.
-pub fn host_call_of(
-    alloc: Global,
-    name: Text,
-    arguments: Items<Operand>,
-) -> Result<Operand, Cause>
+pub fn host_call_of(alloc: Global, name: Text, arguments: Items<Operand>) -> Result<Operand, Cause>
     ensures ok { IfOk result (λ x. x ≡ host_call_of name arguments) }
     ensures mem { OnlyMem result }
 {

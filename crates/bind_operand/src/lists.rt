@@ -44,10 +44,7 @@ fn chosen_arm(arm: ArmOperands) -> BoundArm
 }
 
 /// The arms of a CASE without an operand.
-pub(crate) fn chosen_arms(
-    alloc: Global,
-    arms: Items<ArmOperands>,
-) -> Result<Items<BoundArm>, Cause>
+pub(crate) fn chosen_arms(alloc: Global, arms: Items<ArmOperands>) -> Result<Items<BoundArm>, Cause>
     ensures ok { IfOk result (λ made. made ≡ map chosen_arm arms) }
     ensures mem { OnlyMem result }
 {
