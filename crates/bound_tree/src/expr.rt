@@ -1,6 +1,7 @@
 // Bound expressions.
 ghost use Rattle.std.specs.Prelude.{◌≡◌, IfOk};
 ghost use Rattle.bound_tree.specs.Exprs as e;
+ghost use Rattle.bound_tree.specs.Seen.{seen};
 
 use crate::tree::ExprTree;
 use eng_value::{BinaryOperator, UnaryOperator};
@@ -30,6 +31,21 @@ impl Model for BoundExpr {
 }
 
 impl BoundExpr {
+    /// The tree as it is stored, to be walked.
+    pub fn tree(&self) -> &ExprTree
+        ensures { seen result.now ≡ self.now }
+    {
+        &self.tree
+    }
+
+    pub fn argument(place: u32) -> BoundExpr
+        ensures { result ≡ e.Argument place }
+    {
+        BoundExpr {
+            tree: ExprTree::Argument(place),
+        }
+    }
+
     pub fn parameter(number: u32) -> BoundExpr
         ensures { result ≡ e.Parameter number }
     {

@@ -6,7 +6,6 @@ mod expr;
 mod same;
 mod same_units;
 mod statements;
-mod stored;
 mod tree;
 mod units;
 mod writes;
