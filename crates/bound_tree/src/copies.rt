@@ -103,7 +103,10 @@ fn copied(alloc: Global, e: &ExprTree) -> Result<ExprTree, AllocError>
             let b = copied_box(alloc, b)?;
             Ok(ExprTree::Iif(a, b, copied_box(alloc, c)?))
         }
-        ExprTree::Coalesce(f, args) => Ok(ExprTree::Coalesce(*f, copied_all(alloc, args.as_slice())?)),
+        ExprTree::Coalesce(f, args) => Ok(ExprTree::Coalesce(
+            *f,
+            copied_all(alloc, args.as_slice())?,
+        )),
         ExprTree::Call(f, collation, args) => {
             let args = copied_all(alloc, args.as_slice())?;
             Ok(ExprTree::Call(*f, *collation, args))
@@ -112,8 +115,14 @@ fn copied(alloc: Global, e: &ExprTree) -> Result<ExprTree, AllocError>
             let name = name.clone()?;
             Ok(ExprTree::HostCall(name, copied_all(alloc, args.as_slice())?))
         }
-        ExprTree::Scalar(unit, handed) => Ok(ExprTree::Scalar(*unit, copied_all(alloc, handed.as_slice())?)),
-        ExprTree::Exists(unit, handed) => Ok(ExprTree::Exists(*unit, copied_all(alloc, handed.as_slice())?)),
+        ExprTree::Scalar(unit, handed) => Ok(ExprTree::Scalar(
+            *unit,
+            copied_all(alloc, handed.as_slice())?,
+        )),
+        ExprTree::Exists(unit, handed) => Ok(ExprTree::Exists(
+            *unit,
+            copied_all(alloc, handed.as_slice())?,
+        )),
         ExprTree::InQuery(sides, a, unit, handed) => {
             let a = copied_box(alloc, a)?;
             let handed = copied_all(alloc, handed.as_slice())?;

@@ -8,7 +8,6 @@ mod lists;
 mod same;
 mod same_units;
 mod statements;
-mod stored;
 mod tree;
 mod units;
 mod writes;

@@ -93,10 +93,9 @@ pub fn same_tree(a: &ExprTree, b: &ExprTree) -> bool
     match (a, b) {
         (ExprTree::Literal(a), ExprTree::Literal(b)) => same_literal(a, b),
         (ExprTree::Parameter(m), ExprTree::Parameter(n)) => *m == *n,
-        (
-            ExprTree::Column { item: i, column: c },
-            ExprTree::Column { item: j, column: d },
-        ) => *i == *j && *c == *d,
+        (ExprTree::Column { item: i, column: c }, ExprTree::Column { item: j, column: d }) => *i
+            == *j
+            && *c == *d,
         (ExprTree::Rowid { item: i }, ExprTree::Rowid { item: j }) => *i == *j,
         (ExprTree::Argument(m), ExprTree::Argument(n)) => *m == *n,
         (ExprTree::Aggregate(m), ExprTree::Aggregate(n)) => *m == *n,
@@ -107,7 +106,9 @@ pub fn same_tree(a: &ExprTree, b: &ExprTree) -> bool
             same_binary(*o, *p) && same_tree(a.get(), x.get()) && same_tree(b.get(), y.get())
         }
         (ExprTree::LikeEscaped(a, b, c), ExprTree::LikeEscaped(x, y, z)) => {
-            same_tree(a.get(), x.get()) && same_tree(b.get(), y.get()) && same_tree(c.get(), z.get())
+            same_tree(a.get(), x.get())
+                && same_tree(b.get(), y.get())
+                && same_tree(c.get(), z.get())
         }
         (ExprTree::Between(s, t, a, b, c), ExprTree::Between(u, v, x, y, z)) => {
             same_sides(*s, *u)
@@ -130,7 +131,9 @@ pub fn same_tree(a: &ExprTree, b: &ExprTree) -> bool
                 && same_tree(b.get(), y.get())
         }
         (ExprTree::Iif(a, b, c), ExprTree::Iif(x, y, z)) => {
-            same_tree(a.get(), x.get()) && same_tree(b.get(), y.get()) && same_tree(c.get(), z.get())
+            same_tree(a.get(), x.get())
+                && same_tree(b.get(), y.get())
+                && same_tree(c.get(), z.get())
         }
         (ExprTree::Coalesce(f, more), ExprTree::Coalesce(g, others)) => {
             *f == *g && same_trees(more.as_slice(), others.as_slice())
