@@ -1,0 +1,4 @@
+pub mod ArgumentCounts
+pub mod JoinLaws
+pub mod SourceLaws
+pub mod Words
