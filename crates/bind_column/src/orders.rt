@@ -6,8 +6,8 @@ ghost use Rattle.sql_bound.specs.Orders.{collation_at_place, nulls_first, place_
 ghost use Rattle.sql_bound.specs.Results.{at_place, place_named, place_of_integer};
 ghost use Rattle.bind_column.specs.Terms.{result_term, term_of};
 
-use bind_scope::small;
 use crate::results::collation_of_result;
+use bind_scope::small;
 use bound_tree::{BoundTerm, TermKey};
 use eng_entry::is_same_name;
 use eng_value::{Built, Cause, Collation, Value};

@@ -10,8 +10,7 @@ ghost use Rattle.sql_bound.specs.Results.{result_column};
 ghost use Rattle.sql_meaning.specs.Binding.{or_else};
 ghost use Rattle.bind_column.specs.Lists.{column_called};
 
-use bind_scope::{copied_text, text_of};
-use bind_scope::pushed;
+use bind_scope::{copied_text, pushed, text_of};
 use bound_tree::BoundColumn;
 use eng_value::{Built, Cause, Collation, LimitKind, MAX_COLUMNS, Text};
 use itoa::Buffer;
@@ -139,10 +138,7 @@ pub fn with_names(
 fn collation_of_both(a: &ResultColumn, b: &ResultColumn) -> Collation
     ensures { result ≡ collation_of_both a.now b.now }
 {
-    match or_else(
-        or_else(a.explicit, b.explicit),
-        or_else(a.column, b.column),
-    ) {
+    match or_else(or_else(a.explicit, b.explicit), or_else(a.column, b.column)) {
         Some(collation) => collation,
         None => Collation::Built(Built::Binary),
     }

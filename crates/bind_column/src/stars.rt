@@ -6,9 +6,7 @@ ghost use Rattle.sql_bound.specs.Operands.{column_operand};
 ghost use Rattle.sql_bound.specs.Scopes.{is_called};
 ghost use Rattle.bind_column.specs.Stars.{all_of, shown_in_item, shown_so, those_of};
 
-use bind_scope::{copied_column, text_of};
-use bind_scope::pushed;
-use bind_scope::is_called;
+use bind_scope::{copied_column, is_called, pushed, text_of};
 use eng_value::{Cause, NameKind};
 use sql_bound::{Form, Operand, ScopeColumn, ScopeItem};
 use sqlite_items::Items;

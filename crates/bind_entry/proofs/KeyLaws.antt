@@ -48,6 +48,6 @@ declared-is facts text t cs r ks columns rowid keys =
     let all = bound_columns (map (declared_column facts text) t.columns) in
     let same : cs ≡ all = columns ∙ columns-are facts text t.columns in
     declared-same cs all r (rowid_of text t) ks _ same rowid (
-      keys ∙ ap (λ (p : Option ℕ). own_keys p cs 0 t.columns ++ flat_map (table_key facts text p cs) t.constraints) rowid
-      ∙ ap (λ (ds : List BoundColumn). own_keys (rowid_of text t) ds 0 t.columns ++ flat_map (table_key facts text (rowid_of text t) ds) t.constraints) same
+    keys ∙ ap (λ (p : Option ℕ). own_keys p cs 0 t.columns ++ flat_map (table_key facts text p cs) t.constraints) rowid
+    ∙ ap (λ (ds : List BoundColumn). own_keys (rowid_of text t) ds 0 t.columns ++ flat_map (table_key facts text (rowid_of text t) ds) t.constraints) same
     )

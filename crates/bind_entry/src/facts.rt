@@ -69,14 +69,15 @@ pub fn host_module(facts: &HostFacts, name: &str) -> Option<(bool, bool)>
 }
 
 /// The columns of a table of this module, where they are told.
-pub fn told_columns<'a>(facts: &'a HostFacts, name: &str, table: u64) -> Option<&'a Items<ModColumn>>
+pub fn told_columns<'a>(
+    facts: &'a HostFacts,
+    name: &str,
+    table: u64,
+) -> Option<&'a Items<ModColumn>>
     ensures { option_copied result ≡ (facts_of facts.now).columns name.now table }
 {
-    match facts
-        .told
-        .as_slice()
-        .iter()
-        .find(|t| is_same_name(t.module.as_bytes(), name.as_bytes()) && t.table == table)
+    match facts.told.as_slice().iter().find(|t| is_same_name(t.module.as_bytes(), name.as_bytes())
+        && t.table == table)
     {
         Some(t) => Some(&t.columns),
         None => None,

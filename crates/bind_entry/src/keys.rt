@@ -34,9 +34,7 @@ fn collation_at(columns: &[BoundColumn], place: usize) -> Collation
 pub fn place_of_column(columns: &[BoundColumn], name: &str) -> Option<usize>
     ensures { result ≡ place_of_column columns.now name.now }
 {
-    columns
-        .iter()
-        .position(|column| is_same_name(column.name.as_bytes(), name.as_bytes()))
+    columns.iter().position(|column| is_same_name(column.name.as_bytes(), name.as_bytes()))
 }
 
 // ---- parts of an index

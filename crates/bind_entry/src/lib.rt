@@ -12,8 +12,8 @@ mod rowids;
 mod tables;
 
 pub use columns::{
-    check_in, declared_column, declared_columns, default_of, is_not_null, or_bytes,
-    table_check_in, type_affinity,
+    check_in, declared_column, declared_columns, default_of, is_not_null, or_bytes, table_check_in,
+    type_affinity,
 };
 pub use entries::{
     definition_of, index_of, is_index_of, table_named, table_of, trigger_of, view_of,

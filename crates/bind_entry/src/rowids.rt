@@ -35,11 +35,7 @@ fn is_integer_word(alloc: Global, text: &str, words: &[Token]) -> Result<bool, C
 }
 
 /// Whether the type is INTEGER and nothing else.
-fn is_integer_type(
-    alloc: Global,
-    text: &str,
-    type_name: &Option<TypeName>,
-) -> Result<bool, Cause>
+fn is_integer_type(alloc: Global, text: &str, type_name: &Option<TypeName>) -> Result<bool, Cause>
     ensures ok { IfOk result (λ is. is ≡ is_integer_type text.now type_name.now) }
     ensures mem { OnlyMem result }
 {
@@ -181,11 +177,7 @@ fn rowid_of_constraints(
     Ok(None)
 }
 
-fn rowid_place(
-    alloc: Global,
-    text: &str,
-    table: &TableDefinition,
-) -> Result<Option<usize>, Cause>
+fn rowid_place(alloc: Global, text: &str, table: &TableDefinition) -> Result<Option<usize>, Cause>
     ensures ok { IfOk result (λ place. place ≡ rowid_of text.now table.now) }
     ensures mem { OnlyMem result }
 {

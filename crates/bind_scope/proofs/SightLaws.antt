@@ -127,8 +127,8 @@ pub nearest_column-answers : (name : List ℕ) (F : ScopeItem → List ScopeColu
     → Answers (sight_of name up c others) r → Answers whole r
 nearest_column-answers name F levels i level c whole r up others within is so_far found at more h =
     answers_by whole (sight_of name up c others) r
-        (nearest_column-found name F levels i level c whole within is so_far found
-         ∙ ap (λ k. sight_of name k c (another false (flat_map F level))) (sym at) ∙ ap (sight_of name up c) (sym more))
-        h
+    (nearest_column-found name F levels i level c whole within is so_far found
+    ∙ ap (λ k. sight_of name k c (another false (flat_map F level))) (sym at) ∙ ap (sight_of name up c) (sym more))
+    h
 
 pub ruleset sight_steps = (candidates-is, first-behind, first-there, another-behind, another-there, nearest-sighted)

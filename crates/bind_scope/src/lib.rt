@@ -12,8 +12,8 @@ mod sights;
 mod units;
 
 pub use copies::{
-    copied_column, copied_entry, copied_item, copied_level, copied_need, copied_needs,
-    copied_result_column, copied_result_columns, copied_entries, copied_text, text_of,
+    copied_column, copied_entries, copied_entry, copied_item, copied_level, copied_need,
+    copied_needs, copied_result_column, copied_result_columns, copied_text, text_of,
 };
 pub use names::{further_out, name_shown, nearest_bare, nearest_called, no_column, own_bare};
 pub use needs::{brought, further, handed, needed, seen};

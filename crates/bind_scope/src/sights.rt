@@ -103,7 +103,11 @@ fn first_in<'a>(table: Option<&str>, name: &str, item: &'a ScopeItem) -> Option<
 
 /// The first column of a FROM that may be meant.
 #[tactic(auto, using(crate::proofs::SightLaws::sight_steps))]
-pub(crate) fn first_of<'a>(table: Option<&str>, name: &str, level: &'a [ScopeItem]) -> Option<&'a ScopeColumn>
+pub(crate) fn first_of<'a>(
+    table: Option<&str>,
+    name: &str,
+    level: &'a [ScopeItem],
+) -> Option<&'a ScopeColumn>
     ensures { option_copied result ≡ first (flat_map (candidates (option_copied table.entry) name.now) level.now) }
 {
     for item in level {

@@ -17,9 +17,7 @@ use bind_entry::{copied, host_module, or_bytes, put, told_columns};
 use bound_tree::{BoundColumn, BoundExpr, BoundSource};
 use eng_entry::Entry;
 use eng_text::{find, fold};
-use eng_value::{
-    Affinity, Cause, ColumnKind, LimitKind, MAX_COLUMNS, ModColumn, NameKind, Text,
-};
+use eng_value::{Affinity, Cause, ColumnKind, LimitKind, MAX_COLUMNS, ModColumn, NameKind, Text};
 use sql_bound::{HostFacts, Sourced};
 use sqlite_items::Items;
 use std::alloc::Global;

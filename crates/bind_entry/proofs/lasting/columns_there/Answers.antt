@@ -14,7 +14,7 @@ loop-column-preserved c =
     let x = c.column-item.result in
     c.loop-column.invariant
     ∙ step-passed of_column facts text c.args.columns.now c.loop-column.column-index x c.loop-column-test.true
-        (ap (λ (d : ColumnDefinition). all_there facts text (of_column d)) (sym c.column-item.is) ∙ c.in_ok-column_there.ensures)
+    (ap (λ (d : ColumnDefinition). all_there facts text (of_column d)) (sym c.column-item.is) ∙ c.in_ok-column_there.ensures)
 
 pub returns-in_err-column_there : goal.returns-in_err-column_there
 returns-in_err-column_there c =
@@ -23,7 +23,7 @@ returns-in_err-column_there c =
     let x = c.column-item.result in
     let why = c.in_err-column_there.field-0.0 in
     let refused : all_there facts text (of_column x) ≡ Err why → all_there facts text (flat_map of_column c.args.columns.now) ≡ Err why = λ h.
-        c.loop-column.invariant
-        ∙ step-refused of_column facts text c.args.columns.now c.loop-column.column-index x why c.loop-column-test.true
-            (ap (λ (d : ColumnDefinition). all_there facts text (of_column d)) (sym c.column-item.is) ∙ h) in
+    c.loop-column.invariant
+    ∙ step-refused of_column facts text c.args.columns.now c.loop-column.column-index x why c.loop-column-test.true
+    (ap (λ (d : ColumnDefinition). all_there facts text (of_column d)) (sym c.column-item.is) ∙ h) in
     grind (arith, common_steps, refused)

@@ -14,7 +14,7 @@ loop-constraint-preserved c =
     let x = c.constraint-item.result in
     c.loop-constraint.invariant
     ∙ step-passed of_key facts text c.args.constraints.now c.loop-constraint.constraint-index x c.loop-constraint-test.true
-        (ap (λ (d : TableConstraint). all_there facts text (of_key d)) (sym c.constraint-item.is) ∙ c.in_ok-key_there.ensures)
+    (ap (λ (d : TableConstraint). all_there facts text (of_key d)) (sym c.constraint-item.is) ∙ c.in_ok-key_there.ensures)
 
 pub returns-in_err-key_there : goal.returns-in_err-key_there
 returns-in_err-key_there c =
@@ -23,7 +23,7 @@ returns-in_err-key_there c =
     let x = c.constraint-item.result in
     let why = c.in_err-key_there.field-0.0 in
     let refused : all_there facts text (of_key x) ≡ Err why → all_there facts text (flat_map of_key c.args.constraints.now) ≡ Err why = λ h.
-        c.loop-constraint.invariant
-        ∙ step-refused of_key facts text c.args.constraints.now c.loop-constraint.constraint-index x why c.loop-constraint-test.true
-            (ap (λ (d : TableConstraint). all_there facts text (of_key d)) (sym c.constraint-item.is) ∙ h) in
+    c.loop-constraint.invariant
+    ∙ step-refused of_key facts text c.args.constraints.now c.loop-constraint.constraint-index x why c.loop-constraint-test.true
+    (ap (λ (d : TableConstraint). all_there facts text (of_key d)) (sym c.constraint-item.is) ∙ h) in
     grind (arith, common_steps, refused)

@@ -18,5 +18,5 @@ returns-in_err-option_there c =
     let text = c.args.text.now in
     let why = c.in_err-option_there.field-0.0 in
     let refused : (d : IndexedColumn) → all_there facts text (option_to_list (get_or c.args.parts.now c.loop-part.part-index d).collation) ≡ Err why → all_there facts text (of_parts c.args.parts.now) ≡ Err why = λ d h.
-        c.loop-part.invariant ∙ step-refused (λ (p : IndexedColumn). option_to_list p.collation) facts text c.args.parts.now c.loop-part.part-index d why c.loop-part-test.true h in
+    c.loop-part.invariant ∙ step-refused (λ (p : IndexedColumn). option_to_list p.collation) facts text c.args.parts.now c.loop-part.part-index d why c.loop-part-test.true h in
     grind (arith, common_steps, refused)

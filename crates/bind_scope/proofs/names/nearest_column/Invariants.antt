@@ -9,4 +9,4 @@ abbrev pub invariant-loop-level : goal.invariant-loop-level
 invariant-loop-level l =
     (l.up ≡ l.level-index)
     × (nearest l.name (candidates (option_copied l.table) l.name) l.levels
-       ≡ nearest_from l.level-index l.name (λ level. counted_once (flat_map (candidates (option_copied l.table) l.name) level)) (drop l.level-index l.levels))
+    ≡ nearest_from l.level-index l.name (λ level. counted_once (flat_map (candidates (option_copied l.table) l.name) level)) (drop l.level-index l.levels))
