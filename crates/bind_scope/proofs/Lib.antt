@@ -1,2 +1,3 @@
+pub mod EntryLaws
 pub mod NeedLaws
 pub mod SightLaws
