@@ -257,6 +257,9 @@ number_piece_fits b bytes (d ∷ ds) h le =
     (λ e. number_fits (2 + length (d ∷ ds)) (b ∷ bytes) (omega arith) (omega arith))
     (λ e. fits_stopped (b ∷ bytes) (2 + word_width (drop 2 (b ∷ bytes))) (omega arith) (stops_behind 2 (b ∷ bytes) (word_width (drop 2 (b ∷ bytes))) two (run_stops is_word_byte word_low (drop 2 (b ∷ bytes)))))
 
+pub number_some : (b : ℕ) (bytes : List ℕ) → is_ascii_digit b ≡ true → 1 ≤ width_of (number_by_digits (hex_digits (b ∷ bytes)) (b ∷ bytes))
+number_some b bytes h = (number_piece_fits b bytes (hex_digits (b ∷ bytes)) h (hex_within (b ∷ bytes))).some
+
 -- ---- parameters and signs
 
 parameter_fits : (b : ℕ) (bytes ds : List ℕ) → b < 128 → ds ≡ take_while is_ascii_digit bytes → FitsPiece (b ∷ bytes) (parameter_piece ds)

@@ -10,6 +10,7 @@ use Rattle.sql_tree.specs.declared.token.TokenKind.TheVariants as kind
 use Rattle.sql_lex.specs.Cutting.{creates_trigger, end_among, end_in, first_place, kinds_of, start_of}
 use Rattle.sql_lex.specs.Reading.{after, ends, ends_at_semicolon}
 use Rattle.sql_lex.specs.declared.reading.Reading.{Reading}
+use Rattle.sql_lex.specs.Plain.{end_from}
 use Rattle.sql_lex.specs.declared.reading.Reading.TheVariants as reading
 
 abbrev pub semicolon : List TokenKind
@@ -228,11 +229,6 @@ scan_is kinds = by (creates_trigger kinds) refl
     by : (t : Bool) → creates_trigger kinds ≡ t → scan 0 reading.Start kinds ≡ first_place (λ place. cond t (begins (drop (place - 2) kinds) trigger_end) (begins (drop place kinds) semicolon)) 0 (length kinds)
     by true e = heading_scan kinds e
     by false e = plain_scan kinds kinds 0 reading.Start refl e
-
--- the byte where the token that ends the statement starts
-abbrev pub end_from : Reading → List Token → Option ℕ
-end_from read [] = None
-end_from read (t ∷ tokens) = if ends read t.kind then Some t.span.start else end_from (after read t.kind) tokens
 
 start_at : (all tokens : List Token) (place : ℕ) (t : Token) → drop place all ≡ t ∷ tokens → start_of all place ≡ t.span.start
 start_at [] tokens place t at = absurd (none place at)

@@ -17,7 +17,8 @@ use Rattle.sql_lex.specs.Reading.{behind_piece, is_end}
 use Rattle.sql_lex.specs.Tokens.{width_of}
 use Rattle.sql_lex.proofs.Appending.{GoesOn, comment_stays, piece_stays, run_stays}
 use Rattle.sql_lex.proofs.Cuts.{piece_fits}
-use Rattle.sql_lex.proofs.Readings.{byte_at, end_at, end_at_more, end_at_start, end_byte}
+use Rattle.sql_lex.specs.Plain.{end_at}
+use Rattle.sql_lex.proofs.Readings.{byte_at, end_at_more, end_at_start, end_byte}
 
 pub none_some : {X : Type 0} (e : ℕ) → None ≡ Some e → X
 none_some e h = absurd (cc)

@@ -11,8 +11,8 @@ mod Numbering
 mod Readings
 mod Semicolons
 mod Signing
+mod Skipping
 mod Taking
 mod Widths
-mod WordPieces
 pub mod FirstTokens
 pub mod TokenCuts

@@ -13,7 +13,8 @@ use Rattle.sql_lex.specs.Pieces.{piece, is_parameter}
 use Rattle.sql_lex.specs.Reading.{after, behind_piece, ends_at_semicolon, is_end}
 use Rattle.sql_lex.specs.Tokens.{in_front, largest_in, lexed, number_behind, plain, token_in, tokens_of, width_of}
 use Rattle.sql_lex.proofs.Cuts.{piece_fits}
-use Rattle.sql_lex.proofs.Endings.{end_from, end_is}
+use Rattle.sql_lex.specs.Plain.{end_at, end_from}
+use Rattle.sql_lex.proofs.Endings.{end_is}
 use Rattle.sql_lex.proofs.Following.{lexed_more}
 use Rattle.sql_lex.proofs.Semicolons.{is_semicolon, semicolon_begins}
 
@@ -55,10 +56,6 @@ same_end (suc most) from largest other (b ∷ bytes) read le =
     piece_more read from largest b bytes p refl fits.some
     ∙ ap (λ o. cond (is_end read p) (Some from) o) (same_end most (from + width_of p) (largest_in largest p) (largest_in other p) (drop (width_of p) (b ∷ bytes)) (behind_piece read p) less)
     ∙ sym (piece_more read from other b bytes p refl fits.some)
-
--- the end of the statement whose rest is this, from a place on
-abbrev pub end_at : Reading → ℕ → List ℕ → Option ℕ
-end_at read from bytes = end_from read (lexed from 0 0 bytes)
 
 pub end_at_start : (text : List ℕ) → end_at reading.Start 0 text ≡ statement_end text
 unfolding statement_end tokens_of

@@ -3,6 +3,7 @@ pub mod Cutting
 pub mod Gaps
 pub mod Pieces
 pub mod Places
+pub mod Plain
 pub mod Reading
 pub mod Signs
 pub mod Tokens

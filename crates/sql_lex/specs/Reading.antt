@@ -1,5 +1,5 @@
 -- How far a statement has been read, as far as that says where it ends.
-use Rattle.std.specs.Prelude.{◌≡◌, Bool, true, false, ◌&&◌, if◌then◌else◌}
+use Rattle.std.specs.Prelude.{Bool, true, false, ◌&&◌, if◌then◌else◌}
 use Rattle.sql_tree.specs.Kinds.{same_kind}
 use Rattle.sql_tree.specs.declared.token.TokenKind.{TokenKind}
 use Rattle.sql_tree.specs.declared.token.TokenKind.TheVariants as kind
@@ -7,7 +7,6 @@ use Rattle.sql_lex.specs.declared.piece.Piece.{Piece}
 use Rattle.sql_lex.specs.declared.piece.Piece.TheVariants.{Blank, Lexeme, Parameter}
 use Rattle.sql_lex.specs.declared.reading.Reading.{Reading}
 use Rattle.sql_lex.specs.declared.reading.Reading.TheVariants as reading
-use Rattle.sql_lex.specs.Tokens.{width_of}
 
 -- a `;` here ends the statement
 abbrev pub ends_at_semicolon : Reading → Bool
@@ -40,7 +39,3 @@ abbrev pub behind_piece : Reading → Piece → Reading
 behind_piece read (Blank width) = read
 behind_piece read (Lexeme k width) = after read k
 behind_piece read (Parameter number width) = after read kind.Parameter
-
--- the pieces take as many bytes, and tell alike where the statement ends
-abbrev pub EndsAlike : Reading → Piece → Piece → Type 0
-EndsAlike read p q = (width_of p ≡ width_of q) × (is_end read p ≡ is_end read q) × (behind_piece read p ≡ behind_piece read q)

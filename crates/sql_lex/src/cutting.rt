@@ -1,33 +1,53 @@
 // Where a statement ends in a text, and white space and comments in front of it.
 ghost use Rattle.std.specs.Prelude.{◌≡◌, ◌+◌, ◌<◌, ◌≤◌, ◌∷◌, length, slice_index, IfSome};
+ghost use Rattle.std.specs.List.{take_while};
 ghost use Rattle.std.specs.Str.{IsCharBoundary};
 ghost use Rattle.sql_lex.specs.Cutting.{blank_of, blank_width, statement_end};
 ghost use Rattle.sql_lex.specs.Pieces.{piece};
-ghost use Rattle.sql_lex.specs.Reading.{EndsAlike};
-ghost use Rattle.sql_lex.specs.Tokens.{width_of};
+ghost use Rattle.sql_lex.specs.Plain.{is_plain, plain_end};
 
 use crate::front::{behind, first_byte};
 use crate::numbers::is_x;
 use crate::piece::{Piece, front_piece};
 use crate::placing::width_of;
 use crate::reading::{Reading, behind_piece, is_end};
-use crate::words::{begins_word, word_width};
-use sql_tree::TokenKind;
+use crate::words::begins_word;
 
-// What a text goes on with, as far as that tells where the statement ends. Behind the first words of one that creates no trigger no
-// word does, so none is looked for among the keywords.
-fn piece_behind(reading: Reading, text: &[u8], first: u8, rest: &[u8]) -> Piece
-    requires { text.now ≡ first ∷ rest.now }
-    ensures alike { EndsAlike reading result (piece first rest.now) }
-    ensures some { 1 ≤ width_of result }
-    ensures within { width_of result ≤ length text.now }
+// Whether a byte begins no quotes, no comment and no end of a statement, wherever it stands outside of quotes and comments.
+fn is_plain(byte: u8) -> bool
+    ensures { result ≡ is_plain byte }
 {
-    match reading {
-        Reading::Other if begins_word(first) && !is_x(first) => {
-            Piece::Lexeme(TokenKind::Word, word_width(text))
+    !matches!(byte, b'\'' | b'"' | b'`' | b'[' | b'-' | b'/' | b';')
+}
+
+// How many such bytes the text begins with.
+fn plain_width(bytes: &[u8]) -> usize
+    ensures value { result ≡ length (take_while is_plain bytes.now) }
+    ensures within { result ≤ length bytes.now }
+{
+    bytes.iter().take_while(|byte| is_plain(**byte)).count()
+}
+
+// The byte of the `;` that ends a statement which creates no trigger, where this is left of it from a place on: any `;` does that
+// stands in no text, no quoted name and no comment. Words and numbers are passed over byte by byte.
+fn plain_end(text: &[u8], from: usize) -> Option<usize>
+    requires { from + length text.now ≤ usize.MAX }
+    ensures { result ≡ plain_end from text.now }
+{
+    let width = plain_width(text);
+    let mut rest = behind(text, width);
+    let mut start = from + width;
+    while let Some((first, more)) = first_byte(rest) {
+        if first == b';' {
+            return Some(start);
         }
-        _ => front_piece(text, first, rest),
+        let width = width_of(front_piece(rest, first, more));
+        let next = behind(rest, width);
+        let plain = plain_width(next);
+        start += width + plain;
+        rest = behind(next, plain);
     }
+    None
 }
 
 /// The byte of the first `;` that ends the statement with which a text begins, none where the statement goes on behind the text
@@ -47,7 +67,10 @@ pub fn statement_end(text: &str) -> Option<usize>
     let mut start: usize = 0;
     let mut reading = Reading::Start;
     while let Some((first, more)) = first_byte(rest) {
-        let piece = piece_behind(reading, rest, first, more);
+        if let Reading::Other = reading {
+            return plain_end(rest, start);
+        }
+        let piece = front_piece(rest, first, more);
         if is_end(reading, piece) {
             return Some(start);
         }

@@ -1,6 +1,6 @@
 use Rattle.std.proofs.Common.{◌≡◌, ◌+◌, length, drop}
 use Rattle.sql_lex.specs.Cutting.{statement_end}
-use Rattle.sql_lex.proofs.Readings.{end_at}
+use Rattle.sql_lex.specs.Plain.{end_at}
 use Rattle.sql_lex.proofs.cutting.statement_end.Given as goal
 
 abbrev pub invariant-loop-first : goal.invariant-loop-first
