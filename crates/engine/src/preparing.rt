@@ -123,6 +123,7 @@ fn as_bound(bound: Bound) -> Ready
 }
 
 /// A CREATE TABLE with its entry.
+#[inline(never)]
 fn created(
     alloc: Global,
     new: NewTable,

@@ -198,6 +198,7 @@ pub fn sees_row_command(tokens: &Cursor<'_>) -> bool
 }
 
 /// A command that is a query. Each kind of command has a function of its own, so that no command pays for the locals of another.
+#[inline(never)]
 fn of_query(alloc: Global, tokens: &mut Cursor<'_>, depth: usize) -> Result<RowCommand, ParseError>
     ensures { Gives (reads Name rules depth (to rows_by.Query queries.query) tokens.old.counts tokens.old.rest.now) result tokens.new.counts tokens.new.rest.now }
 {
@@ -218,6 +219,7 @@ fn of_insert(alloc: Global, tokens: &mut Cursor<'_>, depth: usize) -> Result<Row
 }
 
 /// One that is an UPDATE.
+#[inline(never)]
 fn of_update(alloc: Global, tokens: &mut Cursor<'_>, depth: usize) -> Result<RowCommand, ParseError>
     ensures { Gives (reads Name rules depth (to rows_by.Update spec.update) tokens.old.counts tokens.old.rest.now) result tokens.new.counts tokens.new.rest.now }
 {
@@ -228,6 +230,7 @@ fn of_update(alloc: Global, tokens: &mut Cursor<'_>, depth: usize) -> Result<Row
 }
 
 /// One that is a DELETE.
+#[inline(never)]
 fn of_delete(alloc: Global, tokens: &mut Cursor<'_>, depth: usize) -> Result<RowCommand, ParseError>
     ensures { Gives (reads Name rules depth (to rows_by.Delete spec.delete) tokens.old.counts tokens.old.rest.now) result tokens.new.counts tokens.new.rest.now }
 {

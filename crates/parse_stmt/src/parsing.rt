@@ -46,6 +46,7 @@ fn of_rows(alloc: Global, tokens: &mut Cursor<'_>, depth: usize) -> Result<Comma
 }
 
 /// One that creates.
+#[inline(never)]
 fn of_create(alloc: Global, tokens: &mut Cursor<'_>, depth: usize) -> Result<Command, ParseError>
     ensures { Gives (reads Name rules depth (to command_is.Create create) tokens.old.counts tokens.old.rest.now) result tokens.new.counts tokens.new.rest.now }
 {
@@ -56,6 +57,7 @@ fn of_create(alloc: Global, tokens: &mut Cursor<'_>, depth: usize) -> Result<Com
 }
 
 /// One that drops.
+#[inline(never)]
 fn of_remove(tokens: &mut Cursor<'_>) -> Result<Command, ParseError>
     ensures { (d : ℕ) → Gives (reads Name rules d (to command_is.Remove spec.remove) tokens.old.counts tokens.old.rest.now) result tokens.new.counts tokens.new.rest.now }
 {
@@ -66,6 +68,7 @@ fn of_remove(tokens: &mut Cursor<'_>) -> Result<Command, ParseError>
 }
 
 /// One of a transaction.
+#[inline(never)]
 fn of_transaction(tokens: &mut Cursor<'_>) -> Result<Command, ParseError>
     ensures { (d : ℕ) → Gives (reads Name rules d (to command_is.Transaction spec.transaction) tokens.old.counts tokens.old.rest.now) result tokens.new.counts tokens.new.rest.now }
 {
@@ -76,6 +79,7 @@ fn of_transaction(tokens: &mut Cursor<'_>) -> Result<Command, ParseError>
 }
 
 /// A PRAGMA.
+#[inline(never)]
 fn of_pragma(tokens: &mut Cursor<'_>, depth: usize) -> Result<Command, ParseError>
     ensures { Gives (reads Name rules depth (to command_is.Pragma spec.pragma) tokens.old.counts tokens.old.rest.now) result tokens.new.counts tokens.new.rest.now }
 {
