@@ -1,4 +1,3 @@
 pub mod ArgumentCounts
-pub mod JoinLaws
 pub mod SourceLaws
 pub mod Words

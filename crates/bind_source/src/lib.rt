@@ -1,14 +1,11 @@
-//! The items of a FROM, as far as no expression and no query has to be bound: where their rows come from, how names see them, and what
-//! USING and NATURAL join.
+//! The items of a FROM, as far as no expression and no query has to be bound: where their rows come from.
 #![tactic(auto)]
 
 mod items;
-mod joins;
 mod modules;
 mod sources;
 
 pub use items::{has_room, kind_of_join, plain_item, with_item};
-pub use joins::{Counts, common_names, equality_of, one_of, with_joined};
 pub use modules::{
     arguments_fit, columns_told, module_column, module_source, module_there, without_arguments,
 };

@@ -1,0 +1,3 @@
+pub mod ConstraintLaws
+pub mod JoinLaws
+pub mod ScopedLaws

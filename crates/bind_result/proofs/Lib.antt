@@ -1,0 +1,4 @@
+pub mod GroupLaws
+pub mod NumberLaws
+pub mod RowLaws
+pub mod TermLaws

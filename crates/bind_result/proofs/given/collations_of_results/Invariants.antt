@@ -1,0 +1,6 @@
+use Rattle.std.proofs.Common.{◌≡◌, take, map}
+use Rattle.sql_bound.specs.Operands.{collation_of_result}
+use Rattle.bind_result.proofs.given.collations_of_results.Given as goal
+
+abbrev pub invariant-loop-column : goal.invariant-loop-column
+invariant-loop-column l = l.all ≡ map collation_of_result (take l.column-index l.columns)

@@ -1,0 +1,5 @@
+pub mod Shows
+pub mod Terms
+pub mod Numbers
+pub mod Rows
+pub mod Units

@@ -1,0 +1,4 @@
+pub mod AnswerLaws
+pub mod EntryLaws
+pub mod LastLaws
+pub mod NamingLaws
