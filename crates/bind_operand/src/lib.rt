@@ -20,5 +20,6 @@ pub use cases::case_of;
 pub use collations::{collation_of, collation_of_arguments, collation_of_result, sides_of};
 pub use conditions::conjuncts;
 pub use leaves::{collated, column_operand, literal_operand, own_column, plain};
+pub use lists::trees_of;
 pub use members::{in_of, in_query_of};
 pub use operators::{between_of, binary_of, cast_of, compared, like_of, unary_of};

@@ -1,29 +1,17 @@
 // Lists of operands and arms.
-ghost use Rattle.std.specs.Prelude.{◌≡◌, map, reverse, IfOk};
+ghost use Rattle.std.specs.Prelude.{◌≡◌, map, IfOk};
 ghost use Rattle.sql_bound.specs.Answers.{OnlyMem};
 ghost use Rattle.sql_bound.specs.Operands.{chosen_arm, matched_arm, trees_of};
 
 use crate::collations::sides_of;
-use bound_tree::{BoundArm, BoundExpr, BoundMatch};
+use bound_tree::{BoundArm, BoundExpr, BoundMatch, reversed};
 use eng_value::Cause;
 use sql_bound::{ArmOperands, Operand};
 use sqlite_items::Items;
 use std::alloc::Global;
 
-/// The last one first.
-fn reversed<T: Drop>(alloc: Global, mut items: Items<T>) -> Result<Items<T>, Cause>
-    ensures ok { IfOk result (λ made. made ≡ reverse items) }
-    ensures mem { OnlyMem result }
-{
-    let mut made = Items::new(alloc);
-    while let Some(item) = items.pop() {
-        made.push(item)?;
-    }
-    Ok(made)
-}
-
 /// The trees of operands.
-pub(crate) fn trees_of(alloc: Global, operands: Items<Operand>) -> Result<Items<BoundExpr>, Cause>
+pub fn trees_of(alloc: Global, operands: Items<Operand>) -> Result<Items<BoundExpr>, Cause>
     ensures ok { IfOk result (λ trees. trees ≡ trees_of operands) }
     ensures mem { OnlyMem result }
 {

@@ -2,7 +2,7 @@
 ghost use Rattle.std.specs.Prelude.{◌≡◌, map, IfOk};
 ghost use Rattle.sql_bound.specs.Answers.{Becomes, OnlyMem};
 ghost use Rattle.sql_bound.specs.Compounds.{gathered_alone, select_given};
-ghost use Rattle.sql_bound.specs.Cores.{key_of};
+ghost use Rattle.sql_bound.specs.Cores.{core_of, key_of, without_aggregates};
 ghost use Rattle.sql_bound.specs.Operands.{collation_of_result};
 ghost use Rattle.bind_result.specs.Units.{groups_of};
 
@@ -62,9 +62,13 @@ fn collations_of_results(alloc: Global, columns: &[ResultColumn]) -> Result<Item
     Ok(all)
 }
 
-/// A SELECT with its aggregates, of which the next one sees none. Only memory can fail.
-pub fn select_given(alloc: Global, select: BoundSelect, work: &mut Work) -> Result<Given, Cause>
-    ensures { Becomes (select_given select work.old) result work.new }
+/// A SELECT with its aggregates, of which the next one sees none, and the columns that it gives. Only memory can fail.
+pub fn core_given(
+    alloc: Global,
+    select: BoundSelect,
+    work: &mut Work,
+) -> Result<(BoundCore, Items<ResultColumn>), Cause>
+    ensures { Becomes ((core_of select work.old, select.shown.columns), without_aggregates work.old) result work.new }
 {
     let BoundSelect {
         found,
@@ -81,18 +85,26 @@ pub fn select_given(alloc: Global, select: BoundSelect, work: &mut Work) -> Resu
         has_queue: _,
     } = found;
     let Shown { trees, columns } = shown;
-    let aggregates = mem::replace(&mut work.aggregates, Items::new(alloc));
     let collations = collations_of_results(alloc, columns.as_slice())?;
-    let groups = groups_of(grouped, keys, aggregates, having);
+    let aggregates = mem::replace(&mut work.aggregates, Items::new(alloc));
+    let core = BoundCore {
+        items,
+        conjuncts,
+        groups: groups_of(grouped, keys, aggregates, having),
+        results: trees,
+        collations,
+        distinct,
+    };
+    Ok((core, columns))
+}
+
+/// A SELECT as a part of a query. Only memory can fail.
+pub fn select_given(alloc: Global, select: BoundSelect, work: &mut Work) -> Result<Given, Cause>
+    ensures { Becomes (select_given select work.old) result work.new }
+{
+    let (core, columns) = core_given(alloc, select, work)?;
     Ok(Given {
-        part: BoundPart::Select(BoundCore {
-            items,
-            conjuncts,
-            groups,
-            results: trees,
-            collations,
-            distinct,
-        }),
+        part: BoundPart::Select(core),
         columns,
     })
 }

@@ -7,7 +7,6 @@
 mod compounds;
 mod given;
 mod grouping;
-mod lists;
 mod naming;
 mod numbering;
 mod orders;
@@ -17,7 +16,7 @@ mod terms;
 mod units;
 
 pub use compounds::{compound_with, terms_of_compound};
-pub use given::{gathered_alone, key_of, select_given};
+pub use given::{core_given, gathered_alone, key_of, select_given};
 pub use grouping::{is_grouped, orders_by_aggregate};
 pub use naming::{show, text_of, unknown_text};
 pub use numbering::{ShownAt, place_given, shown_at};

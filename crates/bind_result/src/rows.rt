@@ -1,14 +1,14 @@
 // Rows of VALUES (SELECT, section 3).
-ghost use Rattle.std.specs.Prelude.{◌≡◌, map, reverse, IfOk};
+ghost use Rattle.std.specs.Prelude.{◌≡◌, map, IfOk};
 ghost use Rattle.sql_bound.specs.Answers.{Answers, OnlyMem};
 ghost use Rattle.sql_bound.specs.Compounds.{trees_in, values_given};
 ghost use Rattle.bind_result.specs.Rows.{columns_of_rows, row_fits, row_put};
 ghost use Rattle.bind_result.specs.Shows.{Changes};
 
-use crate::lists::{reversed, trees_of};
 use bind_column::{values_columns, width_fits};
+use bind_operand::trees_of;
 use bind_scope::pushed;
-use bound_tree::{BoundExpr, BoundPart};
+use bound_tree::{BoundExpr, BoundPart, reversed};
 use eng_value::Cause;
 use sql_bound::{Given, Operand, ResultColumn};
 use sqlite_items::Items;

@@ -1,15 +1,14 @@
 // Results that stars show (SELECT, section 2.4).
-ghost use Rattle.std.specs.Prelude.{◌≡◌, reverse, IfOk};
+ghost use Rattle.std.specs.Prelude.{◌≡◌, IfOk};
 ghost use Rattle.sql_meaning.specs.Spelled.{name_at};
 ghost use Rattle.bind_column.specs.Stars.{all_of, those_of};
 ghost use Rattle.bind_result.specs.Shows.{Changes, column_put, columns_put, star_put};
 
-use crate::lists::reversed;
 use crate::naming::put;
 use bind_column::{all_shown, column_operand, grouped_checked, room_behind, shown_of};
 use bind_name::name;
 use bind_scope::copied_text;
-use bound_tree::BoundKey;
+use bound_tree::{BoundKey, reversed};
 use eng_value::Cause;
 use sql_bound::{ScopeColumn, ScopeItem, Shown};
 use sql_tree::Token;

@@ -20,7 +20,7 @@ pub use changes::insertion;
 pub use firing::can_fire;
 pub use places::{found_place, places_named};
 pub use rows::event_of;
-pub use sources::{module_rows, names_of, shown_name, view_source};
+pub use sources::{module_rows, shown_name};
 pub use targets::{not_nulls_of, plain_target};
 pub use triggers::{
     added_if, captures_of, place_of_trigger, replaces_with, trigger_with, unknown_trigger,

@@ -3,38 +3,13 @@ ghost use Rattle.std.specs.Prelude.{◌≡◌, IfOk};
 ghost use Rattle.sql_bound.specs.Answers.{OnlyMem};
 ghost use Rattle.sql_bound.specs.Triggers.{event_of, row_item};
 
-use bind_entry::{copied, put};
 use bind_scope::text_of;
-use bound_tree::{BoundColumn, BoundItem, BoundSource, FiringEvent, JoinKind};
+use bound_tree::{BoundItem, BoundSource, FiringEvent, JoinKind, copied_columns};
 use eng_value::Cause;
 use sql_bound::Sourced;
 use sql_tree::TriggerEvent;
 use sqlite_items::Items;
 use std::alloc::Global;
-
-fn copied_column(column: &BoundColumn) -> Result<BoundColumn, Cause>
-    ensures ok { IfOk result (λ copy. copy ≡ column.now) }
-    ensures mem { OnlyMem result }
-{
-    let name = copied(&column.name)?;
-    Ok(BoundColumn {
-        name,
-        affinity: column.affinity,
-        collation: column.collation,
-    })
-}
-
-fn copied_columns(alloc: Global, columns: &[BoundColumn]) -> Result<Items<BoundColumn>, Cause>
-    ensures ok { IfOk result (λ copies. copies ≡ columns.now) }
-    ensures mem { OnlyMem result }
-{
-    let mut copies = Items::new(alloc);
-    for column in columns {
-        let copy = copied_column(column)?;
-        put(&mut copies, copy)?;
-    }
-    Ok(copies)
-}
 
 /// OLD or NEW as an item.
 pub(crate) fn row_item(alloc: Global, name: &str, s: &Sourced) -> Result<BoundItem, Cause>

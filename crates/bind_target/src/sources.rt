@@ -1,56 +1,16 @@
 // The rows of what is written, as far as no query has to be bound.
-ghost use Rattle.std.specs.Prelude.{◌≡◌, map, IfOk};
-ghost use Rattle.bind_target.specs.Sources.{module_given, view_given};
+ghost use Rattle.std.specs.Prelude.{◌≡◌, IfOk};
+ghost use Rattle.bind_target.specs.Sources.{module_given};
 ghost use Rattle.sql_bound.specs.Answers.{Answers, OnlyMem};
 ghost use Rattle.sql_bound.specs.HostFacts.{facts_of};
 ghost use Rattle.sql_bound.specs.Targets.{shown_name};
-ghost use Rattle.sql_meaning.specs.Spelled.{name_at};
 
-use bind_column::{as_columns, with_names};
-use bind_entry::{name, put};
 use bind_scope::{copied_text, text_of};
-use bind_source::{columns_told, module_source, plain_source};
-use bound_tree::BoundSource;
-use eng_entry::Entry;
+use bind_source::{columns_told, module_source};
 use eng_value::{Cause, Text};
-use sql_bound::{Asked, HostFacts, Sourced};
-use sql_tree::{Token, ViewDefinition};
+use sql_bound::{HostFacts, Sourced};
 use sqlite_items::Items;
 use std::alloc::Global;
-
-/// The names that tokens stand for. Only memory can fail.
-pub fn names_of(alloc: Global, text: &str, tokens: &[Token]) -> Result<Items<Text>, Cause>
-    ensures ok { IfOk result (λ names. names ≡ map (name_at text.now) tokens.now) }
-    ensures mem { OnlyMem result }
-{
-    let mut names = Items::new(alloc);
-    for token in tokens {
-        let one = name(alloc, text, token)?;
-        put(&mut names, one)?;
-    }
-    Ok(names)
-}
-
-/// The rows of a view whose query was bound: the names that are written take the place of its query's, and must be as many.
-pub fn view_source(
-    alloc: Global,
-    entry: &Entry,
-    view: &ViewDefinition,
-    asked: Asked,
-) -> Result<Sourced, Cause>
-    ensures { Answers (view_given entry.now view.now asked) result }
-{
-    let Asked {
-        unit,
-        needs: _,
-        columns,
-    } = asked;
-    let names = names_of(alloc, entry.text.as_str(), view.columns.as_slice())?;
-    let columns = with_names(alloc, entry.name.as_str(), names.as_slice(), columns)?;
-    let columns = as_columns(alloc, columns.as_slice())?;
-    let source = BoundSource::View(copied_text(&entry.name)?, unit);
-    plain_source(alloc, Some(copied_text(&entry.name)?), source, columns)
-}
 
 /// The rows of a table of a module that takes no arguments, under the name that is shown.
 pub fn module_rows(

@@ -1,5 +1,5 @@
 // The triggers that a statement opens, each once, and the writes that fire them.
-ghost use Rattle.std.specs.Prelude.{◌≡◌, ◌++◌, ◌∷◌, [], codes, reverse, slice_set, IfOk, OnOk};
+ghost use Rattle.std.specs.Prelude.{◌≡◌, ◌++◌, ◌∷◌, [], codes, slice_set, IfOk, OnOk};
 ghost use Rattle.bind_source.specs.Arounds.{around_of};
 ghost use Rattle.bind_target.specs.Meant.{begun_meant, bound_target, fired_meant, opened_meant};
 ghost use Rattle.eng_entry.specs.Entries.{Entries};
@@ -15,7 +15,7 @@ use crate::written::{Begun, Fired, Opened, Target};
 use bind_entry::{copied, put};
 use bind_source::plain_item;
 use bound_tree::{
-    BoundExpr, BoundItem, BoundSource, BoundStep, BoundTarget, BoundTrigger, BoundWrite,
+    BoundExpr, BoundItem, BoundSource, BoundStep, BoundTarget, BoundTrigger, BoundWrite, reversed,
 };
 use eng_entry::{Entry, is_same_name};
 use eng_value::{Cause, NameKind};
@@ -139,17 +139,6 @@ fn bound_target(alloc: Global, target: Target) -> BoundTarget
         not_nulls,
         checks,
     }
-}
-
-fn reversed(alloc: Global, mut needs: Items<Need>) -> Result<Items<Need>, Cause>
-    ensures ok { IfOk result (λ made. made ≡ reverse needs) }
-    ensures mem { OnlyMem result }
-{
-    let mut made = Items::new(alloc);
-    while let Some(need) = needs.pop() {
-        put(&mut made, need)?;
-    }
-    Ok(made)
 }
 
 /// What a trigger's row hands over. Only memory can fail.

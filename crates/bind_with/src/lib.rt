@@ -14,5 +14,5 @@ mod tables;
 pub use entries::{few_arguments, no_arguments, plain_table};
 pub use names::{arguments_in, called_by, copied_name, misused, names_of};
 pub use naming::{front_of, is_last_all, recursive_core};
-pub use recursions::{asked_recursion, core_given, named_columns, queue_table, unordered};
+pub use recursions::{asked_recursion, named_columns, queue_table, unordered};
 pub use tables::{derived_source, in_front, table_of_with, view_source};

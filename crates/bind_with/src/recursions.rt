@@ -1,26 +1,20 @@
 // Recursive tables: the row of the queue, and the unit (WITH Clause, section 3).
-ghost use Rattle.std.specs.Prelude.{◌≡◌, length, map, if◌then◌else◌, Some, None, IfOk};
+ghost use Rattle.std.specs.Prelude.{◌≡◌, length, map, IfOk};
 ghost use Rattle.bind_with.specs.Units.{recursion_with};
-ghost use Rattle.sql_bound.specs.Answers.{Answers, Becomes, OnlyMem};
-ghost use Rattle.sql_bound.specs.Cores.{core_of, without_aggregates};
-ghost use Rattle.sql_bound.specs.Operands.{collation_of_result};
+ghost use Rattle.sql_bound.specs.Answers.{Answers, OnlyMem};
 ghost use Rattle.sql_bound.specs.Queries.{asked_as};
 ghost use Rattle.sql_bound.specs.Recursions.{named_columns, unordered};
 ghost use Rattle.sql_bound.specs.Trees.{of_term};
 
 use crate::names::misused;
-use bind_column::{as_columns, collation_of_result, collations_of, with_names};
-use bind_scope::{asked_as, copied_result_columns, pushed, small, text_of};
-use bound_tree::{
-    BoundAggregate, BoundCompound, BoundCore, BoundExpr, BoundGroups, BoundKey, BoundPart,
-    BoundRecursion, BoundUnit,
-};
-use eng_value::{Cause, Collation, Text};
-use sql_bound::{Asked, BoundLimit, BoundSelect, Found, QueueTable, ResultColumn, Shown, Work};
+use bind_column::{as_columns, collations_of, with_names};
+use bind_scope::{asked_as, copied_result_columns, small, text_of};
+use bound_tree::{BoundCompound, BoundCore, BoundPart, BoundRecursion, BoundUnit};
+use eng_value::{Cause, Text};
+use sql_bound::{Asked, BoundLimit, QueueTable, ResultColumn, Work};
 use sql_tree::OrderingTerm;
 use sqlite_items::Items;
 use std::alloc::Global;
-use std::mem;
 
 /// The row of the queue as a table. Only memory can fail.
 pub fn queue_table(alloc: Global, name: &str, columns: &[ResultColumn]) -> Result<QueueTable, Cause>
@@ -69,74 +63,6 @@ pub fn named_columns(
 }
 
 // ---- the unit
-
-/// The groups of a grouped query.
-fn groups_of(
-    grouped: bool,
-    keys: Items<BoundKey>,
-    aggregates: Items<BoundAggregate>,
-    having: Items<BoundExpr>,
-) -> Option<BoundGroups>
-    ensures { result ≡ (if grouped then Some (record { keys = keys; aggregates = aggregates; having = having }) else None) }
-{
-    if grouped {
-        Some(BoundGroups {
-            keys,
-            aggregates,
-            having,
-        })
-    } else {
-        None
-    }
-}
-
-/// By which collations DISTINCT compares results.
-fn collations_of_results(alloc: Global, columns: &[ResultColumn]) -> Result<Items<Collation>, Cause>
-    ensures ok { IfOk result (λ cs. cs ≡ map collation_of_result columns.now) }
-    ensures mem { OnlyMem result }
-{
-    let mut all = Items::new(alloc);
-    for column in columns {
-        pushed(&mut all, collation_of_result(column))?;
-    }
-    Ok(all)
-}
-
-/// A SELECT with its aggregates, of which the next one sees none, and the columns that it gives. Only memory can fail.
-pub fn core_given(
-    alloc: Global,
-    select: BoundSelect,
-    work: &mut Work,
-) -> Result<(BoundCore, Items<ResultColumn>), Cause>
-    ensures { Becomes ((core_of select work.old, select.shown.columns), without_aggregates work.old) result work.new }
-{
-    let BoundSelect {
-        found,
-        conjuncts,
-        grouped,
-        keys,
-        having,
-        shown,
-        distinct,
-    } = select;
-    let Found {
-        level: _,
-        items,
-        has_queue: _,
-    } = found;
-    let Shown { trees, columns } = shown;
-    let collations = collations_of_results(alloc, columns.as_slice())?;
-    let aggregates = mem::replace(&mut work.aggregates, Items::new(alloc));
-    let core = BoundCore {
-        items,
-        conjuncts,
-        groups: groups_of(grouped, keys, aggregates, having),
-        results: trees,
-        collations,
-        distinct,
-    };
-    Ok((core, columns))
-}
 
 /// The unit of a recursive table that was bound: in this view or trigger, behind these WITH tables of its own; what stands in front, and
 /// gives these columns, and the part that names the table, with the columns that it gives. Only memory can fail.

@@ -15,6 +15,7 @@ mod writes;
 pub use arms::{BoundArm, BoundMatch};
 pub use copies::{copied_columns, copied_exprs};
 pub use expr::BoundExpr;
+pub use lists::reversed;
 pub use same::{same_expr, same_tree};
 pub use same_units::{Same, all_same, same_unit};
 pub use statements::{

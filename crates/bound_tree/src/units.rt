@@ -1,4 +1,5 @@
 // Statements whose names are bound: a flat list of units, each of which asks only units in front of it, the triggers, and the command.
+// Drops are written out, since those that are derived would be proved again in each library above.
 use crate::BoundExpr;
 use eng_value::{Affinity, Collation, ColumnKind, Text};
 use sql_tree::CompoundOp;
@@ -7,11 +8,21 @@ use sqlite_items::Items;
 // ---- FROM
 
 /// A column of an item, a view or a query: its name, its affinity, and the collation by which it compares where no other is written.
-#[derive(Drop)]
 pub struct BoundColumn {
     pub name: Text,
     pub affinity: Affinity,
     pub collation: Collation,
+}
+
+impl Drop for BoundColumn {
+    fn drop(self) {
+        let BoundColumn {
+            name,
+            affinity: _,
+            collation: _,
+        } = self;
+        drop(name);
+    }
 }
 
 /// A part of an index: the place of its column.
@@ -23,7 +34,6 @@ pub struct IndexPart {
 }
 
 /// An index of a table: one that was created by its number and name, or a key that the table declares.
-#[derive(Drop)]
 pub struct BoundIndex {
     pub number: u64,
     pub name: Text,
@@ -31,8 +41,20 @@ pub struct BoundIndex {
     pub parts: Items<IndexPart>,
 }
 
+impl Drop for BoundIndex {
+    fn drop(self) {
+        let BoundIndex {
+            number: _,
+            name,
+            unique: _,
+            parts,
+        } = self;
+        drop(name);
+        drop(parts);
+    }
+}
+
 /// Where the rows of an item come from; a number that follows is that of a unit, with what is handed over to it.
-#[derive(Drop)]
 pub enum BoundSource {
     /// No other item: a row that is handed over, as OLD and NEW.
     Given,
@@ -48,6 +70,25 @@ pub enum BoundSource {
     Queue,
 }
 
+impl Drop for BoundSource {
+    fn drop(self) {
+        match self {
+            BoundSource::Given => {}
+            BoundSource::Table(a, _) => drop(a),
+            BoundSource::Module(a, b, _, c) => {
+                drop(a);
+                drop(b);
+                drop(c);
+            }
+            BoundSource::View(a, _) => drop(a),
+            BoundSource::Query(_, a) => drop(a),
+            BoundSource::With(_, a) => drop(a),
+            BoundSource::Recursive(_, a) => drop(a),
+            BoundSource::Queue => {}
+        }
+    }
+}
+
 /// How an item is joined with those on its left.
 #[derive(Clone, Copy, PartialEq, Eq)]
 pub enum JoinKind {
@@ -56,7 +97,6 @@ pub enum JoinKind {
 }
 
 /// An item of a FROM.
-#[derive(Drop)]
 pub struct BoundItem {
     pub join: JoinKind,
     /// The conjuncts of its ON, or those that USING and NATURAL make, which read nothing that is named.
@@ -76,10 +116,33 @@ pub struct BoundItem {
     pub ignored: Items<Option<u32>>,
 }
 
+impl Drop for BoundItem {
+    fn drop(self) {
+        let BoundItem {
+            join: _,
+            ons,
+            ons_made: _,
+            shown,
+            source,
+            columns,
+            kinds,
+            rowid: _,
+            indexes,
+            ignored,
+        } = self;
+        drop(ons);
+        drop(shown);
+        drop(source);
+        drop(columns);
+        drop(kinds);
+        drop(indexes);
+        drop(ignored);
+    }
+}
+
 // ---- groups
 
 /// What an aggregate comes to.
-#[derive(Drop)]
 pub enum AggregateKind {
     CountRows,
     Count,
@@ -90,7 +153,20 @@ pub enum AggregateKind {
     HostAggregate(Text),
 }
 
-#[derive(Drop)]
+impl Drop for AggregateKind {
+    fn drop(self) {
+        match self {
+            AggregateKind::CountRows => {}
+            AggregateKind::Count => {}
+            AggregateKind::Sum => {}
+            AggregateKind::Min => {}
+            AggregateKind::Max => {}
+            AggregateKind::GroupConcat => {}
+            AggregateKind::HostAggregate(a) => drop(a),
+        }
+    }
+}
+
 pub struct BoundAggregate {
     pub kind: AggregateKind,
     pub distinct: bool,
@@ -99,24 +175,56 @@ pub struct BoundAggregate {
     pub filter: Option<BoundExpr>,
 }
 
-#[derive(Drop)]
+impl Drop for BoundAggregate {
+    fn drop(self) {
+        let BoundAggregate {
+            kind,
+            distinct: _,
+            collation: _,
+            arguments,
+            filter,
+        } = self;
+        drop(kind);
+        drop(arguments);
+        drop(filter);
+    }
+}
+
 pub struct BoundKey {
     pub expr: BoundExpr,
     pub collation: Collation,
 }
 
+impl Drop for BoundKey {
+    fn drop(self) {
+        let BoundKey { expr, collation: _ } = self;
+        drop(expr);
+    }
+}
+
 /// Results and HAVING are over the group's first row and the aggregates' slots.
-#[derive(Drop)]
 pub struct BoundGroups {
     pub keys: Items<BoundKey>,
     pub aggregates: Items<BoundAggregate>,
     pub having: Items<BoundExpr>,
 }
 
+impl Drop for BoundGroups {
+    fn drop(self) {
+        let BoundGroups {
+            keys,
+            aggregates,
+            having,
+        } = self;
+        drop(keys);
+        drop(aggregates);
+        drop(having);
+    }
+}
+
 // ---- queries
 
 /// A SELECT; by the collations DISTINCT compares its results.
-#[derive(Drop)]
 pub struct BoundCore {
     pub items: Items<BoundItem>,
     pub conjuncts: Items<BoundExpr>,
@@ -126,28 +234,72 @@ pub struct BoundCore {
     pub distinct: bool,
 }
 
-#[derive(Drop)]
+impl Drop for BoundCore {
+    fn drop(self) {
+        let BoundCore {
+            items,
+            conjuncts,
+            groups,
+            results,
+            collations,
+            distinct: _,
+        } = self;
+        drop(items);
+        drop(conjuncts);
+        drop(groups);
+        drop(results);
+        drop(collations);
+    }
+}
+
 pub enum BoundPart {
     Select(BoundCore),
     Values(Items<Items<BoundExpr>>),
 }
 
+impl Drop for BoundPart {
+    fn drop(self) {
+        match self {
+            BoundPart::Select(a) => drop(a),
+            BoundPart::Values(a) => drop(a),
+        }
+    }
+}
+
 /// A part behind the first, with the collations by which its columns are compared with those in front.
-#[derive(Drop)]
 pub struct BoundCompound {
     pub op: CompoundOp,
     pub part: BoundPart,
     pub collations: Items<Collation>,
 }
 
+impl Drop for BoundCompound {
+    fn drop(self) {
+        let BoundCompound {
+            op: _,
+            part,
+            collations,
+        } = self;
+        drop(part);
+        drop(collations);
+    }
+}
+
 /// A result by its place, or an expression, which stands only where there is one part.
-#[derive(Drop)]
 pub enum TermKey {
     Result(u32),
     Expression(BoundExpr),
 }
 
-#[derive(Drop)]
+impl Drop for TermKey {
+    fn drop(self) {
+        match self {
+            TermKey::Result(_) => {}
+            TermKey::Expression(a) => drop(a),
+        }
+    }
+}
+
 pub struct BoundTerm {
     pub key: TermKey,
     pub collation: Collation,
@@ -155,8 +307,19 @@ pub struct BoundTerm {
     pub nulls_first: bool,
 }
 
+impl Drop for BoundTerm {
+    fn drop(self) {
+        let BoundTerm {
+            key,
+            collation: _,
+            descending: _,
+            nulls_first: _,
+        } = self;
+        drop(key);
+    }
+}
+
 /// A query.
-#[derive(Drop)]
 pub struct BoundQuery {
     /// The innermost view or trigger in whose text it stands, which the authorizer is told.
     pub within: Option<Text>,
@@ -173,8 +336,31 @@ pub struct BoundQuery {
     pub columns: Items<BoundColumn>,
 }
 
+impl Drop for BoundQuery {
+    fn drop(self) {
+        let BoundQuery {
+            within,
+            arguments: _,
+            tables,
+            first,
+            others,
+            order,
+            limit,
+            offset,
+            columns,
+        } = self;
+        drop(within);
+        drop(tables);
+        drop(first);
+        drop(others);
+        drop(order);
+        drop(limit);
+        drop(offset);
+        drop(columns);
+    }
+}
+
 /// `first UNION [ALL] part`, where part takes its row from the queue; first may be a compound.
-#[derive(Drop)]
 pub struct BoundRecursion {
     pub within: Option<Text>,
     pub arguments: u32,
@@ -189,8 +375,43 @@ pub struct BoundRecursion {
     pub columns: Items<BoundColumn>,
 }
 
-#[derive(Drop)]
+impl Drop for BoundRecursion {
+    fn drop(self) {
+        let BoundRecursion {
+            within,
+            arguments: _,
+            tables,
+            first,
+            others,
+            all: _,
+            part,
+            collations,
+            limit,
+            offset,
+            columns,
+        } = self;
+        drop(within);
+        drop(tables);
+        drop(first);
+        drop(others);
+        drop(part);
+        drop(collations);
+        drop(limit);
+        drop(offset);
+        drop(columns);
+    }
+}
+
 pub enum BoundUnit {
     Queried(BoundQuery),
     Recursed(BoundRecursion),
+}
+
+impl Drop for BoundUnit {
+    fn drop(self) {
+        match self {
+            BoundUnit::Queried(a) => drop(a),
+            BoundUnit::Recursed(a) => drop(a),
+        }
+    }
 }

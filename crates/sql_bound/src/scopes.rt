@@ -1,4 +1,5 @@
-// What names are looked up in, and what is gathered on the way, as plain data.
+// What names are looked up in, and what is gathered on the way, as plain data. Drops of what lists hold are written out, since those that
+// are derived would be proved again in each library above.
 use bound_tree::{BoundAggregate, BoundExpr, BoundUnit};
 use eng_value::{Affinity, Collation, Text};
 use sqlite_items::Items;
@@ -48,12 +49,23 @@ pub struct Work {
 }
 
 /// A column that a query gives: its name, and the affinity, the written collation and the column's collation of what it stands for.
-#[derive(Drop)]
 pub struct ResultColumn {
     pub name: Text,
     pub affinity: Affinity,
     pub explicit: Option<Collation>,
     pub column: Option<Collation>,
+}
+
+impl Drop for ResultColumn {
+    fn drop(self) {
+        let ResultColumn {
+            name,
+            affinity: _,
+            explicit: _,
+            column: _,
+        } = self;
+        drop(name);
+    }
 }
 
 /// A query's unit, what it needs, and the columns that it gives.
@@ -66,18 +78,40 @@ pub struct Asked {
 
 /// What the name of a WITH table means: the table that is being written, which may not be named where the name is met; or a table by its
 /// unit, whether it is recursive, and what it needs beside the FROM of the query in whose WITH it is written, and the columns that it gives.
-#[derive(Drop)]
 pub enum WithMeaning {
     Itself,
     Bound(u32, bool, Items<Need>, Items<ResultColumn>),
 }
 
+impl Drop for WithMeaning {
+    fn drop(self) {
+        match self {
+            WithMeaning::Itself => {}
+            WithMeaning::Bound(_, _, a, b) => {
+                drop(a);
+                drop(b);
+            }
+        }
+    }
+}
+
 /// A WITH table by its name; around says how many FROMs there are around the query in whose WITH it is written.
-#[derive(Drop)]
 pub struct WithEntry {
     pub name: Text,
     pub around: u32,
     pub meaning: WithMeaning,
+}
+
+impl Drop for WithEntry {
+    fn drop(self) {
+        let WithEntry {
+            name,
+            around: _,
+            meaning,
+        } = self;
+        drop(name);
+        drop(meaning);
+    }
 }
 
 /// What may stand in an expression: functions of hosts, queries, columns, parameters and RAISE.

@@ -1,6 +1,0 @@
-use Rattle.std.proofs.Common.{◌≡◌, map, take}
-use Rattle.sql_meaning.specs.Spelled.{name_at}
-use Rattle.bind_target.proofs.sources.names_of.Given as goal
-
-abbrev pub invariant-loop-token : goal.invariant-loop-token
-invariant-loop-token l = l.names ≡ map (name_at l.text) (take l.token-index l.tokens)
