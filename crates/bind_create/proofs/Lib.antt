@@ -1,0 +1,4 @@
+pub mod EventLaws
+pub mod HoldLaws
+pub mod LevelLaws
+pub mod TableLaws

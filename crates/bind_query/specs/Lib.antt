@@ -1,0 +1,5 @@
+pub mod Where
+pub mod Scopes
+pub mod Turns
+pub mod Tables
+pub mod Results
