@@ -3,8 +3,8 @@ use Rattle.std.specs.Prelude.{ℕ, nat_eq, Bool, ◌||◌, List, Option, Ok, Err
 use Rattle.std.specs.List.{find}
 use Rattle.eng_entry.specs.Names.{is_same_name}
 use Rattle.eng_value.specs.declared.builtin.Builtin.{Builtin}
-use Rattle.sql_meaning.specs.declared.builtins.ArgumentCount.{ArgumentCount}
-use Rattle.sql_meaning.specs.Binding.{NamedBuiltin, takes}
+use Rattle.sql_words.specs.declared.builtins.ArgumentCount.{ArgumentCount}
+use Rattle.sql_words.specs.Builtins.{NamedBuiltin, takes}
 use Rattle.sql_bound.specs.Callees.{Aggregator, Callee, takes_arity}
 use Rattle.sql_bound.specs.Callees as callee
 use Rattle.sql_bound.specs.Refusals.{Checked}

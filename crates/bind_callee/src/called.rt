@@ -2,7 +2,7 @@
 
 use bound_tree::AggregateKind;
 use eng_value::{Builtin, Text};
-use sql_meaning::ArgumentCount;
+use sql_words::ArgumentCount;
 
 /// How many arguments an aggregate takes.
 #[derive(Clone, Copy)]

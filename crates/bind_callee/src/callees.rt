@@ -4,7 +4,7 @@ ghost use Rattle.std.specs.List.{find};
 ghost use Rattle.std.specs.Option.{option_map};
 ghost use Rattle.bound_tree.specs.declared.units.AggregateKind.TheVariants as kind;
 ghost use Rattle.eng_entry.specs.Names.{is_same_name};
-ghost use Rattle.sql_meaning.specs.Binding.{builtin_named, takes};
+ghost use Rattle.sql_words.specs.Builtins.{builtin_named, takes};
 ghost use Rattle.sql_bound.specs.Answers.{OnlyMem};
 ghost use Rattle.sql_bound.specs.Callees.{HostScalar, Scalar, built_aggregator, built_scalar, callee_of, count_by, host_aggregator, host_scalar, is_one, one_of, takes_arity};
 ghost use Rattle.sql_bound.specs.HostFacts.{facts_of};
@@ -16,8 +16,8 @@ use bound_tree::AggregateKind;
 use eng_entry::is_same_name;
 use eng_value::{Builtin, Cause, Text};
 use sql_bound::HostFacts;
-use sql_meaning::{ArgumentCount, BUILTINS};
 use sql_tree::Arguments;
+use sql_words::{ArgumentCount, BUILTINS};
 use std::alloc::Global;
 
 /// The function of this name in a table of names.

@@ -2,7 +2,7 @@
 ghost use Rattle.std.specs.Prelude.{◌≡◌, nat_eq, Ok, Err, if◌then◌else◌};
 ghost use Rattle.std.specs.Option.{option_map};
 ghost use Rattle.eng_value.specs.declared.cause.Cause.TheVariants as cause;
-ghost use Rattle.sql_meaning.specs.Binding.{takes};
+ghost use Rattle.sql_words.specs.Builtins.{takes};
 ghost use Rattle.sql_bound.specs.Answers.{Answers, Refuses};
 ghost use Rattle.sql_bound.specs.Callees.{aggregates_so, may_aggregate, may_call, takes_arity, without_filter};
 ghost use Rattle.sql_bound.specs.Expressions.{if_allowed};
@@ -12,8 +12,8 @@ ghost use Rattle.bind_callee.specs.Meant.{aggregator_meant, called_so, counts_me
 use crate::{AggregateCount, CalledAggregate};
 use eng_value::{Cause, Text};
 use sql_bound::Standing;
-use sql_meaning::ArgumentCount;
 use sql_tree::{Arguments, Expr};
+use sql_words::ArgumentCount;
 use sqlite_items::Boxed;
 use std::alloc::Global;
 

@@ -7,7 +7,7 @@ ghost use Rattle.eng_value.specs.declared.cause.Cause.TheVariants as cause;
 ghost use Rattle.eng_value.specs.declared.cause.NameKind.TheVariants as kind;
 ghost use Rattle.sql_bound.specs.declared.facts.HostAggregate.{HostAggregate};
 ghost use Rattle.sql_bound.specs.declared.facts.HostFunction.{HostFunction};
-ghost use Rattle.sql_meaning.specs.Binding.{collation_named};
+ghost use Rattle.sql_words.specs.Collations.{collation_named};
 ghost use Rattle.sql_bound.specs.Answers.{Answers, Refuses};
 ghost use Rattle.sql_bound.specs.Expressions.{collation_called, host_collation};
 ghost use Rattle.sql_bound.specs.HostFacts.{facts_of};

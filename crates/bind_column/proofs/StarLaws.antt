@@ -3,7 +3,7 @@ use Rattle.std.proofs.Common.{◌≡◌, ◌∙◌, ℕ, Bool, true, false, List
 use Rattle.std.specs.List.{flat_map, list_any}
 use Rattle.eng_value.specs.declared.cause.Cause.TheVariants.{Unknown}
 use Rattle.eng_value.specs.declared.cause.NameKind.TheVariants as kind
-use Rattle.sql_meaning.specs.Binding.{◌>>=◌}
+use Rattle.sql_words.specs.Refusals.{◌>>=◌}
 use Rattle.sql_bound.specs.Refusals.{Checked}
 use Rattle.sql_bound.specs.Results.{ShownResult, all_shown, column_shown, columns_of_item, shown_of}
 use Rattle.sql_bound.specs.Scopes.{Level, is_called, is_shown}

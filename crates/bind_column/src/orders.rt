@@ -12,8 +12,8 @@ use bound_tree::{BoundTerm, TermKey};
 use eng_entry::is_same_name;
 use eng_value::{Built, Cause, Collation, Value};
 use sql_bound::ResultColumn;
-use sql_meaning::Literal;
 use sql_tree::NullsOrder;
+use sql_words::Literal;
 use sqlite_items::at;
 
 /// Whether NULLs stand first: where it ascends, unless it is said otherwise.

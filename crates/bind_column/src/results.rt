@@ -7,7 +7,7 @@ ghost use Rattle.sql_bound.specs.Froms.{as_column, as_columns, renamed, with_nam
 ghost use Rattle.sql_bound.specs.Limits.{room_behind, within_columns};
 ghost use Rattle.sql_bound.specs.Operands.{collation_of_result};
 ghost use Rattle.sql_bound.specs.Results.{result_column};
-ghost use Rattle.sql_meaning.specs.Binding.{or_else};
+ghost use Rattle.sql_words.specs.Refusals.{or_else};
 ghost use Rattle.bind_column.specs.Lists.{column_called};
 
 use bind_scope::{copied_text, pushed, text_of};

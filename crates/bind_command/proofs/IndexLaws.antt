@@ -11,8 +11,8 @@ use Rattle.sql_bound.specs.Declarations.{bound_columns, declared_table}
 use Rattle.sql_bound.specs.Lasting.{collations_kept}
 use Rattle.sql_bound.specs.Refusals.{Checked}
 use Rattle.sql_bound.specs.Scopes.{Around, Facts}
-use Rattle.sql_meaning.specs.Binding.{◌>>=◌}
-use Rattle.sql_meaning.specs.Spelled.{name_at}
+use Rattle.sql_words.specs.Refusals.{◌>>=◌}
+use Rattle.sql_words.specs.Spelled.{name_at}
 use Rattle.sql_tree.specs.declared.statement.IndexDefinition.{IndexDefinition}
 use Rattle.sql_tree.specs.declared.statement.IndexedColumn.{IndexedColumn}
 use Rattle.sql_tree.specs.declared.statement.TableDefinition.{TableDefinition}

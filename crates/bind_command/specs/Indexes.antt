@@ -8,7 +8,7 @@ use Rattle.sql_bound.specs.Creates.{creation_of, parts_are_there}
 use Rattle.sql_bound.specs.Declarations.{index_parts}
 use Rattle.sql_bound.specs.Refusals.{Checked}
 use Rattle.sql_bound.specs.Scopes.{Facts}
-use Rattle.sql_meaning.specs.Binding.{◌>>=◌}
+use Rattle.sql_words.specs.Refusals.{◌>>=◌}
 use Rattle.sql_tree.specs.declared.statement.IndexDefinition.{IndexDefinition}
 
 abbrev pub index_over : Facts → List ℕ → List ℕ → IndexDefinition → Entry → List BoundColumn → Checked BoundCreation

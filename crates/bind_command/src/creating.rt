@@ -4,7 +4,7 @@ ghost use Rattle.eng_value.specs.declared.cause.Cause.TheVariants.{Misuse};
 ghost use Rattle.sql_bound.specs.Answers.{Answers, OnlyMem};
 ghost use Rattle.sql_bound.specs.Creates.{argument_text, creation_of, module_created, nothing_created, view_created, without_parameter};
 ghost use Rattle.sql_bound.specs.HostFacts.{facts_of};
-ghost use Rattle.sql_meaning.specs.Spelled.{name_at};
+ghost use Rattle.sql_words.specs.Spelled.{name_at};
 ghost use Rattle.bound_tree.specs.declared.statements.BoundCommand.TheVariants as bound_command;
 ghost use Rattle.bind_command.specs.Tops.{top_of};
 ghost use Rattle.bound_tree.specs.declared.statements.ThingKind.TheVariants.{AModuleTable};

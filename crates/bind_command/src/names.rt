@@ -3,7 +3,7 @@ ghost use Rattle.std.specs.Prelude.{◌≡◌, IfOk};
 ghost use Rattle.std.specs.Option.{option_copied};
 ghost use Rattle.sql_bound.specs.Answers.{Answers, OnlyMem};
 ghost use Rattle.sql_bound.specs.Creates.{is_free, name_of_entry, named_kind, no_entry, not_there, table_called};
-ghost use Rattle.sql_meaning.specs.Names.{is_reserved_name};
+ghost use Rattle.sql_words.specs.Names.{is_reserved_name};
 ghost use Rattle.bind_command.specs.Tops.{top_of};
 
 use bind_entry::{copied, name, table_named};

@@ -2,7 +2,7 @@
 ghost use Rattle.std.specs.Prelude.{◌≡◌};
 ghost use Rattle.sql_bound.specs.Answers.{Answers};
 ghost use Rattle.sql_bound.specs.Statements.{pragma_bound};
-ghost use Rattle.sql_meaning.specs.Statement.{is_off};
+ghost use Rattle.sql_words.specs.Spelled.{is_off};
 ghost use Rattle.bind_command.specs.Tops.{top_of};
 
 use bind_entry::name;

@@ -14,7 +14,7 @@ use Rattle.sql_tree.specs.declared.statement.IndexedColumn.{IndexedColumn}
 use Rattle.sql_tree.specs.declared.statement.TableConstraint.TheVariants as table_constraint
 use Rattle.sql_tree.specs.declared.statement.TableConstraint.{TableConstraint}
 use Rattle.sql_bound.specs.Refusals.{Checked}
-use Rattle.sql_meaning.specs.Binding.{◌>>=◌}
+use Rattle.sql_words.specs.Refusals.{◌>>=◌}
 
 abbrev keeping : {A : Type 0} → Declaring → A → Checked Declaring
 keeping d a = Ok d

@@ -7,7 +7,7 @@ use Rattle.bind_create.specs.Levels.{names_of}
 use Rattle.eng_entry.specs.Names.{is_same_name}
 use Rattle.sql_bound.specs.Creates.{behind_first}
 use Rattle.sql_bound.specs.declared.scopes.ScopeColumn.{ScopeColumn}
-use Rattle.sql_meaning.specs.Names.{is_named_in}
+use Rattle.sql_words.specs.Names.{is_named_in}
 
 abbrev name_of : ScopeColumn → List ℕ
 name_of c = c.name

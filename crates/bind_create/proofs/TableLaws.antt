@@ -11,7 +11,7 @@ use Rattle.sql_bound.specs.Creates.{Creating, Declaring, creating, creation_of, 
 use Rattle.sql_bound.specs.Declarations.{bound_columns, declared_table}
 use Rattle.sql_bound.specs.Refusals.{Checked}
 use Rattle.sql_bound.specs.Scopes.{Around, Level}
-use Rattle.sql_meaning.specs.Binding.{◌>>=◌}
+use Rattle.sql_words.specs.Refusals.{◌>>=◌}
 use Rattle.sql_tree.specs.declared.statement.TableDefinition.{TableDefinition}
 
 abbrev giving : {A B : Type 0} → B → A → Checked B

@@ -8,7 +8,7 @@ use Rattle.sql_bound.specs.Limits.{by_column}
 use Rattle.sql_bound.specs.Refusals.{Checked}
 use Rattle.sql_bound.specs.Scopes.{Outer, begun}
 use Rattle.sql_bound.specs.Targets.{inside_write}
-use Rattle.sql_meaning.specs.Binding.{◌>>=◌}
+use Rattle.sql_words.specs.Refusals.{◌>>=◌}
 use Rattle.sql_tree.specs.declared.statement.TableDefinition.{TableDefinition}
 
 abbrev pub nothing_declared : Declaring

@@ -6,7 +6,7 @@ ghost use Rattle.bind_query.specs.Scopes.{outer_of};
 ghost use Rattle.sql_bound.specs.Answers.{Answers, OnlyMem};
 ghost use Rattle.sql_bound.specs.Creates.{columns_of_event, entry_of, event_fits, fits_kind, is_instead, one_is_there, trigger_on};
 ghost use Rattle.sql_bound.specs.Limits.{walked};
-ghost use Rattle.sql_meaning.specs.Spelled.{name_at};
+ghost use Rattle.sql_words.specs.Spelled.{name_at};
 
 use bind_command::{creation_of, no_entry, without_parameter};
 use bind_entry::{copied, host_module, name, table_named};

@@ -7,7 +7,7 @@ use Rattle.sql_tree.specs.declared.statement.ColumnConstraint.TheVariants as col
 use Rattle.sql_tree.specs.declared.statement.ColumnDefinition.{ColumnDefinition}
 use Rattle.sql_tree.specs.declared.statement.TableConstraint.{TableConstraint}
 use Rattle.sql_tree.specs.declared.statement.TableConstraint.TheVariants as table_constraint
-use Rattle.sql_meaning.specs.Binding.{or_else}
+use Rattle.sql_words.specs.Refusals.{or_else}
 use Rattle.sql_bound.specs.Declarations.{collate_of, default_of, rowid_of_constraints}
 use Rattle.sql_bound.specs.Scopes.{Facts}
 

@@ -8,7 +8,7 @@ use Rattle.bound_tree.specs.declared.units.IndexPart.{IndexPart}
 use Rattle.sql_tree.specs.declared.statement.ColumnDefinition.{ColumnDefinition}
 use Rattle.sql_tree.specs.declared.statement.IndexedColumn.{IndexedColumn}
 use Rattle.sql_tree.specs.declared.statement.TableDefinition.{TableDefinition}
-use Rattle.sql_meaning.specs.Spelled.{name_at}
+use Rattle.sql_words.specs.Spelled.{name_at}
 use Rattle.sql_bound.specs.Declarations.{bound_columns, declared_column, declared_table, index_part, index_parts, own_key, own_keys, place_of_column, rowid_of, table_key}
 use Rattle.sql_bound.specs.Scopes.{Facts}
 use Rattle.bind_entry.specs.TableParts.{column_of, declared_parts}

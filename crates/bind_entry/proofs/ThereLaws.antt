@@ -7,8 +7,8 @@ use Rattle.eng_value.specs.declared.cause.Cause.{Cause}
 use Rattle.sql_tree.specs.declared.statement.ColumnConstraint.{ColumnConstraint}
 use Rattle.sql_tree.specs.declared.statement.ColumnConstraint.TheVariants as column_constraint
 use Rattle.sql_tree.specs.declared.token.Token.{Token}
-use Rattle.sql_meaning.specs.Binding.{◌>>=◌, or_else}
-use Rattle.sql_meaning.specs.Spelled.{name_at}
+use Rattle.sql_words.specs.Refusals.{◌>>=◌, or_else}
+use Rattle.sql_words.specs.Spelled.{name_at}
 use Rattle.sql_bound.specs.Expressions.{collation_called}
 use Rattle.sql_bound.specs.Lasting.{all_there, index_there, indexes_there, last_collate}
 use Rattle.sql_bound.specs.Declarations.{definition_of, index_in, is_index_of}

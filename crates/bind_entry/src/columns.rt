@@ -6,8 +6,10 @@ ghost use Rattle.bind_entry.specs.TableParts.{column_of};
 ghost use Rattle.sql_bound.specs.Answers.{OnlyMem};
 ghost use Rattle.sql_bound.specs.Declarations.{checks_of, collate_of, default_of, is_not_null, table_checks};
 ghost use Rattle.sql_bound.specs.HostFacts.{facts_of};
-ghost use Rattle.sql_meaning.specs.Binding.{affinity_of_type, by_bytes, or_else};
-ghost use Rattle.sql_meaning.specs.Declarations.{type_affinity};
+ghost use Rattle.sql_words.specs.Collations.{by_bytes};
+ghost use Rattle.sql_words.specs.Refusals.{or_else};
+ghost use Rattle.sql_words.specs.Types.{affinity_of_type};
+ghost use Rattle.sql_words.specs.Types.{type_affinity};
 
 use crate::facts::collation_there;
 use crate::memory::{name, put};

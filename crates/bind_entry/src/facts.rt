@@ -4,7 +4,7 @@ ghost use Rattle.std.specs.Option.{option_copied};
 ghost use Rattle.sql_bound.specs.Answers.{OnlyMem};
 ghost use Rattle.sql_bound.specs.Declarations.{collation_there, or_host};
 ghost use Rattle.sql_bound.specs.HostFacts.{facts_of};
-ghost use Rattle.sql_meaning.specs.Binding.{collation_named};
+ghost use Rattle.sql_words.specs.Collations.{collation_named};
 
 use crate::memory::small;
 use eng_entry::is_same_name;

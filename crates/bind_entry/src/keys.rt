@@ -6,8 +6,8 @@ ghost use Rattle.eng_entry.specs.Names.{is_same_name};
 ghost use Rattle.sql_bound.specs.Answers.{OnlyMem};
 ghost use Rattle.sql_bound.specs.Declarations.{collation_at, index_part, index_parts, is_rowid_key, is_the_rowid, key_part, own_key, own_keys, place_of_column, table_key, written_collation};
 ghost use Rattle.sql_bound.specs.HostFacts.{facts_of};
-ghost use Rattle.sql_meaning.specs.Binding.{by_bytes};
-ghost use Rattle.sql_meaning.specs.Spelled.{name_at};
+ghost use Rattle.sql_words.specs.Collations.{by_bytes};
+ghost use Rattle.sql_words.specs.Spelled.{name_at};
 
 use crate::columns::or_bytes;
 use crate::facts::collation_there;

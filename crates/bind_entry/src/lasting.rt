@@ -6,7 +6,7 @@ ghost use Rattle.sql_bound.specs.Answers.{Answers};
 ghost use Rattle.sql_bound.specs.Declarations.{definition_of, index_in};
 ghost use Rattle.sql_bound.specs.Expressions.{collation_called};
 ghost use Rattle.sql_bound.specs.HostFacts.{facts_of};
-ghost use Rattle.sql_meaning.specs.Binding.{or_else};
+ghost use Rattle.sql_words.specs.Refusals.{or_else};
 ghost use Rattle.sql_bound.specs.Lasting.{all_there, collations_kept, index_there, indexes_there, last_collate, of_column, of_key, of_parts};
 
 use crate::entries::{index_of, is_index_of};

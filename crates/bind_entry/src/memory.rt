@@ -1,7 +1,7 @@
 // Want of memory as a refusal.
 ghost use Rattle.std.specs.Prelude.{◌≡◌, ◌∷◌, ◌++◌, [], IfOk, OnOk};
 ghost use Rattle.sql_bound.specs.Answers.{OnlyMem};
-ghost use Rattle.sql_meaning.specs.Spelled.{name_at};
+ghost use Rattle.sql_words.specs.Spelled.{name_at};
 
 use eng_value::{Cause, Text};
 use sql_tree::Token;

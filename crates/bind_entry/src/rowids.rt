@@ -4,7 +4,7 @@ ghost use Rattle.std.specs.List.{list_any};
 ghost use Rattle.eng_entry.specs.Names.{is_same_name};
 ghost use Rattle.sql_bound.specs.Answers.{OnlyMem};
 ghost use Rattle.sql_bound.specs.Declarations.{is_integer_type, is_own_rowid, is_primary, is_rowid_called, is_word, rowid_of, rowid_of_constraints, rowid_of_key};
-ghost use Rattle.sql_meaning.specs.Spelled.{name_at};
+ghost use Rattle.sql_words.specs.Spelled.{name_at};
 
 use crate::memory::{name, small};
 use eng_entry::is_same_name;

@@ -15,8 +15,12 @@ use Rattle.sql_tree.specs.declared.expr.TypeName.{TypeName}
 use Rattle.sql_tree.specs.declared.expr.UnaryOp.{UnaryOp}
 use Rattle.sql_tree.specs.declared.query.Query.{Query}
 use Rattle.sql_tree.specs.declared.token.Token.{Token}
-use Rattle.sql_meaning.specs.Binding.{◌>>=◌, Binding, bind_step, bind_arm_step, Scope, all_in, option_in, bound_of, arm_bound, literal_bound, parameter_bound, column_bound, table_column_bound, unary_bound, binary_bound, between_bound, like_bound, in_bound, collate_bound, collation_named, cast_bound, affinity_of_type, function_called, builtin_named, call_bound, case_bound}
-use Rattle.sql_meaning.specs.Spelled.{name_at}
+use Rattle.sql_words.specs.Builtins.{builtin_named}
+use Rattle.sql_words.specs.Collations.{collation_named}
+use Rattle.sql_words.specs.Refusals.{◌>>=◌}
+use Rattle.sql_words.specs.Types.{affinity_of_type}
+use Rattle.sql_meaning.specs.Binding.{Binding, bind_step, bind_arm_step, Scope, all_in, option_in, bound_of, arm_bound, literal_bound, parameter_bound, column_bound, table_column_bound, unary_bound, binary_bound, between_bound, like_bound, in_bound, collate_bound, cast_bound, function_called, call_bound, case_bound}
+use Rattle.sql_words.specs.Spelled.{name_at}
 
 -- ---- folds at the nodes that may lack a part
 

@@ -2,7 +2,8 @@
 use Rattle.std.proofs.Common.{◌≡◌, ℕ, List, [], ◌∷◌, ◌++◌, Option, Some, None, Ok, refl}
 use Rattle.eng_value.specs.declared.collation.Collation.{Collation}
 use Rattle.sql_meaning.specs.declared.bound.BoundExpr.{BoundExpr}
-use Rattle.sql_meaning.specs.Binding.{◌>>=◌, Bound, collate_bound, first_collation, first_explicit, collation_of, or_else, over}
+use Rattle.sql_words.specs.Refusals.{◌>>=◌, or_else}
+use Rattle.sql_meaning.specs.Binding.{Bound, collate_bound, first_collation, first_explicit, collation_of, over}
 use Rattle.bind_expr.specs.Parts.{bare, collated, collation_in}
 
 pub or_else-none : (a : Option Collation) → or_else a None ≡ a

@@ -19,8 +19,12 @@ use Rattle.sql_tree.specs.declared.expr.UnaryOp.{UnaryOp}
 use Rattle.sql_tree.specs.declared.expr.UnaryOp.TheVariants as sign
 use Rattle.sql_tree.specs.declared.token.Token.{Token}
 use Rattle.sql_meaning.specs.declared.bound.BoundExpr.{BoundExpr}
-use Rattle.sql_meaning.specs.Binding.{◌>>=◌, Scope, Bound, Form, Plain, LeastMagnitude, Truth, Arm, all_in, option_in, bound_of, arm_bound, unary_bound, negative_bound, binary_bound, is_bound, between_bound, like_bound, in_bound, collate_bound, collation_named, cast_bound, affinity_of_type, function_called, builtin_named, call_bound, case_bound, compared, unsplit}
-use Rattle.sql_meaning.specs.Spelled.{name_at}
+use Rattle.sql_words.specs.Builtins.{builtin_named}
+use Rattle.sql_words.specs.Collations.{collation_named}
+use Rattle.sql_words.specs.Refusals.{◌>>=◌}
+use Rattle.sql_words.specs.Types.{affinity_of_type}
+use Rattle.sql_meaning.specs.Binding.{Scope, Bound, Form, Plain, LeastMagnitude, Truth, Arm, all_in, option_in, bound_of, arm_bound, unary_bound, negative_bound, binary_bound, is_bound, between_bound, like_bound, in_bound, collate_bound, cast_bound, function_called, call_bound, case_bound, compared, unsplit}
+use Rattle.sql_words.specs.Spelled.{name_at}
 use Rattle.bind_expr.specs.Gathers.{part_of}
 use Rattle.bind_expr.specs.Parts.{part_in, compared_in, Appends}
 use Rattle.bind_expr.proofs.Clauses.{bound_of-Literal, bound_of-Parameter, bound_of-Column, bound_of-TableColumn, bound_of-InQuery, bound_of-Subquery, bound_of-Exists, bound_of-RaiseIgnore, bound_of-RaiseAbort, bound_of-Unary, bound_of-Binary, bound_of-Between, bound_of-Like, bound_of-In, bound_of-Collate, bound_of-Cast, bound_of-Call, bound_of-Case}

@@ -7,8 +7,10 @@ use Rattle.sql_tree.specs.declared.expr.Arguments.{Arguments}
 use Rattle.sql_tree.specs.declared.expr.Arm.{Arm as SyntaxArm, out-Arm, roll-out-Arm}
 use Rattle.sql_tree.specs.declared.expr.Expr.{Expr}
 use Rattle.sql_tree.specs.declared.token.Token.{Token}
-use Rattle.sql_meaning.specs.Binding.{◌>>=◌, Bound, Scope, arm_bound, bound_of, builtin_named, function_called, unsplit}
-use Rattle.sql_meaning.specs.Spelled.{name_at}
+use Rattle.sql_words.specs.Builtins.{builtin_named}
+use Rattle.sql_words.specs.Refusals.{◌>>=◌}
+use Rattle.sql_meaning.specs.Binding.{Bound, Scope, arm_bound, bound_of, function_called, unsplit}
+use Rattle.sql_words.specs.Spelled.{name_at}
 use Rattle.bind_expr.specs.declared.groups.Group.{Group}
 use Rattle.bind_expr.specs.Gathers.{arm_in, call_part, case_part, choices_of, matches_of, operands_of, option_part, part_of}
 use Rattle.bind_expr.specs.Groups.{beside, call_group, choose_group, gathered, match_group}

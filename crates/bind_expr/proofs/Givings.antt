@@ -2,7 +2,8 @@
 use Rattle.std.specs.Prelude.{◌≡◌, Result, Ok, Err, IfOk, refl}
 use Rattle.std.proofs.Common.{inl, inr, ap, sym, ◌∙◌}
 use Rattle.eng_value.specs.declared.cause.Cause.{Cause}
-use Rattle.sql_meaning.specs.Binding.{◌>>=◌, Bound}
+use Rattle.sql_words.specs.Refusals.{◌>>=◌}
+use Rattle.sql_meaning.specs.Binding.{Bound}
 use Rattle.bind_expr.specs.declared.part.BoundPart.{BoundPart}
 use Rattle.bind_expr.specs.Parts.{Gives, caused, whole}
 

@@ -20,9 +20,14 @@ use Rattle.sql_tree.specs.declared.token.Token.{Token}
 use Rattle.sql_meaning.specs.declared.bound.BoundArm.{BoundArm}
 use Rattle.sql_meaning.specs.declared.bound.BoundExpr.{BoundExpr}
 use Rattle.sql_meaning.specs.declared.bound.BoundMatch.{BoundMatch}
-use Rattle.sql_meaning.specs.Binding.{◌>>=◌, in_turn, Scope, Bound, Form, Plain, LeastMagnitude, Truth, Arm, all_in, option_in, option_list, bound_of, arm_bound, arm_parts, first_collation, first_explicit, tree_of, chosen_arm, matched_arm, literal_bound, parameter_bound, column_bound, column_found, column_or_result, result_found, result_named, NamedResult, column_place, table_column_bound, unary_bound, negative_bound, binary_bound, is_bound, not_bound, unknown_column, dotted, between_bound, like_bound, in_bound, collate_bound, collation_named, cast_bound, affinity_of_type, function_called, builtin_named, call_bound, case_bound, unsplit}
+use Rattle.sql_words.specs.Builtins.{builtin_named}
+use Rattle.sql_words.specs.Collations.{collation_named}
+use Rattle.sql_words.specs.Names.{dotted}
+use Rattle.sql_words.specs.Refusals.{◌>>=◌, in_turn}
+use Rattle.sql_words.specs.Types.{affinity_of_type}
+use Rattle.sql_meaning.specs.Binding.{Scope, Bound, Form, Plain, LeastMagnitude, Truth, Arm, all_in, option_in, option_list, bound_of, arm_bound, arm_parts, first_collation, first_explicit, tree_of, chosen_arm, matched_arm, literal_bound, parameter_bound, column_bound, column_found, column_or_result, result_found, result_named, NamedResult, column_place, table_column_bound, unary_bound, negative_bound, binary_bound, is_bound, not_bound, unknown_column, between_bound, like_bound, in_bound, collate_bound, cast_bound, function_called, call_bound, case_bound, unsplit}
 use Rattle.eng_entry.specs.Names.{is_same_name}
-use Rattle.sql_meaning.specs.Spelled.{name_at}
+use Rattle.sql_words.specs.Spelled.{name_at}
 use Rattle.bind_expr.specs.declared.groups.Group.{Group}
 use Rattle.bind_expr.specs.Gathers.{part_of, option_part, arm_in, operand, operand_of, operands_of, choice, choice_of, choices_of, matching, match_of, matches_of, call_part, case_part}
 use Rattle.bind_expr.specs.Groups.{empty, beside, gathered, explicit_of, in_group, call_group, choose_group, match_group}

@@ -11,11 +11,11 @@ use Rattle.eng_value.specs.declared.compare_op.CompareOp.TheVariants as compare
 use Rattle.eng_value.specs.declared.operators.BinaryOperator.TheVariants as binary
 use Rattle.eng_value.specs.declared.operators.UnaryOperator.TheVariants as unary
 use Rattle.eng_value.specs.declared.value.Value.TheVariants as value
-use Rattle.sql_meaning.specs.declared.bound.Literal.TheVariants as literal
+use Rattle.sql_words.specs.declared.literal.Literal.TheVariants as literal
 use Rattle.sql_meaning.specs.declared.column.Column.{Column}
 use Rattle.sql_meaning.specs.declared.column.TableEntry.{TableEntry}
 use Rattle.eng_entry.specs.Names.{is_same_name}
-use Rattle.sql_meaning.specs.Spelled.{name_at, literal_at}
+use Rattle.sql_words.specs.Spelled.{name_at, literal_at}
 use Rattle.bind_expr.specs.declared.part.BoundPart.{BoundPart}
 use Rattle.bind_expr.specs.Parts.{part_in, whole, Binds}
 use Rattle.bind_expr.proofs.Clauses.{bound_of-Literal, bound_of-Parameter, bound_of-Column, bound_of-TableColumn, bound_of-Unary, bound_of-Binary, bound_of-Between, bound_of-Like, bound_of-In, bound_of-Collate, bound_of-Cast, bound_of-Call, bound_of-Case, bound_of-InQuery, bound_of-Subquery, bound_of-Exists, bound_of-RaiseIgnore, bound_of-RaiseAbort, arm_bound-is}
@@ -51,8 +51,13 @@ use Rattle.sql_meaning.specs.declared.bound.BoundArm.{BoundArm, roll-BoundArm}
 use Rattle.sql_meaning.specs.declared.bound.BoundExpr.{BoundExpr, fold-roll-BoundExpr, the_lemmas as the_bound_lemmas}
 use Rattle.sql_meaning.specs.declared.bound.BoundExpr.TheVariants as e
 use Rattle.sql_meaning.specs.declared.bound.BoundMatch.{BoundMatch, roll-BoundMatch}
-use Rattle.sql_meaning.specs.declared.bound.Literal.{Literal}
-use Rattle.sql_meaning.specs.Binding.{◌>>=◌, Scope, Bound, Form, Plain, LeastMagnitude, Truth, Arm, all_in, option_in, bound_of, arm_bound, tree_of, chosen_arm, matched_arm, call_tree, tree_by, or_null, by_bytes, literal_bound, unary_bound, negative_bound, binary_bound, is_bound, not_bound, between_bound, like_bound, in_bound, collate_bound, cast_bound, call_bound, case_bound, affinity_of_type, builtin_named, collation_named, column_at, column_bound, column_found, column_or_result, column_place, dotted, first_collation, function_called, member_sides, parameter_bound, sides_of, table_column_bound, unknown_column, unsplit}
+use Rattle.sql_words.specs.declared.literal.Literal.{Literal}
+use Rattle.sql_words.specs.Builtins.{builtin_named}
+use Rattle.sql_words.specs.Collations.{by_bytes, collation_named}
+use Rattle.sql_words.specs.Names.{dotted}
+use Rattle.sql_words.specs.Refusals.{◌>>=◌}
+use Rattle.sql_words.specs.Types.{affinity_of_type}
+use Rattle.sql_meaning.specs.Binding.{Scope, Bound, Form, Plain, LeastMagnitude, Truth, Arm, all_in, option_in, bound_of, arm_bound, tree_of, chosen_arm, matched_arm, call_tree, tree_by, or_null, literal_bound, unary_bound, negative_bound, binary_bound, is_bound, not_bound, between_bound, like_bound, in_bound, collate_bound, cast_bound, call_bound, case_bound, column_at, column_bound, column_found, column_or_result, column_place, first_collation, function_called, member_sides, parameter_bound, sides_of, table_column_bound, unknown_column, unsplit}
 use Rattle.sql_meaning.specs.Sizes.{nodes_of, nodes_of_arm, nodes_of_match, all_nodes}
 
 -- ---- sizes, clause by clause

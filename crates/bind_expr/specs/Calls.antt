@@ -2,8 +2,8 @@
 use Rattle.std.specs.Prelude.{ℕ, List, Option}
 use Rattle.std.specs.List.{find}
 use Rattle.eng_value.specs.declared.builtin.Builtin.{Builtin}
-use Rattle.sql_meaning.specs.declared.builtins.ArgumentCount.{ArgumentCount}
-use Rattle.sql_meaning.specs.Binding.{NamedBuiltin}
+use Rattle.sql_words.specs.declared.builtins.ArgumentCount.{ArgumentCount}
+use Rattle.sql_words.specs.Builtins.{NamedBuiltin}
 use Rattle.eng_entry.specs.Names.{is_same_name}
 
 -- a row of the table

@@ -8,8 +8,10 @@ use Rattle.sql_tree.specs.declared.token.Token.{Token}
 use Rattle.sql_meaning.specs.declared.bound.BoundArm.{BoundArm}
 use Rattle.sql_meaning.specs.declared.bound.BoundExpr.{BoundExpr}
 use Rattle.sql_meaning.specs.declared.bound.BoundMatch.{BoundMatch}
-use Rattle.sql_meaning.specs.Binding.{◌>>=◌, Arm, Bound, Scope, arm_bound, bound_of, builtin_named, chosen_arm, collation_of, function_called, matched_arm, unsplit}
-use Rattle.sql_meaning.specs.Spelled.{name_at}
+use Rattle.sql_words.specs.Builtins.{builtin_named}
+use Rattle.sql_words.specs.Refusals.{◌>>=◌}
+use Rattle.sql_meaning.specs.Binding.{Arm, Bound, Scope, arm_bound, bound_of, chosen_arm, collation_of, function_called, matched_arm, unsplit}
+use Rattle.sql_words.specs.Spelled.{name_at}
 use Rattle.bind_expr.specs.declared.groups.Group.{Group}
 use Rattle.bind_expr.specs.Groups.{arm_explicit, call_group, choose_group, gathered, match_group, one}
 use Rattle.bind_expr.specs.Parts.{part_in}

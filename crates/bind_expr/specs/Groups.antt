@@ -7,7 +7,9 @@ use Rattle.sql_meaning.specs.declared.bound.BoundArm.{BoundArm}
 use Rattle.sql_meaning.specs.declared.bound.BoundExpr.{BoundExpr}
 use Rattle.sql_meaning.specs.declared.bound.BoundExpr.TheVariants as e
 use Rattle.sql_meaning.specs.declared.bound.BoundMatch.{BoundMatch}
-use Rattle.sql_meaning.specs.Binding.{◌>>=◌, Bound, Arm, by_bytes, or_else, or_null, member_sides, call_tree}
+use Rattle.sql_words.specs.Collations.{by_bytes}
+use Rattle.sql_words.specs.Refusals.{◌>>=◌, or_else}
+use Rattle.sql_meaning.specs.Binding.{Bound, Arm, or_null, member_sides, call_tree}
 use Rattle.bind_expr.specs.declared.cases.ArmPart.{ArmPart}
 use Rattle.bind_expr.specs.declared.groups.Group.{Group}
 use Rattle.bind_expr.specs.Parts.{bare, whole}

@@ -7,7 +7,8 @@ use Rattle.eng_value.specs.declared.cause.NameKind.TheVariants as named
 use Rattle.eng_value.specs.declared.collation.Collation.{Collation}
 use Rattle.eng_value.specs.declared.compare_op.CompareOp.{CompareOp}
 use Rattle.sql_meaning.specs.declared.bound.BoundExpr.{BoundExpr}
-use Rattle.sql_meaning.specs.Binding.{◌>>=◌, Bound, compared, unsplit, Plain, LeastMagnitude, Truth}
+use Rattle.sql_words.specs.Refusals.{◌>>=◌}
+use Rattle.sql_meaning.specs.Binding.{Bound, compared, unsplit, Plain, LeastMagnitude, Truth}
 use Rattle.sql_meaning.specs.Binding as meant
 use Rattle.bind_expr.specs.declared.part.BoundPart.{BoundPart}
 use Rattle.bind_expr.specs.declared.part.Form.{Form}

@@ -1,14 +1,16 @@
 // CASE (SQL Language Expressions, The CASE expression).
 ghost use Rattle.std.specs.Prelude.{◌≡◌, IfOk};
 ghost use Rattle.std.specs.Option.{option_map};
-ghost use Rattle.sql_meaning.specs.Binding.{chosen_arm, matched_arm, or_else, or_null};
+ghost use Rattle.sql_words.specs.Refusals.{or_else};
+ghost use Rattle.sql_meaning.specs.Binding.{chosen_arm, matched_arm, or_null};
 ghost use Rattle.bind_expr.specs.Groups.{arm_explicit, arm_whole, choose_group, explicit_of, match_group};
 ghost use Rattle.bind_expr.specs.Parts.{whole};
 
 use crate::groups::Group;
 use crate::part::{BoundPart, boxed_pair, or_else, sides_of};
 use eng_value::{Collation, Value};
-use sql_meaning::{BoundArm, BoundExpr, BoundMatch, Literal};
+use sql_meaning::{BoundArm, BoundExpr, BoundMatch};
+use sql_words::Literal;
 use sqlite_items::Boxed;
 use std::alloc::{AllocError, Global};
 

@@ -3,8 +3,9 @@ ghost use Rattle.std.specs.Prelude.{◌≡◌, Some, slice_get, IfOk};
 ghost use Rattle.eng_value.specs.declared.affinity.Affinity.TheVariants as affinity;
 ghost use Rattle.eng_value.specs.declared.cause.Cause.TheVariants as cause;
 ghost use Rattle.eng_value.specs.declared.cause.NameKind.TheVariants as named;
-ghost use Rattle.sql_meaning.specs.Binding.{affinity_in, column_at, column_bound, column_found, column_place, dotted, table_column_bound};
-ghost use Rattle.sql_meaning.specs.Spelled.{name_at};
+ghost use Rattle.sql_words.specs.Names.{dotted};
+ghost use Rattle.sql_meaning.specs.Binding.{affinity_in, column_at, column_bound, column_found, column_place, table_column_bound};
+ghost use Rattle.sql_words.specs.Spelled.{name_at};
 ghost use Rattle.bind_expr.specs.Parts.{whole, Gives};
 
 use crate::part::{BoundPart, Form};

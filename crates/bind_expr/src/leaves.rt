@@ -1,7 +1,8 @@
 // Expressions without operands, casts and collations.
 ghost use Rattle.std.specs.Prelude.{◌≡◌, IfOk};
-ghost use Rattle.sql_meaning.specs.Binding.{collate_bound, collation_named, form_of, literal_bound, parameter_bound};
-ghost use Rattle.sql_meaning.specs.Spelled.{name_at};
+ghost use Rattle.sql_words.specs.Collations.{collation_named};
+ghost use Rattle.sql_meaning.specs.Binding.{collate_bound, form_of, literal_bound, parameter_bound};
+ghost use Rattle.sql_words.specs.Spelled.{name_at};
 ghost use Rattle.bind_expr.specs.Parts as part;
 ghost use Rattle.bind_expr.specs.Parts.{collated, collation_in, itself, whole, Gives};
 

@@ -19,7 +19,7 @@ mod part;
 mod results;
 mod scope;
 
-pub use bind_name::{affinity_of_type, is_built, literal, name, slice_of};
+pub use bind_name::{affinity_of_type, literal, name, slice_of};
 pub use columns::column_place;
 pub use expressions::{bind, bind_conjuncts};
 pub use laws::sizes_are_linear;

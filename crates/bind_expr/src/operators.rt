@@ -15,8 +15,9 @@ use eng_value::{
     Affinity, ArithmeticOp, BinaryOperator, Collation, CompareOp, IntegerOp, Sides, UnaryOperator,
     Value,
 };
-use sql_meaning::{BoundExpr, Literal};
+use sql_meaning::BoundExpr;
 use sql_tree::{BinaryOp, UnaryOp};
+use sql_words::Literal;
 use sqlite_items::Boxed;
 use std::alloc::{AllocError, Global};
 

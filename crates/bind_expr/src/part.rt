@@ -1,6 +1,8 @@
 // What is found of an expression whose names are bound.
 ghost use Rattle.std.specs.Prelude.{◌≡◌, unwrap_or, IfOk};
-ghost use Rattle.sql_meaning.specs.Binding.{by_bytes, collation_of, or_else, sides_of};
+ghost use Rattle.sql_words.specs.Collations.{by_bytes};
+ghost use Rattle.sql_words.specs.Refusals.{or_else};
+ghost use Rattle.sql_meaning.specs.Binding.{collation_of, sides_of};
 ghost use Rattle.bind_expr.specs.Parts.{bare, caused, whole};
 
 use eng_value::{Affinity, Built, Cause, Collation, Sides};

@@ -15,7 +15,7 @@ use Rattle.sql_bound.specs.Froms.{equality_of, on_left, one_of, using_one, with_
 use Rattle.sql_bound.specs.Limits.{walked}
 use Rattle.sql_bound.specs.Refusals.{Checked}
 use Rattle.sql_bound.specs.Scopes.{columns_named, is_shown, unjoined}
-use Rattle.sql_meaning.specs.Binding.{◌>>=◌}
+use Rattle.sql_words.specs.Refusals.{◌>>=◌}
 use Rattle.sql_bound.specs.declared.froms.Joining.{Joining}
 use Rattle.sql_bound.specs.declared.scopes.ScopeColumn.{ScopeColumn}
 use Rattle.sql_bound.specs.declared.scopes.ScopeItem.{ScopeItem}

@@ -4,7 +4,7 @@ ghost use Rattle.sql_bound.specs.Answers.{Answers, Comes, OnlyMem};
 ghost use Rattle.sql_bound.specs.Froms.{Inside, are_made, constrained, is_any, using_all};
 ghost use Rattle.sql_bound.specs.Trees.{of_constraint};
 ghost use Rattle.sql_bound.specs.declared.scopes.Work.{Work};
-ghost use Rattle.sql_meaning.specs.Spelled.{name_at};
+ghost use Rattle.sql_words.specs.Spelled.{name_at};
 
 use crate::by_names::{natural_all, using_all};
 use bind_scope::{copied_item, copied_level, pushed};

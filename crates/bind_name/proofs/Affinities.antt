@@ -2,8 +2,8 @@
 use Rattle.std.proofs.Common.{◌≡◌, ℕ, Bool, ◌||◌, List, [], ◌∷◌, map, is_some, codes, refl, ap}
 use Rattle.std.specs.List.{list_any}
 use Rattle.eng_text.specs.Texts.{folded, place_of}
-use Rattle.sql_meaning.specs.Binding.{mentions, affinity_of_words, affinity_of_type}
-use Rattle.sql_meaning.specs.Spelled.{name_at}
+use Rattle.sql_words.specs.Types.{mentions, affinity_of_words, affinity_of_type}
+use Rattle.sql_words.specs.Spelled.{name_at}
 use Rattle.sql_tree.specs.declared.expr.TypeName.{TypeName}
 use Rattle.bind_name.specs.Types.{affinity_by, affinity_of_folded}
 

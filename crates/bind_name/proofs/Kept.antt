@@ -4,8 +4,8 @@ use Rattle.std.proofs.lemmas.Grind.{common_steps}
 use Rattle.eng_value.specs.declared.cause.Cause.TheVariants as cause
 use Rattle.eng_value.specs.declared.limits.TheConstants.{MAX_VALUE_BYTES}
 use Rattle.eng_value.specs.declared.value.Value.TheVariants as value
-use Rattle.sql_meaning.specs.declared.bound.Literal.TheVariants.{Value, Bad}
-use Rattle.sql_meaning.specs.Spelled.{kept, hexadecimal_bytes}
+use Rattle.sql_words.specs.declared.literal.Literal.TheVariants.{Value, Bad}
+use Rattle.sql_words.specs.Spelled.{kept, hexadecimal_bytes}
 
 pub hexadecimal_length : (digits : List ℕ) → length (hexadecimal_bytes digits) ≡ length digits / 2
 hexadecimal_length [] = refl

@@ -1,10 +1,9 @@
-//! What single tokens of a statement stand for: names, literals and the affinities of types; and what of an expression is built.
+//! What single tokens of a statement stand for: names, literals and the affinities of types.
 //!
-//! `name` and `literal` say what a token stands for, `affinity_of_type` what a type prefers, and `is_built` whether all of an
-//! expression is built. The definitions are those of the library sql_meaning (specs/Spelled.antt, Binding.antt and Built.antt there).
+//! `name` and `literal` say what a token stands for, and `affinity_of_type` what a type prefers. The definitions are those of the
+//! library sql_words (specs/Spelled.antt and Types.antt there).
 #![tactic(auto)]
 
-mod built;
 mod literals;
 mod names;
 mod numerals;
@@ -12,9 +11,9 @@ mod quotes;
 mod slices;
 mod types;
 
-pub use built::is_built;
 pub use literals::literal;
 pub use names::name;
 pub use numerals::is_least_magnitude;
-pub use slices::slice_of;
+pub use quotes::past_second;
+pub use slices::{inside, slice_of};
 pub use types::affinity_of_type;

@@ -1,15 +1,15 @@
 // Literals (SQL Language Expressions, section 3).
 ghost use Rattle.std.specs.Prelude.{◌≡◌, ◌<◌, ◌^◌, IfOk};
 ghost use Rattle.eng_value.specs.declared.value.Value.TheVariants as value;
-ghost use Rattle.sql_meaning.specs.Spelled.{as_text, hexadecimal_bytes, inside, kept, literal_at, literal_of, undoubled};
+ghost use Rattle.sql_words.specs.Spelled.{as_text, hexadecimal_bytes, inside, kept, literal_at, literal_of, undoubled};
 ghost use Rattle.bind_name.specs.Literals.{hexadecimal_byte};
 
 use crate::numerals::{digit_value, number_literal};
 use crate::quotes::undoubled_text;
 use crate::slices::{behind, inside, slice_of};
 use eng_value::{Blob, Cause, MAX_VALUE_BYTES, Value};
-use sql_meaning::Literal;
 use sql_tree::{Token, TokenKind};
+use sql_words::Literal;
 use std::alloc::{AllocError, Global};
 
 /// What the token of a literal in the text stands for: a value, or why it has none. Only memory can fail.

@@ -1,6 +1,6 @@
 // Names (SQLite Keywords).
 ghost use Rattle.std.specs.Prelude.{◌≡◌, IfOk};
-ghost use Rattle.sql_meaning.specs.Spelled.{as_text, name_at, name_of};
+ghost use Rattle.sql_words.specs.Spelled.{as_text, name_at, name_of};
 
 use crate::quotes::{text_of, undoubled_text};
 use crate::slices::{inside, slice_of};

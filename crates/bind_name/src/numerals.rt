@@ -4,10 +4,10 @@ ghost use Rattle.std.specs.Char.{digit_value};
 ghost use Rattle.std.specs.Str.Parse.{digits_value};
 ghost use Rattle.std.specs.List.{list_all};
 ghost use Rattle.eng_number.specs.Forms.{digits, is_digit};
-ghost use Rattle.sql_meaning.specs.Spelled.{hexadecimal_number, is_least_magnitude, number_literal, of_bits, whole_number};
+ghost use Rattle.sql_words.specs.Spelled.{hexadecimal_number, is_least_magnitude, number_literal, of_bits, whole_number};
 
 use eng_value::{Cause, Value};
-use sql_meaning::Literal;
+use sql_words::Literal;
 
 /// The value of a digit or a letter, and 36 for all else.
 pub(crate) fn digit_value(byte: u8) -> u8

@@ -1,13 +1,13 @@
 // Quotes that stand twice for one.
 ghost use Rattle.std.specs.Prelude.{◌≡◌, ◌∷◌, ◌≤◌, length, IfOk};
-ghost use Rattle.sql_meaning.specs.Spelled.{as_text, undoubled};
+ghost use Rattle.sql_words.specs.Spelled.{as_text, undoubled};
 
 use eng_value::Text;
 use std::alloc::{AllocError, Global};
 use std::str;
 
 /// What is left behind a byte: where it is a quote and the next one is too, without that one.
-pub(crate) fn past_second(quote: u8, first: u8, rest: &[u8]) -> &[u8]
+pub fn past_second(quote: u8, first: u8, rest: &[u8]) -> &[u8]
     ensures undoubled { undoubled quote (first ∷ rest.now) ≡ first ∷ undoubled quote result.now }
     ensures shorter { length result.now ≤ length rest.now }
 {

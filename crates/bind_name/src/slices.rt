@@ -1,7 +1,7 @@
 // Bytes of a text.
 ghost use Rattle.std.specs.Prelude.{◌≡◌, take, drop};
 ghost use Rattle.sql_lex.specs.Tokens.{slice_of};
-ghost use Rattle.sql_meaning.specs.Spelled.{inside};
+ghost use Rattle.sql_words.specs.Spelled.{inside};
 
 use sql_tree::Token;
 
@@ -20,7 +20,7 @@ pub(crate) fn behind(bytes: &[u8], count: usize) -> &[u8]
 }
 
 /// The bytes without the first and the last one.
-pub(crate) fn inside(bytes: &[u8]) -> &[u8]
+pub fn inside(bytes: &[u8]) -> &[u8]
     ensures { result.now ≡ inside bytes.now }
 {
     front(behind(bytes, 1), bytes.len().saturating_sub(2))

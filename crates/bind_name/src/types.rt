@@ -2,8 +2,8 @@
 ghost use Rattle.std.specs.Prelude.{◌≡◌, List, ℕ, map, is_some, codes, IfOk};
 ghost use Rattle.std.specs.List.{list_any};
 ghost use Rattle.eng_text.specs.Texts.{folded, place_of};
-ghost use Rattle.sql_meaning.specs.Binding.{affinity_of_type};
-ghost use Rattle.sql_meaning.specs.Spelled.{name_at};
+ghost use Rattle.sql_words.specs.Types.{affinity_of_type};
+ghost use Rattle.sql_words.specs.Spelled.{name_at};
 ghost use Rattle.bind_name.specs.Types.{affinity_of_folded, holds};
 
 use crate::names::name;

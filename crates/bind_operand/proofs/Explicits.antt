@@ -1,7 +1,7 @@
 -- The collation of several operands.
 use Rattle.std.proofs.Common.{◌≡◌, List, [], ◌∷◌, ◌++◌, Option, Some, None, refl}
 use Rattle.eng_value.specs.declared.collation.Collation.{Collation}
-use Rattle.sql_meaning.specs.Binding.{or_else}
+use Rattle.sql_words.specs.Refusals.{or_else}
 use Rattle.sql_bound.specs.declared.scopes.Operand.{Operand}
 use Rattle.sql_bound.specs.Operands.{first_explicit}
 

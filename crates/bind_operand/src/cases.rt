@@ -9,7 +9,7 @@ use crate::lists::{chosen_arms, matched_arms};
 use bound_tree::BoundExpr;
 use eng_value::{Cause, Value};
 use sql_bound::{ArmOperands, Operand};
-use sql_meaning::Literal;
+use sql_words::Literal;
 use sqlite_items::Items;
 use std::alloc::Global;
 

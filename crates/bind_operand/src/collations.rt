@@ -1,6 +1,7 @@
 // The collations of operands (Datatypes In SQLite, section 7.1).
 ghost use Rattle.std.specs.Prelude.{◌≡◌, [], ◌∷◌, unwrap_or};
-ghost use Rattle.sql_meaning.specs.Binding.{by_bytes, or_else};
+ghost use Rattle.sql_words.specs.Collations.{by_bytes};
+ghost use Rattle.sql_words.specs.Refusals.{or_else};
 ghost use Rattle.sql_bound.specs.Operands.{arm_parts, collation_of, collation_of_arguments, collation_of_result, first_collation, first_explicit, option_list, sides_of};
 
 use eng_value::{Built, Collation, Sides};

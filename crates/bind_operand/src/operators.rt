@@ -13,8 +13,8 @@ use eng_value::{
     Affinity, ArithmeticOp, BinaryOperator, Cause, CompareOp, IntegerOp, UnaryOperator, Value,
 };
 use sql_bound::{Form, Operand};
-use sql_meaning::Literal;
 use sql_tree::{BinaryOp, UnaryOp};
+use sql_words::Literal;
 use std::alloc::Global;
 
 /// An operator of the bound tree over its operand.

@@ -11,7 +11,7 @@ use Rattle.sql_bound.specs.Withs.{tables_bound}
 use Rattle.sql_bound.specs.declared.froms.Found.{Found}
 use Rattle.sql_bound.specs.declared.froms.QueueTable.{QueueTable}
 use Rattle.sql_bound.specs.declared.scopes.Work.{Work}
-use Rattle.sql_meaning.specs.Binding.{◌>>=◌}
+use Rattle.sql_words.specs.Refusals.{◌>>=◌}
 use Rattle.sql_tree.specs.declared.query.CommonTable.{CommonTable}
 use Rattle.sql_tree.specs.declared.query.FromItem.{FromItem}
 

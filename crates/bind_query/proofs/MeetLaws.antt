@@ -18,7 +18,7 @@ use Rattle.sql_bound.specs.declared.froms.Joining.{Joining}
 use Rattle.sql_bound.specs.declared.froms.Sourced.{Sourced}
 use Rattle.sql_bound.specs.declared.scopes.WithEntry.{WithEntry}
 use Rattle.sql_bound.specs.declared.scopes.Work.{Work}
-use Rattle.sql_meaning.specs.Binding.{◌>>=◌}
+use Rattle.sql_words.specs.Refusals.{◌>>=◌}
 
 -- an item behind those that were found
 abbrev behind : ItemParts → Option (List ℕ) → Sourced → Found → Joining × Work → Answer Found

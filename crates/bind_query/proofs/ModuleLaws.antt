@@ -20,7 +20,7 @@ use Rattle.sql_bound.specs.declared.scopes.Operand.{Operand}
 use Rattle.sql_bound.specs.declared.scopes.Standing.TheVariants.{Nowhere}
 use Rattle.sql_bound.specs.declared.scopes.WithEntry.{WithEntry}
 use Rattle.sql_bound.specs.declared.scopes.Work.{Work}
-use Rattle.sql_meaning.specs.Binding.{◌>>=◌}
+use Rattle.sql_words.specs.Refusals.{◌>>=◌}
 use Rattle.sql_tree.specs.declared.query.FromItem.{FromItem, out-FromItem}
 use Rattle.sql_tree.specs.declared.token.Token.{Token}
 

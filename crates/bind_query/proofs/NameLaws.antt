@@ -6,7 +6,7 @@ use Rattle.sql_tree.specs.declared.expr.Expr.TheOpen.{ResultColumn-F}
 use Rattle.sql_tree.specs.declared.query.ResultColumn.{ResultColumn, out-ResultColumn, roll-ResultColumn, roll-out-ResultColumn}
 use Rattle.sql_tree.specs.declared.query.SpannedExpr.{out-SpannedExpr}
 use Rattle.sql_tree.specs.Layers.{ResultLayer, of_result as layer_of}
-use Rattle.sql_meaning.specs.Spelled.{name_at}
+use Rattle.sql_words.specs.Spelled.{name_at}
 use Rattle.sql_bound.specs.Columns.{alias_named, named_in, of_alias, of_outer, of_own, seen}
 use Rattle.sql_bound.specs.Refusals.{Checked}
 use Rattle.sql_bound.specs.declared.scopes.Sight.{Sight}
@@ -17,7 +17,7 @@ use Rattle.sql_bound.specs.Trees.{of_expr, of_result}
 use Rattle.sql_bound.specs.declared.scopes.Operand.{Operand}
 use Rattle.sql_bound.specs.declared.scopes.Standing.{Standing}
 use Rattle.sql_bound.specs.declared.scopes.Work.{Work}
-use Rattle.sql_meaning.specs.Binding.{◌>>=◌}
+use Rattle.sql_words.specs.Refusals.{◌>>=◌}
 use Rattle.bind_query.specs.Scopes.{Levels, named_here, own_sight, result_called}
 
 -- ---- the own FROM comes first

@@ -1,7 +1,7 @@
 -- Parts of queries, as functions of their own bind them.
 use Rattle.std.proofs.Common.{◌≡◌, Bool, List, [], ◌∷◌, ◌++◌, length, Ok, Err, ap, ◌∙◌, refl, codes}
 use Rattle.eng_value.specs.declared.cause.Cause.{Cause}
-use Rattle.sql_meaning.specs.Binding.{◌>>=◌}
+use Rattle.sql_words.specs.Refusals.{◌>>=◌}
 use Rattle.bound_tree.specs.declared.units.BoundCompound.{BoundCompound}
 use Rattle.bound_tree.specs.declared.units.BoundTerm.{BoundTerm}
 use Rattle.sql_bound.specs.Carriers.{CompoundParts, CoreParts, Expression, PartParts, ResultParts, Select, TermParts, Values}

@@ -21,7 +21,7 @@ use Rattle.sql_bound.specs.declared.queries.Given.{Given}
 use Rattle.sql_bound.specs.declared.scopes.Asked.{Asked}
 use Rattle.sql_bound.specs.declared.scopes.ResultColumn.{ResultColumn}
 use Rattle.sql_bound.specs.declared.scopes.Work.{Work}
-use Rattle.sql_meaning.specs.Binding.{◌>>=◌}
+use Rattle.sql_words.specs.Refusals.{◌>>=◌}
 
 module _ (i : Inside) (tables name : List ℕ) (names : List (List ℕ)) (q : Written) (r : Recursive) (units : List BoundUnit) where
   abbrev repeated : Given → List BoundCompound × Work → List ResultColumn → UnitsAnswer Asked

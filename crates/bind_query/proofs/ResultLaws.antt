@@ -11,8 +11,8 @@ use Rattle.sql_tree.specs.declared.query.ResultColumn.{ResultColumn as Written}
 use Rattle.sql_tree.specs.declared.query.SpannedExpr.{SpannedExpr, out-SpannedExpr}
 use Rattle.sql_tree.specs.declared.token.Span.{Span}
 use Rattle.sql_tree.specs.declared.token.Token.{Token}
-use Rattle.sql_meaning.specs.Binding.{◌>>=◌}
-use Rattle.sql_meaning.specs.Spelled.{literal_at, name_at}
+use Rattle.sql_words.specs.Refusals.{◌>>=◌}
+use Rattle.sql_words.specs.Spelled.{literal_at, name_at}
 use Rattle.bound_tree.specs.Exprs.{BoundExpr}
 use Rattle.bound_tree.specs.declared.units.BoundKey.{BoundKey}
 use Rattle.bound_tree.specs.declared.units.BoundTerm.{BoundTerm}

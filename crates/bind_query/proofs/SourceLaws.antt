@@ -25,8 +25,8 @@ use Rattle.sql_bound.specs.declared.scopes.WithEntry.{WithEntry}
 use Rattle.sql_bound.specs.declared.scopes.WithMeaning.TheVariants.{Bound, Itself}
 use Rattle.sql_bound.specs.declared.scopes.WithMeaning.{WithMeaning}
 use Rattle.sql_bound.specs.declared.scopes.Work.{Work}
-use Rattle.sql_meaning.specs.Binding.{◌>>=◌}
-use Rattle.sql_meaning.specs.Spelled.{name_at}
+use Rattle.sql_words.specs.Refusals.{◌>>=◌}
+use Rattle.sql_words.specs.Spelled.{name_at}
 use Rattle.sql_tree.specs.declared.expr.Expr.{the_lemmas}
 use Rattle.sql_tree.specs.declared.query.FromItem.{FromItem, out-FromItem}
 use Rattle.sql_tree.specs.declared.query.Join.{Join}

@@ -18,8 +18,8 @@ use Rattle.sql_bound.specs.Trees.{depth_of, of_query, of_table}
 use Rattle.sql_bound.specs.Withs.{seeing, table_asked, table_entry, tables_bound}
 use Rattle.sql_bound.specs.declared.scopes.Asked.{Asked}
 use Rattle.sql_bound.specs.declared.scopes.WithEntry.{WithEntry}
-use Rattle.sql_meaning.specs.Binding.{◌>>=◌}
-use Rattle.sql_meaning.specs.Spelled.{name_at}
+use Rattle.sql_words.specs.Refusals.{◌>>=◌}
+use Rattle.sql_words.specs.Spelled.{name_at}
 use Rattle.sql_tree.specs.declared.expr.Expr.{the_lemmas}
 use Rattle.sql_tree.specs.declared.query.CommonTable.{CommonTable, out-CommonTable}
 use Rattle.sql_tree.specs.declared.query.Query.{Query}

@@ -1,7 +1,7 @@
 -- What is done in turn, from the definitions that put each in front of what comes behind it.
 use Rattle.std.proofs.Common.{◌≡◌, List, [], ◌∷◌, ◌++◌, Ok, Err, ap, sym, ◌∙◌, refl}
 use Rattle.std.proofs.lemmas.List.{append_assoc}
-use Rattle.sql_meaning.specs.Binding.{◌>>=◌}
+use Rattle.sql_words.specs.Refusals.{◌>>=◌}
 use Rattle.sql_bound.specs.Carriers.{ArmParts, Expression}
 use Rattle.sql_bound.specs.Expressions.{all_bound, arms_bound}
 use Rattle.sql_bound.specs.Scopes.{Answer, Scope}

@@ -1,7 +1,7 @@
 -- What is done in turn, from definitions that put each in front of what comes behind it.
 use Rattle.std.proofs.Common.{◌≡◌, List, [], ◌∷◌, ◌++◌, Ok, Err, ap, sym, ◌∙◌, refl, append_assoc}
 use Rattle.eng_value.specs.declared.cause.Cause.{Cause}
-use Rattle.sql_meaning.specs.Binding.{◌>>=◌}
+use Rattle.sql_words.specs.Refusals.{◌>>=◌}
 use Rattle.sql_bound.specs.Scopes.{Answer}
 use Rattle.sql_bound.specs.declared.scopes.Work.{Work}
 use Rattle.bind_query.specs.Turns.{in_turn}

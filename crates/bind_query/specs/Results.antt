@@ -1,6 +1,6 @@
 -- Parts of SELECTs, orders and compounds that functions of their own bind.
 use Rattle.std.specs.Prelude.{Bool, List, [], ◌∷◌, length, Some, Ok}
-use Rattle.sql_meaning.specs.Binding.{◌>>=◌}
+use Rattle.sql_words.specs.Refusals.{◌>>=◌}
 use Rattle.bound_tree.specs.declared.units.BoundCompound.{BoundCompound}
 use Rattle.bound_tree.specs.declared.units.BoundKey.{BoundKey}
 use Rattle.bound_tree.specs.declared.units.BoundTerm.{BoundTerm}

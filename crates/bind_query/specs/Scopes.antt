@@ -11,9 +11,9 @@ use Rattle.sql_tree.specs.declared.query.Query.{Query, out-Query}
 use Rattle.sql_tree.specs.declared.query.ResultColumn.{ResultColumn}
 use Rattle.sql_tree.specs.declared.query.SpannedExpr.{out-SpannedExpr}
 use Rattle.sql_tree.specs.Layers.{ResultLayer, of_result as layer_of}
-use Rattle.sql_meaning.specs.Spelled.{name_at}
+use Rattle.sql_words.specs.Spelled.{name_at}
 use Rattle.bound_tree.specs.declared.units.BoundUnit.{BoundUnit}
-use Rattle.sql_meaning.specs.Binding.{◌>>=◌}
+use Rattle.sql_words.specs.Refusals.{◌>>=◌}
 use Rattle.sql_bound.specs.Expressions.{collation_called}
 use Rattle.sql_bound.specs.Operands.{collated}
 use Rattle.sql_bound.specs.Refusals.{Checked}

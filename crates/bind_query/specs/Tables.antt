@@ -14,7 +14,7 @@ use Rattle.sql_bound.specs.Scopes.{UnitsAnswer}
 use Rattle.sql_bound.specs.declared.scopes.Asked.{Asked}
 use Rattle.sql_bound.specs.declared.scopes.ResultColumn.{ResultColumn}
 use Rattle.sql_bound.specs.declared.scopes.Work.{Work}
-use Rattle.sql_meaning.specs.Binding.{◌>>=◌}
+use Rattle.sql_words.specs.Refusals.{◌>>=◌}
 use Rattle.bind_query.specs.Scopes.{Levels, inside_of}
 use Rattle.bind_query.specs.Where.{Where}
 use Rattle.bind_query.specs.declared.tables.WithTables.{WithTables}

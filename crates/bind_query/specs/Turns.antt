@@ -1,6 +1,6 @@
 -- One after another, each over the work that those in front of it leave.
 use Rattle.std.specs.Prelude.{List, [], ◌∷◌, ◌++◌, Ok}
-use Rattle.sql_meaning.specs.Binding.{◌>>=◌}
+use Rattle.sql_words.specs.Refusals.{◌>>=◌}
 use Rattle.sql_bound.specs.Carriers.{ArmParts}
 use Rattle.sql_bound.specs.Scopes.{Answer, Scope}
 use Rattle.sql_bound.specs.declared.scopes.ArmOperands.{ArmOperands}

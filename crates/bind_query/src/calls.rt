@@ -10,7 +10,7 @@ ghost use Rattle.sql_bound.specs.Callees.{takes_arity};
 ghost use Rattle.sql_bound.specs.Expressions.{aggregate_bound, aggregate_of, bound_step, call_bound, function_bound, if_allowed, with_aggregate};
 ghost use Rattle.sql_bound.specs.Operands.{call_of, host_call_of, option_list, over};
 ghost use Rattle.sql_bound.specs.Trees.{of_expr};
-ghost use Rattle.sql_meaning.specs.Binding.{takes};
+ghost use Rattle.sql_words.specs.Builtins.{takes};
 ghost use Rattle.sql_tree.specs.declared.expr.Expr.TheOpen.{Expr-F};
 
 use crate::binding::{bind_all, bind_option};
@@ -26,8 +26,8 @@ use bind_scope::{pushed, small};
 use bound_tree::AggregateKind;
 use eng_value::{Builtin, Cause, NameKind, Text};
 use sql_bound::{Operand, ScopeItem, WithEntry, Work};
-use sql_meaning::ArgumentCount;
 use sql_tree::{Arguments, Expr, Token};
+use sql_words::ArgumentCount;
 use sqlite_items::{Boxed, Items};
 use std::alloc::Global;
 

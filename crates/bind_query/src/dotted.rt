@@ -2,12 +2,12 @@
 ghost use Rattle.std.specs.Prelude.{◌≡◌, IfOk};
 ghost use Rattle.sql_bound.specs.Answers.{OnlyMem};
 ghost use Rattle.sql_bound.specs.Expressions.{text_at};
-ghost use Rattle.sql_meaning.specs.Binding.{dotted};
+ghost use Rattle.sql_words.specs.Names.{dotted};
 
 use bind_name::literal;
 use eng_value::{Cause, Text, Value};
-use sql_meaning::Literal;
 use sql_tree::{Token, TokenKind};
+use sql_words::Literal;
 use std::alloc::{AllocError, Global};
 
 /// A table's name and a column's, with a point between them.

@@ -4,7 +4,7 @@ ghost use Rattle.bound_tree.specs.Exprs as e;
 ghost use Rattle.sql_bound.specs.Answers.{Answers, OnlyMem, Refuses};
 ghost use Rattle.sql_bound.specs.Expressions.{if_allowed, text_at};
 ghost use Rattle.sql_bound.specs.Operands.{over};
-ghost use Rattle.sql_meaning.specs.Spelled.{name_at};
+ghost use Rattle.sql_words.specs.Spelled.{name_at};
 ghost use Rattle.std.specs.Prelude.{[], Ok, unwrap_or};
 ghost use Rattle.eng_value.specs.declared.cause.Cause.TheVariants as cause;
 

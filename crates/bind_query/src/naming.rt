@@ -5,8 +5,8 @@ ghost use Rattle.std.specs.Option.{option_copied};
 ghost use Rattle.bind_query.specs.Scopes.{own_sight, result_called, scope_of};
 ghost use Rattle.sql_bound.specs.Answers.{Answers, Comes, OnlyMem, Refuses};
 ghost use Rattle.sql_bound.specs.Columns.{called_column_bound, column_bound, of_outer, of_own};
-ghost use Rattle.sql_meaning.specs.Binding.{dotted};
-ghost use Rattle.sql_meaning.specs.Spelled.{name_at};
+ghost use Rattle.sql_words.specs.Names.{dotted};
+ghost use Rattle.sql_words.specs.Spelled.{name_at};
 ghost use Rattle.eng_value.specs.declared.cause.Cause.TheVariants as cause;
 ghost use Rattle.eng_value.specs.declared.cause.NameKind.TheVariants as kind;
 

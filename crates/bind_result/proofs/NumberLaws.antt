@@ -12,8 +12,8 @@ use Rattle.sql_tree.specs.declared.query.ResultColumn.TheVariants.{rolls-All, ro
 use Rattle.sql_tree.specs.declared.query.ResultColumn.TheVariants as column
 use Rattle.sql_tree.specs.declared.query.SpannedExpr.{SpannedExpr, out-SpannedExpr}
 use Rattle.sql_tree.specs.declared.token.Token.{Token}
-use Rattle.sql_meaning.specs.Binding.{◌>>=◌}
-use Rattle.sql_meaning.specs.Spelled.{name_at}
+use Rattle.sql_words.specs.Refusals.{◌>>=◌}
+use Rattle.sql_words.specs.Spelled.{name_at}
 use Rattle.sql_bound.specs.Carriers.{All, AllOf, Binding, Expression, One, ResultParts}
 use Rattle.sql_bound.specs.Orders.{is_given, place_given}
 use Rattle.sql_bound.specs.Refusals.{Checked}

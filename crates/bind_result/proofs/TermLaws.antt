@@ -10,7 +10,7 @@ use Rattle.sql_tree.specs.declared.expr.TypeName.{TypeName}
 use Rattle.sql_tree.specs.declared.expr.UnaryOp.{UnaryOp}
 use Rattle.sql_tree.specs.declared.query.Query.{Query}
 use Rattle.sql_tree.specs.declared.token.Token.{Token}
-use Rattle.sql_meaning.specs.Binding.{◌>>=◌}
+use Rattle.sql_words.specs.Refusals.{◌>>=◌}
 use Rattle.bound_tree.specs.declared.units.BoundTerm.{BoundTerm}
 use Rattle.sql_bound.specs.Carriers.{Name, Number, Other, Term, TermParts}
 use Rattle.sql_bound.specs.Expressions.{literal_term}
@@ -19,7 +19,7 @@ use Rattle.sql_bound.specs.Refusals.{Checked}
 use Rattle.sql_bound.specs.Results.{at_place, place_named}
 use Rattle.sql_bound.specs.Trees.{of_expr}
 use Rattle.sql_bound.specs.declared.scopes.ResultColumn.{ResultColumn}
-use Rattle.sql_meaning.specs.Spelled.{literal_at, name_at}
+use Rattle.sql_words.specs.Spelled.{literal_at, name_at}
 use Rattle.bind_result.specs.Terms.{by_place, collected, compound_place, named_place, numbered_place, place_there}
 use Rattle.bind_result.specs.declared.orders.TermPlace.TheVariants.{At, Nowhere, Else}
 use Rattle.bind_result.specs.declared.orders.TermPlace.{TermPlace}

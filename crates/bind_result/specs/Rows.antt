@@ -1,6 +1,6 @@
 -- Rows of VALUES, one by one (values_bound and rows_behind of Compounds.antt, for what binds nothing).
 use Rattle.std.specs.Prelude.{◌≡◌, List, [], ◌∷◌, ◌++◌, map, length, Ok, codes, refl}
-use Rattle.sql_meaning.specs.Binding.{◌>>=◌}
+use Rattle.sql_words.specs.Refusals.{◌>>=◌}
 use Rattle.bound_tree.specs.declared.units.BoundPart.TheVariants.{Values}
 use Rattle.sql_bound.specs.Compounds.{trees_in, values_columns, values_given, width_fits}
 use Rattle.sql_bound.specs.Refusals.{Checked}

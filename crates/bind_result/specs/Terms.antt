@@ -1,7 +1,7 @@
 -- Terms of GROUP BY and ORDER BY as wholes, and the results that they name.
 use Rattle.std.specs.Prelude.{ℕ, List, [], ◌∷◌, ◌++◌, slice_get, Option, Some, None, Ok}
-use Rattle.sql_meaning.specs.Spelled.{literal_at, name_at}
-use Rattle.sql_meaning.specs.Binding.{◌>>=◌}
+use Rattle.sql_words.specs.Spelled.{literal_at, name_at}
+use Rattle.sql_words.specs.Refusals.{◌>>=◌}
 use Rattle.bound_tree.specs.declared.units.BoundTerm.{BoundTerm}
 use Rattle.sql_bound.specs.Carriers.{Name, Number, Other, Term, TermParts}
 use Rattle.sql_bound.specs.Groups.{grouped_checked}

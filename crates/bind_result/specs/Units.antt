@@ -1,6 +1,6 @@
 -- Groups and units, by the plain data that they are made of (groups_of of Cores.antt, query_unit of Queries.antt).
 use Rattle.std.specs.Prelude.{◌≡◌, ℕ, Bool, true, List, length, Option, Some, None, Ok, refl, if◌then◌else◌}
-use Rattle.sql_meaning.specs.Binding.{◌>>=◌}
+use Rattle.sql_words.specs.Refusals.{◌>>=◌}
 use Rattle.bound_tree.specs.Exprs.{BoundExpr}
 use Rattle.bound_tree.specs.declared.units.BoundAggregate.{BoundAggregate}
 use Rattle.bound_tree.specs.declared.units.BoundGroups.{BoundGroups}

@@ -1,6 +1,6 @@
 // Compounds: their order, and the collations by which their parts are compared (SELECT, sections 3 and 4).
 ghost use Rattle.std.specs.Prelude.{◌≡◌, map, drop, IfOk};
-ghost use Rattle.sql_meaning.specs.Spelled.{name_at};
+ghost use Rattle.sql_words.specs.Spelled.{name_at};
 ghost use Rattle.sql_bound.specs.Answers.{Answers, OnlyMem};
 ghost use Rattle.sql_bound.specs.Compounds.{compound_with};
 ghost use Rattle.sql_bound.specs.Orders.{compound_term, terms_of_compound};

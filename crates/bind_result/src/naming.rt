@@ -2,8 +2,8 @@
 ghost use Rattle.std.specs.Prelude.{◌≡◌, ◌++◌, ◌∷◌, [], IfOk, OnOk, unwrap_or};
 ghost use Rattle.eng_value.specs.declared.cause.Cause.TheVariants as cause;
 ghost use Rattle.eng_value.specs.declared.cause.NameKind.TheVariants as kind;
-ghost use Rattle.sql_meaning.specs.Binding.{or_else};
-ghost use Rattle.sql_meaning.specs.Spelled.{as_text};
+ghost use Rattle.sql_words.specs.Refusals.{or_else};
+ghost use Rattle.sql_words.specs.Spelled.{as_text};
 ghost use Rattle.sql_bound.specs.Answers.{OnlyMem, Refuses};
 ghost use Rattle.sql_bound.specs.Results.{given_name, one_shown, result_column, text_of, with_result};
 ghost use Rattle.sql_bound.specs.Trees.{of_spanned};

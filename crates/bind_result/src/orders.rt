@@ -1,7 +1,7 @@
 // ORDER BY of one SELECT, but for its expressions (SELECT, section 4).
 ghost use Rattle.std.specs.Prelude.{◌≡◌, map, IfOk, unwrap_or};
-ghost use Rattle.sql_meaning.specs.Binding.{by_bytes};
-ghost use Rattle.sql_meaning.specs.Spelled.{name_at};
+ghost use Rattle.sql_words.specs.Collations.{by_bytes};
+ghost use Rattle.sql_words.specs.Spelled.{name_at};
 ghost use Rattle.sql_bound.specs.Answers.{Answers, OnlyMem};
 ghost use Rattle.sql_bound.specs.Operands.{collation_of};
 ghost use Rattle.sql_bound.specs.Orders.{by_result, expression_term, place_given};

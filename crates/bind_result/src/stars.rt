@@ -1,6 +1,6 @@
 // Results that stars show (SELECT, section 2.4).
 ghost use Rattle.std.specs.Prelude.{◌≡◌, IfOk};
-ghost use Rattle.sql_meaning.specs.Spelled.{name_at};
+ghost use Rattle.sql_words.specs.Spelled.{name_at};
 ghost use Rattle.bind_column.specs.Stars.{all_of, those_of};
 ghost use Rattle.bind_result.specs.Shows.{Changes, column_put, columns_put, star_put};
 

@@ -1,7 +1,7 @@
 // What GROUP BY and ORDER BY ask of a term as a whole (SELECT, sections 2.3 and 4).
 ghost use Rattle.std.specs.Prelude.{◌≡◌, IfOk};
 ghost use Rattle.sql_bound.specs.Answers.{OnlyMem};
-ghost use Rattle.sql_meaning.specs.Spelled.{literal_at};
+ghost use Rattle.sql_words.specs.Spelled.{literal_at};
 ghost use Rattle.sql_bound.specs.Expressions.{literal_term};
 ghost use Rattle.sql_bound.specs.Results.{place_named};
 ghost use Rattle.sql_bound.specs.Trees.{of_expr};

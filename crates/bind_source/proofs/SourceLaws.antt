@@ -9,7 +9,7 @@ use Rattle.sql_bound.specs.Froms.{declared_source, of_table}
 use Rattle.sql_bound.specs.Lasting.{collations_kept}
 use Rattle.sql_bound.specs.Scopes.{Around, Outer}
 use Rattle.sql_bound.specs.declared.froms.Sourced.{Sourced}
-use Rattle.sql_meaning.specs.Binding.{◌>>=◌}
+use Rattle.sql_words.specs.Refusals.{◌>>=◌}
 
 pub kept-is : (o : Outer) (around : Around) (name : List ℕ) (entry : Entry) (table : TableDefinition) (r : Result Sourced Cause) → o.around ≡ around → collations_kept around entry table ≡ Ok tt
     → IfOk r (λ s. s ≡ declared_source o entry (declared_table around.facts entry.text table)) → OnlyMem r → Answers (of_table o name entry (Some table)) r

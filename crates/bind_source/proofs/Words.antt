@@ -4,7 +4,7 @@ use Rattle.eng_text.specs.Texts.{folded}
 use Rattle.eng_value.specs.declared.affinity.Affinity.TheVariants as affinity
 use Rattle.bind_name.specs.Types.{affinity_of_folded}
 use Rattle.bind_name.proofs.Affinities.{affinity_of_folded_is}
-use Rattle.sql_meaning.specs.Binding.{affinity_of_words}
+use Rattle.sql_words.specs.Types.{affinity_of_words}
 use Rattle.sql_bound.specs.Declarations.{is_empty}
 
 pub word-none : (w : List ℕ) → w ≡ [] → affinity_of_words (filter (λ (word : List ℕ). not (is_empty word)) (w ∷ [])) ≡ affinity.Blob

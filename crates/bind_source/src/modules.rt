@@ -11,7 +11,7 @@ ghost use Rattle.sql_bound.specs.Declarations.{is_empty};
 ghost use Rattle.sql_bound.specs.Froms.{arguments_fit, columns_told, hidden_columns, is_hidden, module_column, module_source, module_there, without_arguments};
 ghost use Rattle.sql_bound.specs.HostFacts.{facts_of};
 ghost use Rattle.sql_bound.specs.Limits.{within_columns};
-ghost use Rattle.sql_meaning.specs.Binding.{affinity_of_words};
+ghost use Rattle.sql_words.specs.Types.{affinity_of_words};
 
 use bind_entry::{copied, host_module, or_bytes, put, told_columns};
 use bound_tree::{BoundColumn, BoundExpr, BoundSource};

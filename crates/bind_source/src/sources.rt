@@ -10,7 +10,7 @@ ghost use Rattle.sql_bound.specs.Froms.{as_column, as_columns, declared_source, 
 ghost use Rattle.sql_bound.specs.HostFacts.{facts_of};
 ghost use Rattle.sql_bound.specs.Operands.{collation_of_result};
 ghost use Rattle.sql_bound.specs.Scopes.{Outer};
-ghost use Rattle.sql_meaning.specs.Binding.{or_else};
+ghost use Rattle.sql_words.specs.Refusals.{or_else};
 
 use bind_entry::{
     Declared, collations_kept, copied, declared_table, indexes_of, or_bytes, put, table_of,

@@ -1,3 +1,4 @@
+pub mod BuiltLaws
 pub mod Results
 pub mod TableNames
 pub mod Listing

@@ -7,7 +7,7 @@ use Rattle.eng_value.specs.declared.cause.Cause.{Cause}
 use Rattle.sql_meaning.specs.declared.bound.BoundExpr.{BoundExpr}
 use Rattle.sql_meaning.specs.declared.bound.BoundExpr.TheVariants as e
 use Rattle.sql_meaning.specs.declared.column.Column.{Column}
-use Rattle.sql_meaning.specs.Binding.{◌>>=◌, in_turn}
+use Rattle.sql_words.specs.Refusals.{◌>>=◌, in_turn}
 use Rattle.sql_meaning.specs.Statement.{columns_from, places_for}
 use Rattle.sql_meaning.specs.declared.bound.PutColumn.{PutColumn}
 use Rattle.bind_stmt.specs.Binds.{put_columns}

@@ -8,7 +8,7 @@ use Rattle.sql_tree.specs.declared.statement.InsertSource.TheVariants as source
 use Rattle.sql_meaning.specs.declared.bound.BoundExpr.{BoundExpr}
 use Rattle.sql_meaning.specs.declared.bound.BoundInsert.{BoundInsert}
 use Rattle.sql_meaning.specs.declared.column.TableEntry.{TableEntry}
-use Rattle.sql_meaning.specs.Binding.{◌>>=◌}
+use Rattle.sql_words.specs.Refusals.{◌>>=◌}
 use Rattle.sql_meaning.specs.BoundStatements.{Put}
 use Rattle.sql_meaning.specs.Statement.{fitting, places_for, put_from, values_for}
 use Rattle.bind_stmt.specs.Binds.{AnswersBy, IsPutAs, put_columns}

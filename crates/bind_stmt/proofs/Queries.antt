@@ -7,7 +7,8 @@ use Rattle.sql_tree.specs.declared.query.FromItem.{FromItem}
 use Rattle.sql_meaning.specs.declared.bound.BoundExpr.{BoundExpr}
 use Rattle.sql_meaning.specs.declared.bound.BoundSelect.{BoundSelect}
 use Rattle.sql_meaning.specs.declared.column.TableEntry.{TableEntry}
-use Rattle.sql_meaning.specs.Binding.{◌>>=◌, Scope}
+use Rattle.sql_words.specs.Refusals.{◌>>=◌}
+use Rattle.sql_meaning.specs.Binding.{Scope}
 use Rattle.sql_meaning.specs.Statement.{bare_scope, conjuncts_of, filter_scope, from_scope, item_scope, items_from, query_in, results_behind, select_bound}
 use Rattle.bind_stmt.specs.Binds.{AnswersBy, IsFrom, IsQueryAs}
 use Rattle.bind_stmt.proofs.Results.{goes_on}

@@ -2,7 +2,7 @@
 use Rattle.std.specs.Prelude.{◌≡◌, Result, Ok, Err, refl}
 use Rattle.std.proofs.Common.{ap}
 use Rattle.eng_value.specs.declared.cause.Cause.{Cause}
-use Rattle.sql_meaning.specs.Binding.{◌>>=◌}
+use Rattle.sql_words.specs.Refusals.{◌>>=◌}
 
 -- what follows what was found
 pub goes_on : {A B : Type 0} (r : Result A Cause) (a : A) (f : A → Result B Cause) → r ≡ Ok a → (r >>= f) ≡ f a

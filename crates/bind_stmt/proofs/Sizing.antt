@@ -34,9 +34,10 @@ use Rattle.sql_meaning.specs.declared.bound.BoundExpr.{BoundExpr}
 use Rattle.sql_meaning.specs.declared.bound.BoundSelect.{BoundSelect}
 use Rattle.sql_meaning.specs.declared.column.Column.{Column}
 use Rattle.sql_meaning.specs.declared.column.TableEntry.{TableEntry}
-use Rattle.sql_meaning.specs.Binding.{◌>>=◌, Scope, bound_of, in_turn}
+use Rattle.sql_words.specs.Refusals.{◌>>=◌, in_turn}
+use Rattle.sql_meaning.specs.Binding.{Scope, bound_of}
 use Rattle.sql_meaning.specs.Sizes.{all_nodes, nodes_of}
-use Rattle.sql_meaning.specs.Spelled.{name_at}
+use Rattle.sql_words.specs.Spelled.{name_at}
 use Rattle.sql_meaning.specs.Statement.{all_columns, all_columns_of, bare_scope, columns_from, command_bound, conjuncts_of, created, dropped, entry_with, filter_scope, fitting, from_scope, item_scope, is_free_name, items_from, part_bound, places_for, places_named, put_bound, put_from, query_in, result_of, result_shown, results_behind, results_given, row_of, rows_bound, rows_in, select_bound, shown_name, source_table, table_named, trees_in, values_for, width_of}
 use Rattle.bind_expr.proofs.SizeLaws.{all_nodes-append, conjunct_nodes, nodes-Column, tree_nodes}
 use Rattle.bind_stmt.specs.declared.statement.Bound.{Bound}

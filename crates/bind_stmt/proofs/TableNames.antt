@@ -4,16 +4,16 @@ use Rattle.eng_value.specs.declared.cause.Cause.{Cause}
 use Rattle.eng_value.specs.declared.cause.Cause.TheVariants as cause
 use Rattle.eng_value.specs.declared.cause.NameKind.TheVariants as named
 use Rattle.sql_meaning.specs.Declarations.{table_called}
-use Rattle.sql_meaning.specs.Names.{is_reserved_name}
+use Rattle.sql_words.specs.Names.{is_reserved_name}
 use Rattle.sql_meaning.specs.declared.column.TableEntry.{TableEntry}
 use Rattle.sql_tree.specs.declared.statement.Create.{Create}
 use Rattle.sql_tree.specs.declared.statement.Remove.{Remove}
 use Rattle.sql_tree.specs.declared.statement.Statement.{Statement}
-use Rattle.sql_meaning.specs.Binding.{◌>>=◌}
+use Rattle.sql_words.specs.Refusals.{◌>>=◌}
 use Rattle.sql_meaning.specs.BoundStatements.{Creates, DoesNothing, Drops}
 use Rattle.sql_meaning.specs.Built.{is_table}
 use Rattle.sql_meaning.specs.Declarations.{columns_of_definition}
-use Rattle.sql_meaning.specs.Spelled.{name_at}
+use Rattle.sql_words.specs.Spelled.{name_at}
 use Rattle.sql_meaning.specs.declared.column.Column.{Column}
 use Rattle.sql_meaning.specs.Statement.{create_bound, created, drop_bound, dropped, entry_with, found_table, is_free_name, is_new_table, table_named}
 use Rattle.bind_stmt.proofs.Results.{goes_on}

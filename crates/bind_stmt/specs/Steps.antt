@@ -4,7 +4,8 @@ use Rattle.eng_value.specs.declared.cause.Cause.{Cause}
 use Rattle.sql_tree.specs.declared.expr.Expr.{Expr}
 use Rattle.sql_tree.specs.declared.query.ResultColumn.{ResultColumn}
 use Rattle.sql_meaning.specs.declared.bound.BoundExpr.{BoundExpr}
-use Rattle.sql_meaning.specs.Binding.{◌>>=◌, Scope, bound_of}
+use Rattle.sql_words.specs.Refusals.{◌>>=◌}
+use Rattle.sql_meaning.specs.Binding.{Scope, bound_of}
 use Rattle.sql_meaning.specs.Declarations.{within_columns}
 use Rattle.sql_meaning.specs.BoundStatements.{BoundStatement, Queries, Query, Shows}
 use Rattle.sql_meaning.specs.Statement.{item_scope, query_in, result_of, rows_in, select_bound}

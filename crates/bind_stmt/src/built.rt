@@ -4,7 +4,7 @@ ghost use Rattle.std.specs.List.{list_all};
 ghost use Rattle.sql_meaning.specs.Built.{are_built_rows, is_built, is_built_column, is_built_command, is_built_create, is_built_definition, is_built_filter, is_built_from, is_built_insert, is_built_item, is_built_part, is_built_query, is_built_result, is_built_rows, is_built_rows_source, is_built_select, is_built_source, is_built_table, is_built_values, is_built_row, is_plain_select, is_table, stands_alone};
 ghost use Rattle.sql_tree.specs.Layers.{of_item, of_part, of_query, of_result, of_select, of_source};
 
-use bind_expr::is_built as is_built_expr;
+use crate::built_expressions::is_built as is_built_expr;
 use sql_tree::{
     ColumnDefinition, Command, ConflictChoice, Create, Definition, Expr, FromItem, Insert,
     InsertSource, ObjectKind, Query, QueryPart, ResultColumn, RowCommand, SelectCore, Source,

@@ -2,8 +2,9 @@
 ghost use Rattle.std.specs.Prelude.{◌≡◌, ℕ, [], IfOk};
 ghost use Rattle.bind_stmt.specs.Binds.{Answers, AnswersBy, IsBound};
 ghost use Rattle.bind_stmt.specs.Steps.{Becomes};
-ghost use Rattle.sql_meaning.specs.Names.{is_reserved_name};
-ghost use Rattle.sql_meaning.specs.Declarations.{column_named, columns_behind, columns_of_definition, declared_affinity, is_new_column, type_affinity, with_column};
+ghost use Rattle.sql_words.specs.Names.{is_reserved_name};
+ghost use Rattle.sql_words.specs.Types.{type_affinity};
+ghost use Rattle.sql_meaning.specs.Declarations.{column_named, columns_behind, columns_of_definition, declared_affinity, is_new_column, with_column};
 ghost use Rattle.sql_meaning.specs.Statement.{create_bound, is_free_name};
 ghost use Rattle.sql_tree.specs.declared.statement.Statement.{Statement};
 ghost use Rattle.sql_tree.specs.declared.statement.Command.TheVariants as Command;

@@ -3,8 +3,8 @@ ghost use Rattle.std.specs.Prelude.{◌≡◌, [], ◌∷◌, None, map, IfErr, 
 ghost use Rattle.std.specs.List.{range_with_len};
 ghost use Rattle.bind_stmt.specs.Binds.{Answers, AnswersBy, FitsOrNot, IsPutAs, put_columns};
 ghost use Rattle.eng_value.specs.declared.cause.Cause.TheVariants as cause;
-ghost use Rattle.sql_meaning.specs.Binding.{in_turn};
-ghost use Rattle.sql_meaning.specs.Spelled.{name_at};
+ghost use Rattle.sql_words.specs.Refusals.{in_turn};
+ghost use Rattle.sql_words.specs.Spelled.{name_at};
 ghost use Rattle.sql_meaning.specs.Statement.{place_named, places_for, places_named, put_bound, put_from, values_for, width_of};
 ghost use Rattle.sql_tree.specs.Layers.{of_part};
 

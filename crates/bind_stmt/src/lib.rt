@@ -6,6 +6,7 @@
 #![tactic(auto)]
 
 mod built;
+mod built_expressions;
 mod creating;
 mod dropping;
 mod inserting;

@@ -1,7 +1,8 @@
 // PRAGMA.
 ghost use Rattle.std.specs.Prelude.{◌≡◌};
 ghost use Rattle.bind_stmt.specs.Binds.{AnswersBy, IsBound};
-ghost use Rattle.sql_meaning.specs.Statement.{is_off, pragma_bound};
+ghost use Rattle.sql_words.specs.Spelled.{is_off};
+ghost use Rattle.sql_meaning.specs.Statement.{pragma_bound};
 
 use crate::statement::Bound;
 use bind_expr::{name, slice_of};

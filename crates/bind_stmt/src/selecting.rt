@@ -3,7 +3,7 @@ ghost use Rattle.std.specs.Prelude.{◌≡◌, ◌++◌, [], IfOk, OnOk, option_
 ghost use Rattle.std.specs.Option.{option_copied};
 ghost use Rattle.bind_stmt.specs.Binds.{Answers, AnswersBy, IsBound, IsQueryAs};
 ghost use Rattle.bind_stmt.specs.Steps.{Becomes, behind, expression_shown, listed, select_over, selected, shown_behind};
-ghost use Rattle.sql_meaning.specs.Spelled.{name_at};
+ghost use Rattle.sql_words.specs.Spelled.{name_at};
 ghost use Rattle.sql_meaning.specs.Statement.{all_columns, all_columns_of, columns_from, conjuncts_of, filter_scope, part_bound, query_bound, query_in, result_given, result_of, results_behind, results_given, select_bound, shown_name, source_table};
 ghost use Rattle.sql_meaning.specs.declared.column.TableEntry.{TableEntry as Declared};
 ghost use Rattle.sql_tree.specs.Layers.{of_item, of_part, of_query, of_result, of_select, of_source};

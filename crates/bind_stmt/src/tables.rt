@@ -3,7 +3,7 @@ ghost use Rattle.std.specs.Prelude.{◌≡◌, IfOk, is_some};
 ghost use Rattle.std.specs.Option.{option_copied};
 ghost use Rattle.bind_stmt.specs.Binds.{AnswersBy};
 ghost use Rattle.sql_meaning.specs.Declarations.{table_called};
-ghost use Rattle.sql_meaning.specs.Spelled.{name_at};
+ghost use Rattle.sql_words.specs.Spelled.{name_at};
 ghost use Rattle.sql_meaning.specs.Statement.{table_named};
 
 use bind_expr::name;

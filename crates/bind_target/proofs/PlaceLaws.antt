@@ -3,7 +3,7 @@ use Rattle.std.proofs.Common.{◌≡◌, ℕ, ◌+◌, ◌-◌, ◌≤◌, List,
 use Rattle.std.proofs.lemmas.List.{take_rest}
 use Rattle.sql_bound.specs.Limits.{walked}
 use Rattle.sql_bound.specs.Refusals.{Checked}
-use Rattle.sql_meaning.specs.Binding.{◌>>=◌}
+use Rattle.sql_words.specs.Refusals.{◌>>=◌}
 
 walk-passed : {A B : Type 0} (f : A → B → Checked B) (x : A) (xs : List A) (n m : ℕ) (b c : B) → n ≡ m + 1 → f x b ≡ Ok c → walked f n (x ∷ xs) b ≡ walked f m xs c
 walk-passed f x xs n m b c more passed =

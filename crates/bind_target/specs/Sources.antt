@@ -4,7 +4,7 @@ use Rattle.sql_bound.specs.Froms.{columns_told, module_source}
 use Rattle.sql_bound.specs.Refusals.{Checked}
 use Rattle.sql_bound.specs.Scopes.{Facts}
 use Rattle.sql_bound.specs.declared.froms.Sourced.{Sourced}
-use Rattle.sql_meaning.specs.Binding.{◌>>=◌}
+use Rattle.sql_words.specs.Refusals.{◌>>=◌}
 
 -- a table of a module without arguments
 abbrev pub module_given : Facts → List ℕ → List ℕ → ℕ → Checked Sourced

@@ -6,7 +6,7 @@ ghost use Rattle.bound_tree.specs.Same.{both_same};
 ghost use Rattle.std.specs.Prelude.{nat_eq, Some};
 ghost use Rattle.sql_bound.specs.Answers.{OnlyMem};
 ghost use Rattle.sql_bound.specs.Targets.{can_fire, fires_at, is_same_column, place_written, sets_one_of};
-ghost use Rattle.sql_meaning.specs.Spelled.{name_at};
+ghost use Rattle.sql_words.specs.Spelled.{name_at};
 
 use crate::places::place_written;
 use bind_entry::{name, trigger_of};

@@ -10,7 +10,7 @@ ghost use Rattle.eng_value.specs.declared.cause.LimitKind.TheVariants as limit;
 ghost use Rattle.sql_bound.specs.Scopes.{is_rowid_name};
 ghost use Rattle.sql_bound.specs.Targets.{found_place, place_written, rowid_place};
 ghost use Rattle.sql_bound.specs.Writes.{listed_place, places_named, shown_places};
-ghost use Rattle.sql_meaning.specs.Spelled.{name_at};
+ghost use Rattle.sql_words.specs.Spelled.{name_at};
 ghost use Rattle.bind_target.specs.Places.{LeavesAt};
 
 use crate::written::Target;

@@ -12,7 +12,7 @@ use Rattle.sql_bound.specs.Refusals.{Checked}
 use Rattle.sql_bound.specs.declared.froms.Found.{Found}
 use Rattle.sql_bound.specs.declared.froms.Sourced.{Sourced}
 use Rattle.sql_bound.specs.declared.scopes.Work.{Work}
-use Rattle.sql_meaning.specs.Binding.{◌>>=◌}
+use Rattle.sql_words.specs.Refusals.{◌>>=◌}
 
 module _ (i : Inside) (name : List ℕ) (entry : Entry) (args : List Expression) (f : Found) (w : Work) where
   rest : Unit {0} → Checked (Sourced × Work)

@@ -14,8 +14,8 @@ use Rattle.sql_bound.specs.declared.scopes.WithEntry.{WithEntry}
 use Rattle.sql_bound.specs.declared.scopes.WithMeaning.TheVariants.{Bound, Itself}
 use Rattle.sql_bound.specs.declared.scopes.WithMeaning.{WithMeaning}
 use Rattle.sql_bound.specs.declared.scopes.Work.{Work}
-use Rattle.sql_meaning.specs.Binding.{◌>>=◌}
-use Rattle.sql_meaning.specs.Spelled.{name_at}
+use Rattle.sql_words.specs.Refusals.{◌>>=◌}
+use Rattle.sql_words.specs.Spelled.{name_at}
 use Rattle.sql_tree.specs.declared.statement.ViewDefinition.{ViewDefinition}
 
 -- the rows of a WITH table by its unit, where so many FROMs are around the query

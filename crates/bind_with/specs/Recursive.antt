@@ -8,7 +8,7 @@ use Rattle.sql_bound.specs.Recursions.{Recursive, is_itself}
 use Rattle.sql_bound.specs.Scopes.{with_named}
 use Rattle.sql_bound.specs.Trees.{of_compound, of_core}
 use Rattle.sql_bound.specs.declared.scopes.WithEntry.{WithEntry}
-use Rattle.sql_meaning.specs.Spelled.{name_at}
+use Rattle.sql_words.specs.Spelled.{name_at}
 use Rattle.sql_tree.specs.Layers.{PartLayer, SourceLayer, of_part, of_source}
 use Rattle.sql_tree.specs.declared.expr.Expr.TheOpen.{QueryPart-F, Source-F}
 use Rattle.sql_tree.specs.declared.query.CompoundOp.TheVariants as op

@@ -4,7 +4,7 @@ ghost use Rattle.bind_with.specs.Parts.{arguments_of};
 ghost use Rattle.eng_value.specs.declared.cause.Cause.TheVariants as cause;
 ghost use Rattle.sql_bound.specs.Answers.{OnlyMem, Refuses};
 ghost use Rattle.sql_bound.specs.Froms.{called_by};
-ghost use Rattle.sql_meaning.specs.Spelled.{name_at};
+ghost use Rattle.sql_words.specs.Spelled.{name_at};
 
 use bind_entry::name;
 use bind_scope::{copied_text, pushed, text_of};

@@ -9,7 +9,7 @@ ghost use Rattle.sql_bound.specs.Answers.{OnlyMem};
 ghost use Rattle.sql_bound.specs.Recursions.{is_itself, recursive_in};
 ghost use Rattle.sql_bound.specs.Scopes.{Outer, with_named};
 ghost use Rattle.sql_bound.specs.Trees.{of_compound};
-ghost use Rattle.sql_meaning.specs.Spelled.{name_at};
+ghost use Rattle.sql_words.specs.Spelled.{name_at};
 ghost use Rattle.sql_tree.specs.Layers.{of_part, of_source};
 ghost use Rattle.sql_tree.specs.declared.query.CompoundPart.{out-CompoundPart};
 ghost use Rattle.sql_tree.specs.declared.query.SelectCore.{out-SelectCore};

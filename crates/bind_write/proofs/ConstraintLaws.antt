@@ -18,7 +18,7 @@ use Rattle.sql_bound.specs.declared.facts.HostFacts.{HostFacts}
 use Rattle.sql_bound.specs.declared.scopes.Allowed.{Allowed}
 use Rattle.sql_bound.specs.declared.scopes.Operand.{Operand}
 use Rattle.sql_bound.specs.declared.scopes.Work.{Work}
-use Rattle.sql_meaning.specs.Binding.{◌>>=◌}
+use Rattle.sql_words.specs.Refusals.{◌>>=◌}
 use Rattle.sql_tree.specs.declared.expr.Expr.{Expr}
 use Rattle.sql_tree.specs.declared.statement.ColumnDefinition.{ColumnDefinition}
 use Rattle.sql_tree.specs.declared.statement.TableConstraint.{TableConstraint}

@@ -3,7 +3,7 @@ use Rattle.std.proofs.Common.{◌≡◌, ℕ, ◌+◌, ◌<◌, ◌≤◌, List,
 use Rattle.std.proofs.lemmas.List.{at_drop_all, at_drop_more}
 use Rattle.eng_value.specs.declared.cause.Cause.{Cause}
 use Rattle.sql_bound.specs.Refusals.{Checked}
-use Rattle.sql_meaning.specs.Binding.{◌>>=◌}
+use Rattle.sql_words.specs.Refusals.{◌>>=◌}
 
 module _ {A B : Type 0} (fold : List A → B → Checked B) (step : A → B → Checked B) (split : (x : A) (xs : List A) (b : B) → fold (x ∷ xs) b ≡ (step x b >>= λ c. fold xs c)) where
   pub fold-passed : (xs : List A) (i : ℕ) (d : A) (b c : B) → i < length xs → step (get_or xs i d) b ≡ Ok c → fold (drop i xs) b ≡ fold (drop (i + 1) xs) c

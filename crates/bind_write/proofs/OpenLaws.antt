@@ -19,7 +19,7 @@ use Rattle.sql_bound.specs.Trees.{of_option, of_query, of_rows, of_trigger}
 use Rattle.sql_bound.specs.Triggers.{condition_bound, event_of, header_of, opened_now, opening, opening_of, outer_of as outer_in, place_of_trigger, rows_seen, step_bound, steps_bound, trigger_at_place, trigger_of, with_trigger}
 use Rattle.sql_bound.specs.Writes.{Opened, Opening}
 use Rattle.sql_bound.specs.declared.froms.Sourced.{Sourced}
-use Rattle.sql_meaning.specs.Binding.{◌>>=◌}
+use Rattle.sql_words.specs.Refusals.{◌>>=◌}
 use Rattle.sql_tree.specs.declared.query.Query.{Query}
 use Rattle.sql_tree.specs.declared.statement.RowCommand.TheVariants as command
 use Rattle.sql_tree.specs.declared.statement.RowCommand.{RowCommand}

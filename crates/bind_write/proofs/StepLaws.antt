@@ -33,8 +33,8 @@ use Rattle.sql_bound.specs.declared.scopes.Asked.{Asked}
 use Rattle.sql_bound.specs.declared.scopes.Operand.{Operand}
 use Rattle.sql_bound.specs.declared.scopes.Standing.TheVariants.{Nowhere}
 use Rattle.sql_bound.specs.declared.scopes.Work.{Work}
-use Rattle.sql_meaning.specs.Binding.{◌>>=◌}
-use Rattle.sql_meaning.specs.Spelled.{name_at}
+use Rattle.sql_words.specs.Refusals.{◌>>=◌}
+use Rattle.sql_words.specs.Spelled.{name_at}
 use Rattle.sql_tree.specs.declared.expr.Expr.{Expr}
 use Rattle.sql_tree.specs.declared.statement.Assignment.{Assignment}
 use Rattle.sql_tree.specs.declared.statement.ColumnDefinition.{ColumnDefinition}

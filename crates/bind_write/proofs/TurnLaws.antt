@@ -12,7 +12,7 @@ use Rattle.sql_bound.specs.Targets.{checks_bound, default_bound, defaults_bound}
 use Rattle.sql_bound.specs.Triggers.{step_bound, steps_bound}
 use Rattle.sql_bound.specs.Writes.{Opened, Opening}
 use Rattle.sql_bound.specs.declared.scopes.Work.{Work}
-use Rattle.sql_meaning.specs.Binding.{◌>>=◌}
+use Rattle.sql_words.specs.Refusals.{◌>>=◌}
 use Rattle.sql_tree.specs.declared.expr.Expr.{Expr}
 use Rattle.sql_tree.specs.declared.statement.ColumnConstraint.TheVariants as column_constraint
 use Rattle.sql_tree.specs.declared.statement.ColumnConstraint.{ColumnConstraint}

@@ -11,7 +11,7 @@ use Rattle.sql_bound.specs.Targets.{Target}
 use Rattle.sql_bound.specs.Trees.{of_assignment, of_insert_source, of_option}
 use Rattle.sql_bound.specs.Writes.{Opened, sets_bound}
 use Rattle.sql_bound.specs.declared.scopes.Work.{Work}
-use Rattle.sql_meaning.specs.Binding.{◌>>=◌}
+use Rattle.sql_words.specs.Refusals.{◌>>=◌}
 use Rattle.sql_tree.specs.declared.statement.Delete.{Delete}
 use Rattle.sql_tree.specs.declared.statement.Insert.{Insert}
 use Rattle.sql_tree.specs.declared.statement.Update.{Update}

@@ -6,7 +6,7 @@ use Rattle.sql_bound.specs.Scopes.{Answer, Around, Level}
 use Rattle.sql_bound.specs.Targets.{constraint_bound, in_check}
 use Rattle.sql_bound.specs.Trees.{of_expr}
 use Rattle.sql_bound.specs.declared.scopes.Work.{Work}
-use Rattle.sql_meaning.specs.Binding.{◌>>=◌}
+use Rattle.sql_words.specs.Refusals.{◌>>=◌}
 use Rattle.sql_tree.specs.declared.expr.Expr.{Expr}
 
 -- what each comes to goes behind what there is so far

@@ -7,7 +7,7 @@ use Rattle.bound_tree.specs.declared.statements.BoundCommand.{BoundCommand}
 use Rattle.bound_tree.specs.declared.writes.BoundWrite.{BoundWrite}
 use Rattle.sql_bound.specs.Refusals.{Checked}
 use Rattle.sql_bound.specs.Writes.{Opened}
-use Rattle.sql_meaning.specs.Binding.{◌>>=◌}
+use Rattle.sql_words.specs.Refusals.{◌>>=◌}
 
 abbrev pub command_meant : BoundCommand × OpenedHere → BoundCommand × Opened
 command_meant c = (c.0, opened_meant c.1)

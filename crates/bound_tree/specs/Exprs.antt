@@ -5,7 +5,7 @@ use Rattle.eng_value.specs.declared.collation.Collation.{Collation}
 use Rattle.eng_value.specs.declared.operators.BinaryOperator.{BinaryOperator}
 use Rattle.eng_value.specs.declared.operators.Sides.{Sides}
 use Rattle.eng_value.specs.declared.operators.UnaryOperator.{UnaryOperator}
-use Rattle.sql_meaning.specs.declared.bound.Literal.{Literal as BoundLiteral}
+use Rattle.sql_words.specs.declared.literal.Literal.{Literal as BoundLiteral}
 
 -- no type may hold lists of itself, so that lists of expressions have a type of their own here; `In`, `Choose` and others below take plain lists
 mutual

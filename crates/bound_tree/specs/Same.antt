@@ -21,8 +21,8 @@ use Rattle.eng_value.specs.declared.operators.BinaryOperator.{BinaryOperator}
 use Rattle.eng_value.specs.declared.operators.Sides.{Sides}
 use Rattle.eng_value.specs.declared.operators.UnaryOperator.TheVariants as unary
 use Rattle.eng_value.specs.declared.operators.UnaryOperator.{UnaryOperator}
-use Rattle.sql_meaning.specs.declared.bound.Literal.TheVariants as literal
-use Rattle.sql_meaning.specs.declared.bound.Literal.{Literal}
+use Rattle.sql_words.specs.declared.literal.Literal.TheVariants as literal
+use Rattle.sql_words.specs.declared.literal.Literal.{Literal}
 use Rattle.bound_tree.specs.Exprs as e
 use Rattle.bound_tree.specs.Exprs.{AMatch, AnArm, AnExpr, BoundArms, BoundExpr, BoundExprs, BoundMatches, NoArms, NoExprs, NoMatches}
 

@@ -5,7 +5,7 @@ use Rattle.eng_value.specs.declared.collation.Collation.{Collation}
 use Rattle.eng_value.specs.declared.operators.BinaryOperator.{BinaryOperator}
 use Rattle.eng_value.specs.declared.operators.Sides.{Sides}
 use Rattle.eng_value.specs.declared.operators.UnaryOperator.{UnaryOperator}
-use Rattle.sql_meaning.specs.declared.bound.Literal.{Literal}
+use Rattle.sql_words.specs.declared.literal.Literal.{Literal}
 use Rattle.bound_tree.specs.Exprs as e
 use Rattle.bound_tree.specs.Exprs.{BoundArm, BoundArms, BoundExpr, BoundExprs, BoundMatch, BoundMatches, NoExprs, AnExpr, NoArms, AnArm, NoMatches, AMatch, arms, exprs, matches}
 use Rattle.bound_tree.specs.Seen.{arms_of, matches_of, seen, seen_arm, seen_match, tree_of, trees_of}

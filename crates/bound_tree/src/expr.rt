@@ -8,7 +8,7 @@ use crate::arms::{BoundArm, BoundMatch};
 use crate::lists::{arm_trees, expr_trees, match_trees};
 use crate::tree::ExprTree;
 use eng_value::{BinaryOperator, Builtin, Collation, Sides, Text, UnaryOperator};
-use sql_meaning::Literal;
+use sql_words::Literal;
 use sqlite_items::{Boxed, Items};
 use std::alloc::{AllocError, Global};
 use std::marker::Model;

@@ -9,7 +9,7 @@ use crate::BoundExpr;
 use crate::tree::{ArmTree, ExprTree, MatchTree};
 use eng_entry::is_same_name;
 use eng_value::{BinaryOperator, Collation, Sides, Text, UnaryOperator};
-use sql_meaning::Literal;
+use sql_words::Literal;
 
 /// Whether two expressions are the same.
 pub fn same_expr(a: &BoundExpr, b: &BoundExpr) -> bool

@@ -1,6 +1,6 @@
 // Bound expressions as they are stored: they hold no query, but ask one by its unit.
 use eng_value::{BinaryOperator, Builtin, Collation, Sides, Text, UnaryOperator};
-use sql_meaning::Literal;
+use sql_words::Literal;
 use sqlite_items::{Boxed, Items};
 
 /// An expression over a row of the own FROM, the arguments of the own query, and what its aggregates come to.

@@ -7,7 +7,7 @@ use Rattle.sql_lex.proofs.FirstTokens.{as_many_from}
 use Rattle.sql_lex.proofs.TokenCuts.{Stands, all_stand, ends, starts}
 use Rattle.sql_lex.specs.Cutting.{start_of}
 use Rattle.sql_lex.specs.Tokens.{InOrder, slice_of, tokens_of}
-use Rattle.sql_meaning.specs.Statement.{end_of, is_semicolon, without_end}
+use Rattle.sql_words.specs.Bodies.{end_of, is_semicolon, without_end}
 use Rattle.sql_tree.specs.declared.token.Token.{Token}
 
 module _ (text : List ℕ) where

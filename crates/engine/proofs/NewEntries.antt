@@ -11,11 +11,11 @@ use Rattle.eng_value.specs.declared.cause.Cause.TheVariants as cause
 use Rattle.eng_value.specs.declared.cause.NameKind.TheVariants as name_kind
 use Rattle.sql_lex.specs.Tokens.{tokens_of}
 use Rattle.sql_meaning.proofs.ValidLaws.{then-ok}
-use Rattle.sql_meaning.specs.Binding.{◌>>=◌}
+use Rattle.sql_words.specs.Refusals.{◌>>=◌}
 use Rattle.sql_meaning.specs.BoundStatements.{BoundStatement, Creates, DoesNothing, Drops, Puts, Queries, Shows}
 use Rattle.sql_meaning.specs.Built.{is_built, is_table}
 use Rattle.sql_meaning.specs.Declarations.{columns_created, columns_of_definition, table_called, table_with}
-use Rattle.sql_meaning.specs.Spelled.{name_at}
+use Rattle.sql_words.specs.Spelled.{name_at}
 use Rattle.sql_meaning.specs.Statement.{command_bound, create_bound, created, drop_bound, dropped, entry_with, is_free_name, part_bound, put_bound, rows_bound, rows_in, select_bound, statement_bound, where_built}
 use Rattle.sql_meaning.specs.declared.column.TableEntry.{TableEntry}
 use Rattle.sql_tree.specs.Layers.{PartLayer, of_part, of_query, of_select}

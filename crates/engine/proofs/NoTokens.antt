@@ -8,7 +8,8 @@ use Rattle.sql_grammar.specs.StatementTexts.{read_statement}
 use Rattle.sql_lex.specs.Cutting.{start_of}
 use Rattle.sql_lex.specs.Tokens.{tokens_of}
 use Rattle.sql_meaning.specs.BoundStatements.{BoundStatement}
-use Rattle.sql_meaning.specs.Statement.{answer_bound, answer_of, limit_kind, text_bound, text_bound_from}
+use Rattle.sql_words.specs.Bodies.{answer_of}
+use Rattle.sql_meaning.specs.Statement.{answer_bound, limit_kind, text_bound, text_bound_from}
 use Rattle.sql_meaning.specs.World.{World}
 use Rattle.sql_tree.specs.declared.statement.Statement.{Statement}
 use Rattle.sql_tree.specs.declared.token.Token.{Token}

@@ -18,7 +18,8 @@ use Rattle.sql_lex.specs.Cutting.{start_of}
 use Rattle.sql_lex.specs.Tokens.{tokens_of}
 use Rattle.sql_meaning.specs.BoundStatements.{BoundStatement, Creates, DoesNothing, Drops, Puts, Queries, Shows as ShowsRows}
 use Rattle.sql_meaning.specs.Declarations.{tables_of}
-use Rattle.sql_meaning.specs.Statement.{answer_bound, answer_of, body_of, limit_kind, statement_bound, text_bound, text_bound_from}
+use Rattle.sql_words.specs.Bodies.{answer_of, body_of}
+use Rattle.sql_meaning.specs.Statement.{answer_bound, limit_kind, statement_bound, text_bound, text_bound_from}
 use Rattle.sql_meaning.specs.World.{World}
 use Rattle.sql_meaning.specs.declared.column.TableEntry.{TableEntry}
 use Rattle.sql_tree.specs.declared.statement.Statement.{Statement}

@@ -15,7 +15,7 @@ use Rattle.sql_meaning.specs.declared.bound.BoundInsert.{BoundInsert}
 use Rattle.sql_meaning.specs.declared.column.Column.{Column}
 use Rattle.sql_meaning.specs.BoundStatements.{Put}
 use Rattle.sql_meaning.specs.Statement.{Item, Row, Failed as Bad, item_of, stored, item_put, rows_put, value_at, values_placed, row_under as row_meant, with_row as with_row_meant}
-use Rattle.sql_meaning.specs.Binding.{◌>>=◌}
+use Rattle.sql_words.specs.Refusals.{◌>>=◌}
 use Rattle.bind_stmt.specs.Binds.{IsPutAs, put_columns}
 use Rattle.vm_code.specs.Machine.{IsSound, Shared, rows_of, row_under as found_under, put_row, is_free, with_row, world_of}
 use Rattle.vm_code.proofs.Rows.{All-cons, All-head, All-tail, All-nil, ascending_head, ascending_tail, lt_trans, eq_below, put_row-behind}

@@ -8,9 +8,10 @@ use Rattle.eng_value.specs.declared.cause.Cause.TheVariants as cause
 use Rattle.eng_value.specs.declared.cause.LimitKind.TheVariants as limit
 use Rattle.eng_value.specs.declared.limits.TheConstants.{MAX_COLUMNS}
 use Rattle.sql_meaning.proofs.ValidLaws.{then-ok}
-use Rattle.sql_meaning.specs.Binding.{◌>>=◌}
-use Rattle.sql_meaning.specs.Declarations.{column_named, columns_behind, columns_created, columns_given, columns_of_definition, declared_affinity, is_new_column, table_of, table_with, tables_among, type_affinity, with_column, within_columns}
-use Rattle.sql_meaning.specs.Spelled.{name_at}
+use Rattle.sql_words.specs.Refusals.{◌>>=◌}
+use Rattle.sql_words.specs.Types.{type_affinity}
+use Rattle.sql_meaning.specs.Declarations.{column_named, columns_behind, columns_created, columns_given, columns_of_definition, declared_affinity, is_new_column, table_of, table_with, tables_among, with_column, within_columns}
+use Rattle.sql_words.specs.Spelled.{name_at}
 use Rattle.sql_meaning.specs.declared.column.Column.{Column}
 use Rattle.sql_meaning.specs.declared.column.TableEntry.{TableEntry}
 use Rattle.sql_tree.specs.declared.statement.ColumnDefinition.{ColumnDefinition}

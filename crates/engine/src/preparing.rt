@@ -12,7 +12,8 @@ ghost use Rattle.sql_lex.specs.Cutting.{start_of};
 ghost use Rattle.sql_lex.specs.Tokens.{InOrder, slice_of, tokens_of};
 ghost use Rattle.sql_meaning.specs.BoundStatements.{BoundStatement};
 ghost use Rattle.sql_meaning.specs.Declarations.{tables_of};
-ghost use Rattle.sql_meaning.specs.Statement.{end_of, entry_with, limit_kind, statement_bound, text_bound, text_bound_from, without_end};
+ghost use Rattle.sql_words.specs.Bodies.{end_of, without_end};
+ghost use Rattle.sql_meaning.specs.Statement.{entry_with, limit_kind, statement_bound, text_bound, text_bound_from};
 ghost use Rattle.sql_tree.specs.Sizes.{size_of_statement};
 ghost use Rattle.vm_code.specs.Machine.{World as Lists};
 

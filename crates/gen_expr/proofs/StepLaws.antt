@@ -11,7 +11,7 @@ use Rattle.sql_meaning.specs.declared.bound.BoundArm.{BoundArm}
 use Rattle.sql_meaning.specs.declared.bound.BoundExpr.{BoundExpr, the_lemmas}
 use Rattle.sql_meaning.specs.declared.bound.BoundExpr.TheVariants as e
 use Rattle.sql_meaning.specs.declared.bound.BoundMatch.{BoundMatch}
-use Rattle.sql_meaning.specs.declared.bound.Literal.{Literal}
+use Rattle.sql_words.specs.declared.literal.Literal.{Literal}
 use Rattle.gen_expr.specs.Steps.{steps_of, arm_steps_of, match_steps_of, and_two, test_steps}
 
 pub steps_of-Literal : (l : Literal) → steps_of (e.Literal l) ≡ 1

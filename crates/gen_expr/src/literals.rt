@@ -5,7 +5,7 @@ ghost use Rattle.sql_meaning.specs.Expression.{literal_out};
 ghost use Rattle.vm_code.specs.Frames.{Leaves, no_calls};
 
 use eng_value::{Out, Value};
-use sql_meaning::Literal;
+use sql_words::Literal;
 use std::alloc::{AllocError, Global};
 use vm_code::{Builder, Constant, Op};
 

@@ -28,8 +28,8 @@ use Rattle.sql_meaning.specs.declared.bound.BoundExpr.{BoundExpr, out-BoundExpr,
 use Rattle.sql_meaning.specs.declared.bound.BoundExpr.TheFolds.{map-BoundExpr}
 use Rattle.sql_meaning.specs.declared.bound.BoundExpr.TheOpen.{BoundExpr-F}
 use Rattle.sql_meaning.specs.declared.bound.BoundMatch.{BoundMatch}
-use Rattle.sql_meaning.specs.declared.bound.Literal.{Literal}
-use Rattle.sql_meaning.specs.declared.bound.Literal.TheVariants as literal
+use Rattle.sql_words.specs.declared.literal.Literal.{Literal}
+use Rattle.sql_words.specs.declared.literal.Literal.TheVariants as literal
 use Rattle.vm_code.specs.declared.op.Op.TheVariants as op
 use Rattle.vm_code.specs.Draft.{Draft, taken, with_op}
 use Rattle.vm_code.specs.Machine.{GivesUp, Leads, Reaches, Setting, State, is_bad, leads_to, leaving_of, read}

@@ -9,7 +9,7 @@ use Rattle.gen_write.specs.Writes.{LiteralsTakeNoSteps, StepsAreFew, and_refused
 use Rattle.sql_meaning.specs.Sizes.{all_nodes}
 use Rattle.sql_meaning.specs.declared.bound.BoundExpr.{BoundExpr}
 use Rattle.sql_meaning.specs.declared.bound.BoundInsert.{BoundInsert}
-use Rattle.sql_meaning.specs.declared.bound.Literal.{Literal}
+use Rattle.sql_words.specs.declared.literal.Literal.{Literal}
 
 -- ---- a test takes three, and none where there is nothing to test
 

@@ -16,8 +16,8 @@ use Rattle.sql_meaning.specs.Expression.{literal_out, value_of}
 use Rattle.sql_meaning.specs.Statement.{Item, given_of, item_of, refusal_of, shown, value_at}
 use Rattle.sql_meaning.specs.declared.bound.BoundExpr.{BoundExpr}
 use Rattle.sql_meaning.specs.declared.bound.BoundInsert.{BoundInsert}
-use Rattle.sql_meaning.specs.declared.bound.Literal.{Literal}
-use Rattle.sql_meaning.specs.declared.bound.Literal.TheVariants as literal
+use Rattle.sql_words.specs.declared.literal.Literal.{Literal}
+use Rattle.sql_words.specs.declared.literal.Literal.TheVariants as literal
 use Rattle.sql_meaning.specs.declared.bound.PutColumn.{PutColumn}
 use Rattle.vm_code.specs.declared.op.Op.TheVariants as op
 use Rattle.vm_code.specs.Draft.{Draft, bound, taken, with_label, with_op}

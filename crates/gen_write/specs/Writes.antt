@@ -17,8 +17,8 @@ use Rattle.sql_meaning.specs.declared.bound.BoundExpr.{BoundExpr, out-BoundExpr}
 use Rattle.sql_meaning.specs.declared.bound.BoundExpr.TheOpen.{BoundExpr-F}
 use Rattle.sql_meaning.specs.declared.bound.BoundInsert.{BoundInsert}
 use Rattle.sql_meaning.specs.declared.bound.BoundMatch.{BoundMatch}
-use Rattle.sql_meaning.specs.declared.bound.Literal.{Literal}
-use Rattle.sql_meaning.specs.declared.bound.Literal.TheVariants as literal
+use Rattle.sql_words.specs.declared.literal.Literal.{Literal}
+use Rattle.sql_words.specs.declared.literal.Literal.TheVariants as literal
 use Rattle.sql_meaning.specs.declared.bound.PutColumn.{PutColumn}
 use Rattle.vm_code.specs.Machine.{World, Finished, Run, Shared, ending_by, rows_of, with_row, with_table, without_rows, world_of}
 

@@ -5,7 +5,7 @@ ghost use Rattle.gen_write.specs.Stretches.{HoldsKept, HoldsLiteral, is_integer,
 
 use crate::source::Kept;
 use eng_value::{Affinity, Value};
-use sql_meaning::Literal;
+use sql_words::Literal;
 
 /// Whether a column of an affinity is known to store what was kept of a value, or NULL, as it is.
 pub(crate) fn is_held(affinity: Affinity, kept: Option<&Kept>) -> bool

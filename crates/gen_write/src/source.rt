@@ -7,7 +7,8 @@ ghost use Rattle.vm_code.specs.Frames.{no_calls};
 
 use crate::refusing::refuse_bad;
 use gen_expr::emit;
-use sql_meaning::{BoundExpr, Literal};
+use sql_meaning::BoundExpr;
+use sql_words::Literal;
 use sqlite_items::Items;
 use std::alloc::{AllocError, Global};
 use vm_code::{Builder, Op};

@@ -5,7 +5,8 @@ use Rattle.std.proofs.lemmas.Slice.Eq.{bytes_eq-Decides}
 use Rattle.eng_text.specs.Texts.{folded}
 use Rattle.eng_entry.specs.Names.{is_same_name}
 use Rattle.eng_value.specs.declared.cause.Cause.TheVariants.{Misuse}
-use Rattle.sql_meaning.specs.Binding.{◌>>=◌, dotted}
+use Rattle.sql_words.specs.Names.{dotted}
+use Rattle.sql_words.specs.Refusals.{◌>>=◌}
 use Rattle.sql_bound.specs.Columns.{alias_named, called_column_bound, column_bound, further_out, name_shown, named_in, of_alias, of_outer, of_own, seen_or_unknown}
 use Rattle.sql_bound.specs.Refusals.{Checked}
 use Rattle.sql_bound.specs.Scopes.{Alias, Level, Scope, bare_in, called_in, counted_once, nearest, nearest_from, nearest_of, with_named}

@@ -3,7 +3,7 @@ use Rattle.std.proofs.Common.{◌≡◌, ◌∙◌, ℕ, zero, suc, Bool, true, 
 use Rattle.std.specs.List.{All}
 use Rattle.std.proofs.lemmas.List.Elements.{All-filter, All-map, All-tail}
 use Rattle.eng_entry.specs.Names.{is_same_name}
-use Rattle.sql_meaning.specs.Binding.{◌>>=◌}
+use Rattle.sql_words.specs.Refusals.{◌>>=◌}
 use Rattle.sql_bound.proofs.NameLaws.{head_of}
 use Rattle.sql_bound.specs.Froms.{equality_of, is_any, joined_if, on_left, one_of, using_one, with_joined}
 use Rattle.sql_bound.specs.Limits.{walked}

@@ -6,7 +6,7 @@ use Rattle.eng_value.specs.declared.cause.Cause.TheVariants.{Limit}
 use Rattle.eng_value.specs.declared.cause.Cause.{Cause}
 use Rattle.eng_value.specs.declared.cause.LimitKind.TheVariants as limit
 use Rattle.eng_value.specs.declared.limits.TheConstants.{MAX_COLUMNS}
-use Rattle.sql_meaning.specs.Binding.{◌>>=◌}
+use Rattle.sql_words.specs.Refusals.{◌>>=◌}
 use Rattle.sql_bound.specs.Carriers.{Expression, ItemParts, ResultParts}
 use Rattle.sql_bound.specs.Compounds.{row_bound}
 use Rattle.sql_bound.specs.Froms.{Inside, are_made, kind_of_join, plain_item, called_by, constrained, has_room, item_found, items_found, joined_to, of_source, scope_item, using_all, using_one, with_item}

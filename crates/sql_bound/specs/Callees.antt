@@ -6,7 +6,7 @@ use Rattle.eng_value.specs.declared.builtin.Builtin.{Builtin}
 use Rattle.eng_value.specs.declared.cause.Cause.TheVariants.{Arity, Misuse}
 use Rattle.sql_tree.specs.declared.expr.Arguments.TheVariants as arguments
 use Rattle.sql_tree.specs.declared.expr.Arguments.{Arguments}
-use Rattle.sql_meaning.specs.Binding.{NamedBuiltin, builtin_named, takes}
+use Rattle.sql_words.specs.Builtins.{NamedBuiltin, builtin_named, takes}
 use Rattle.bound_tree.specs.declared.units.AggregateKind.TheVariants.{Count, CountRows, GroupConcat, HostAggregate, Max, Min, Sum}
 use Rattle.bound_tree.specs.declared.units.AggregateKind.{AggregateKind}
 use Rattle.sql_bound.specs.Refusals.{Checked}

@@ -4,7 +4,8 @@ use Rattle.std.specs.List.{find, flat_map}
 use Rattle.eng_entry.specs.Names.{is_same_name}
 use Rattle.eng_value.specs.declared.cause.Cause.TheVariants.{Misuse, Unknown}
 use Rattle.eng_value.specs.declared.cause.NameKind.TheVariants as kind
-use Rattle.sql_meaning.specs.Binding.{◌>>=◌, dotted}
+use Rattle.sql_words.specs.Names.{dotted}
+use Rattle.sql_words.specs.Refusals.{◌>>=◌}
 use Rattle.sql_bound.specs.Operands.{column_operand}
 use Rattle.sql_bound.specs.Refusals.{Checked}
 use Rattle.sql_bound.specs.Scopes.{Alias, Answer, Level, Scope, bare_in, brought, called_in, columns_named, nearest}

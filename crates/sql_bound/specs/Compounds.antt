@@ -3,7 +3,8 @@ use Rattle.std.specs.Prelude.{ℕ, suc, nat_eq, false, List, [], ◌∷◌, ◌+
 use Rattle.std.specs.Fmt.{decimal}
 use Rattle.eng_value.specs.declared.cause.Cause.TheVariants.{Arity}
 use Rattle.eng_value.specs.declared.collation.Collation.{Collation}
-use Rattle.sql_meaning.specs.Binding.{◌>>=◌, by_bytes, or_else}
+use Rattle.sql_words.specs.Collations.{by_bytes}
+use Rattle.sql_words.specs.Refusals.{◌>>=◌, or_else}
 use Rattle.bound_tree.specs.Exprs.{BoundExpr}
 use Rattle.bound_tree.specs.declared.units.BoundCompound.{BoundCompound}
 use Rattle.bound_tree.specs.declared.units.BoundPart.TheVariants as bound_part

@@ -3,8 +3,9 @@ use Rattle.std.specs.Prelude.{ℕ, Bool, true, false, not, ◌||◌, List, map, 
 use Rattle.std.specs.List.{list_any}
 use Rattle.eng_value.specs.declared.cause.Cause.TheVariants.{Unknown}
 use Rattle.eng_value.specs.declared.cause.NameKind.TheVariants as kind
-use Rattle.sql_meaning.specs.Binding.{◌>>=◌, by_bytes}
-use Rattle.sql_meaning.specs.Spelled.{literal_at}
+use Rattle.sql_words.specs.Collations.{by_bytes}
+use Rattle.sql_words.specs.Refusals.{◌>>=◌}
+use Rattle.sql_words.specs.Spelled.{literal_at}
 use Rattle.bound_tree.specs.Exprs.{BoundExpr}
 use Rattle.bound_tree.specs.declared.units.BoundAggregate.{BoundAggregate}
 use Rattle.bound_tree.specs.declared.units.BoundCore.{BoundCore}

@@ -13,8 +13,8 @@ use Rattle.sql_lex.specs.Tokens.{tokens_of}
 use Rattle.sql_tree.specs.declared.statement.Statement.{Statement}
 use Rattle.sql_tree.specs.declared.statement.TableDefinition.{TableDefinition}
 use Rattle.sql_tree.specs.declared.token.Token.{Token}
-use Rattle.sql_meaning.specs.Spelled.{the_text_test}
-use Rattle.sql_meaning.specs.Statement.{answer_of}
+use Rattle.sql_words.specs.Spelled.{the_text_test}
+use Rattle.sql_words.specs.Bodies.{answer_of}
 use Rattle.bound_tree.specs.declared.statements.BoundCommand.TheVariants.{Nothing, Removed}
 use Rattle.bound_tree.specs.declared.statements.BoundCommand.{BoundCommand}
 use Rattle.bound_tree.specs.declared.statements.BoundStatement.{BoundStatement}

@@ -32,10 +32,10 @@ use Rattle.sql_tree.specs.declared.statement.ViewDefinition.{ViewDefinition}
 use Rattle.sql_tree.specs.declared.statement.VirtualTableDefinition.{VirtualTableDefinition}
 use Rattle.sql_tree.specs.declared.token.Span.{Span}
 use Rattle.sql_tree.specs.declared.token.Token.{Token}
-use Rattle.sql_meaning.specs.Binding.{◌>>=◌}
-use Rattle.sql_meaning.specs.Declarations.{type_affinity}
-use Rattle.sql_meaning.specs.Names.{is_named_in, is_reserved_name}
-use Rattle.sql_meaning.specs.Spelled.{name_at}
+use Rattle.sql_words.specs.Refusals.{◌>>=◌}
+use Rattle.sql_words.specs.Types.{type_affinity}
+use Rattle.sql_words.specs.Names.{is_named_in, is_reserved_name}
+use Rattle.sql_words.specs.Spelled.{name_at}
 use Rattle.bound_tree.specs.declared.statements.BoundCommand.TheVariants.{Created, Nothing}
 use Rattle.bound_tree.specs.declared.statements.BoundCommand.{BoundCommand}
 use Rattle.bound_tree.specs.declared.statements.BoundCreation.{BoundCreation}

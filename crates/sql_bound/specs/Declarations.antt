@@ -27,9 +27,10 @@ use Rattle.sql_tree.specs.declared.statement.TableDefinition.{TableDefinition}
 use Rattle.sql_tree.specs.declared.statement.TriggerDefinition.{TriggerDefinition}
 use Rattle.sql_tree.specs.declared.statement.ViewDefinition.{ViewDefinition}
 use Rattle.sql_tree.specs.declared.token.Token.{Token}
-use Rattle.sql_meaning.specs.Binding.{by_bytes, collation_named, or_else}
-use Rattle.sql_meaning.specs.Declarations.{type_affinity}
-use Rattle.sql_meaning.specs.Spelled.{name_at}
+use Rattle.sql_words.specs.Collations.{by_bytes, collation_named}
+use Rattle.sql_words.specs.Refusals.{or_else}
+use Rattle.sql_words.specs.Types.{type_affinity}
+use Rattle.sql_words.specs.Spelled.{name_at}
 use Rattle.bound_tree.specs.declared.units.BoundColumn.{BoundColumn}
 use Rattle.bound_tree.specs.declared.units.BoundIndex.{BoundIndex}
 use Rattle.bound_tree.specs.declared.units.IndexPart.{IndexPart}

@@ -13,8 +13,10 @@ use Rattle.sql_tree.specs.declared.expr.BinaryOp.TheVariants as op
 use Rattle.sql_tree.specs.declared.expr.Expr.TheOpen.{Expr-F}
 use Rattle.sql_tree.specs.declared.token.Token.{Token}
 use Rattle.sql_tree.specs.declared.token.TokenKind.TheVariants as token
-use Rattle.sql_meaning.specs.Binding.{◌>>=◌, affinity_of_type, collation_named}
-use Rattle.sql_meaning.specs.Spelled.{as_text, inside, name_at, undoubled}
+use Rattle.sql_words.specs.Collations.{collation_named}
+use Rattle.sql_words.specs.Refusals.{◌>>=◌}
+use Rattle.sql_words.specs.Types.{affinity_of_type}
+use Rattle.sql_words.specs.Spelled.{as_text, inside, name_at, undoubled}
 use Rattle.bound_tree.specs.Exprs as e
 use Rattle.bound_tree.specs.Exprs.{BoundExpr}
 use Rattle.bound_tree.specs.declared.units.BoundAggregate.{BoundAggregate}

@@ -11,8 +11,8 @@ use Rattle.sql_lex.specs.Pieces.{word_kind}
 use Rattle.sql_lex.specs.Tokens.{tokens_of}
 use Rattle.sql_tree.specs.declared.expr.BinaryOp.TheVariants as op
 use Rattle.sql_tree.specs.declared.query.CompoundOp.TheVariants as compound_op
-use Rattle.sql_meaning.specs.Spelled.{the_text_test}
-use Rattle.sql_meaning.specs.declared.bound.Literal.TheVariants as literal
+use Rattle.sql_words.specs.Spelled.{the_text_test}
+use Rattle.sql_words.specs.declared.literal.Literal.TheVariants as literal
 use Rattle.bound_tree.specs.Exprs as e
 use Rattle.sql_bound.specs.Carriers.{CoreParts, Expression, SpannedExpression}
 use Rattle.sql_bound.specs.Samples.{both, bound, by, call, col, compound, core, dot, lit, named, named_as, ordered, query, refused, res, res_as, results_at, scalar, span, starred}

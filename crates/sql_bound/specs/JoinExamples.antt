@@ -7,7 +7,7 @@ use Rattle.sql_grammar.specs.Marks.{count}
 use Rattle.sql_grammar.specs.Statements.{all_statement_rules}
 use Rattle.sql_lex.specs.Pieces.{word_kind}
 use Rattle.sql_lex.specs.Tokens.{tokens_of}
-use Rattle.sql_meaning.specs.Spelled.{the_text_test}
+use Rattle.sql_words.specs.Spelled.{the_text_test}
 use Rattle.bound_tree.specs.Exprs as e
 use Rattle.sql_bound.specs.Carriers.{All, AllOf, On}
 use Rattle.sql_bound.specs.Samples.{around_of, bound, bound_over, called, col, core, dot, lit, named, named_as, natural, query, refused, refused_over, res, results_at, token_at, using}

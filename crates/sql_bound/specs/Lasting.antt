@@ -12,8 +12,8 @@ use Rattle.sql_tree.specs.declared.statement.TableConstraint.TheVariants as tabl
 use Rattle.sql_tree.specs.declared.statement.TableConstraint.{TableConstraint}
 use Rattle.sql_tree.specs.declared.statement.TableDefinition.{TableDefinition}
 use Rattle.sql_tree.specs.declared.token.Token.{Token}
-use Rattle.sql_meaning.specs.Binding.{◌>>=◌, or_else}
-use Rattle.sql_meaning.specs.Spelled.{name_at}
+use Rattle.sql_words.specs.Refusals.{◌>>=◌, or_else}
+use Rattle.sql_words.specs.Spelled.{name_at}
 use Rattle.sql_bound.specs.Declarations.{definition_of, index_in, is_index_of}
 use Rattle.sql_bound.specs.Expressions.{collation_called}
 use Rattle.sql_bound.specs.Refusals.{Checked}

@@ -3,7 +3,7 @@ use Rattle.std.specs.Prelude.{ℕ, zero, suc, nat_le, nat_lt, List, [], ◌∷�
 use Rattle.eng_value.specs.declared.cause.Cause.TheVariants.{Limit}
 use Rattle.eng_value.specs.declared.cause.LimitKind.TheVariants as limit
 use Rattle.eng_value.specs.declared.limits.TheConstants.{MAX_COLUMNS}
-use Rattle.sql_meaning.specs.Binding.{◌>>=◌}
+use Rattle.sql_words.specs.Refusals.{◌>>=◌}
 use Rattle.sql_bound.specs.Refusals.{Checked}
 
 -- one member after another, and the limit at the first one that is too many

@@ -11,8 +11,8 @@ use Rattle.sql_grammar.specs.Marks.{count}
 use Rattle.sql_grammar.specs.Statements.{all_statement_rules}
 use Rattle.sql_lex.specs.Pieces.{word_kind}
 use Rattle.sql_lex.specs.Tokens.{tokens_of}
-use Rattle.sql_meaning.specs.Spelled.{the_text_test}
-use Rattle.sql_meaning.specs.declared.bound.Literal.TheVariants as literal
+use Rattle.sql_words.specs.Spelled.{the_text_test}
+use Rattle.sql_words.specs.declared.literal.Literal.TheVariants as literal
 use Rattle.bound_tree.specs.Exprs as e
 use Rattle.bound_tree.specs.declared.units.BoundCore.{BoundCore}
 use Rattle.bound_tree.specs.declared.units.BoundItem.{BoundItem}

@@ -22,9 +22,10 @@ use Rattle.sql_tree.specs.declared.expr.UnaryOp.{UnaryOp}
 use Rattle.sql_tree.specs.declared.token.Token.{Token}
 use Rattle.sql_tree.specs.declared.token.TokenKind.TheVariants as token
 use Rattle.sql_tree.specs.declared.token.TokenKind.{TokenKind}
-use Rattle.sql_meaning.specs.Binding.{by_bytes, or_else}
-use Rattle.sql_meaning.specs.Spelled.{is_least_magnitude, literal_at}
-use Rattle.sql_meaning.specs.declared.bound.Literal.TheVariants as literal
+use Rattle.sql_words.specs.Collations.{by_bytes}
+use Rattle.sql_words.specs.Refusals.{or_else}
+use Rattle.sql_words.specs.Spelled.{is_least_magnitude, literal_at}
+use Rattle.sql_words.specs.declared.literal.Literal.TheVariants as literal
 use Rattle.bound_tree.specs.Exprs as e
 use Rattle.bound_tree.specs.Exprs.{BoundArm, BoundExpr, BoundMatch}
 use Rattle.sql_bound.specs.declared.scopes.ArmOperands.{ArmOperands}

@@ -7,8 +7,9 @@ use Rattle.eng_value.specs.declared.cause.NameKind.TheVariants as kind
 use Rattle.eng_value.specs.declared.collation.Collation.{Collation}
 use Rattle.sql_tree.specs.declared.query.NullsOrder.TheVariants as nulls
 use Rattle.sql_tree.specs.declared.query.NullsOrder.{NullsOrder}
-use Rattle.sql_meaning.specs.Binding.{◌>>=◌, by_bytes}
-use Rattle.sql_meaning.specs.Spelled.{literal_at, name_at}
+use Rattle.sql_words.specs.Collations.{by_bytes}
+use Rattle.sql_words.specs.Refusals.{◌>>=◌}
+use Rattle.sql_words.specs.Spelled.{literal_at, name_at}
 use Rattle.bound_tree.specs.Exprs.{BoundExpr}
 use Rattle.bound_tree.specs.declared.units.BoundTerm.{BoundTerm}
 use Rattle.bound_tree.specs.declared.units.TermKey.TheVariants.{Expression as ByExpression, Result as ByResult}

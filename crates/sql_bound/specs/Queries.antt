@@ -2,7 +2,7 @@
 use Rattle.std.specs.Prelude.{ℕ, List, [], ◌∷◌, ◌++◌, length, position, Option, Some, None, Ok, Err}
 use Rattle.eng_value.specs.declared.cause.Cause.TheVariants.{Limit}
 use Rattle.eng_value.specs.declared.cause.LimitKind.TheVariants as limit
-use Rattle.sql_meaning.specs.Binding.{◌>>=◌}
+use Rattle.sql_words.specs.Refusals.{◌>>=◌}
 use Rattle.bound_tree.specs.SameUnits.{same_unit}
 use Rattle.bound_tree.specs.declared.units.BoundUnit.TheVariants.{Queried}
 use Rattle.bound_tree.specs.declared.units.BoundUnit.{BoundUnit}

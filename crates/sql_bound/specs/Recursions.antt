@@ -5,8 +5,8 @@ use Rattle.eng_entry.specs.Names.{is_same_name}
 use Rattle.eng_value.specs.declared.cause.Cause.TheVariants.{Misuse}
 use Rattle.sql_tree.specs.declared.query.CompoundOp.TheVariants as op
 use Rattle.sql_tree.specs.declared.query.CompoundOp.{CompoundOp}
-use Rattle.sql_meaning.specs.Binding.{◌>>=◌}
-use Rattle.sql_meaning.specs.Spelled.{name_at}
+use Rattle.sql_words.specs.Refusals.{◌>>=◌}
+use Rattle.sql_words.specs.Spelled.{name_at}
 use Rattle.bound_tree.specs.declared.units.BoundCompound.{BoundCompound}
 use Rattle.bound_tree.specs.declared.units.BoundUnit.TheVariants.{Recursed}
 use Rattle.bound_tree.specs.declared.units.BoundUnit.{BoundUnit}

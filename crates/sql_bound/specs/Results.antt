@@ -6,10 +6,10 @@ use Rattle.eng_value.specs.declared.cause.NameKind.TheVariants as kind
 use Rattle.eng_value.specs.declared.value.Value.TheVariants as value
 use Rattle.sql_tree.specs.declared.token.Span.{Span}
 use Rattle.sql_tree.specs.declared.token.Token.{Token}
-use Rattle.sql_meaning.specs.Binding.{◌>>=◌, or_else}
-use Rattle.sql_meaning.specs.Spelled.{as_text, name_at}
-use Rattle.sql_meaning.specs.declared.bound.Literal.TheVariants as literal
-use Rattle.sql_meaning.specs.declared.bound.Literal.{Literal}
+use Rattle.sql_words.specs.Refusals.{◌>>=◌, or_else}
+use Rattle.sql_words.specs.Spelled.{as_text, name_at}
+use Rattle.sql_words.specs.declared.literal.Literal.TheVariants as literal
+use Rattle.sql_words.specs.declared.literal.Literal.{Literal}
 use Rattle.bound_tree.specs.declared.units.BoundKey.{BoundKey}
 use Rattle.sql_bound.specs.Carriers.{All, AllOf, Binding, One, ResultParts, SpannedExpression}
 use Rattle.sql_bound.specs.Groups.{grouped_checked}

@@ -21,8 +21,8 @@ use Rattle.sql_tree.specs.declared.statement.Definition.{Definition}
 use Rattle.sql_tree.specs.declared.statement.Statement.{Statement}
 use Rattle.sql_tree.specs.declared.token.Token.{Token}
 use Rattle.sql_tree.specs.declared.token.TokenKind.TheVariants as token
-use Rattle.sql_meaning.specs.Spelled.{name_at}
-use Rattle.sql_meaning.specs.Statement.{answer_of}
+use Rattle.sql_words.specs.Spelled.{name_at}
+use Rattle.sql_words.specs.Bodies.{answer_of}
 use Rattle.bound_tree.specs.Exprs.{BoundExpr}
 use Rattle.bound_tree.specs.declared.statements.BoundCommand.TheVariants as bound_command
 use Rattle.bound_tree.specs.declared.statements.BoundCommand.{BoundCommand}

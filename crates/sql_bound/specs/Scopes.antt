@@ -8,7 +8,7 @@ use Rattle.eng_entry.specs.Names.{is_same_name}
 use Rattle.eng_value.specs.declared.cause.Cause.TheVariants.{Ambiguous}
 use Rattle.eng_value.specs.declared.modules.ModColumn.{ModColumn}
 use Rattle.sql_tree.specs.declared.query.Query.{Query}
-use Rattle.sql_meaning.specs.Names.{is_named_in}
+use Rattle.sql_words.specs.Names.{is_named_in}
 use Rattle.bound_tree.specs.Exprs as e
 use Rattle.bound_tree.specs.Exprs.{BoundExpr}
 use Rattle.bound_tree.specs.Same.{same_expr}

@@ -18,9 +18,9 @@ use Rattle.sql_tree.specs.declared.statement.Remove.{Remove}
 use Rattle.sql_tree.specs.declared.statement.Statement.{Statement}
 use Rattle.sql_tree.specs.declared.statement.Transaction.TheVariants as transaction
 use Rattle.sql_tree.specs.declared.statement.Transaction.{Transaction}
-use Rattle.sql_meaning.specs.Binding.{◌>>=◌}
-use Rattle.sql_meaning.specs.Spelled.{name_at}
-use Rattle.sql_meaning.specs.Statement.{is_off}
+use Rattle.sql_words.specs.Refusals.{◌>>=◌}
+use Rattle.sql_words.specs.Spelled.{name_at}
+use Rattle.sql_words.specs.Spelled.{is_off}
 use Rattle.bound_tree.specs.declared.statements.BoundCommand.TheVariants as bound_command
 use Rattle.bound_tree.specs.declared.statements.BoundCommand.TheVariants.{Asked, Nothing, Removed, Transacted, Written}
 use Rattle.bound_tree.specs.declared.statements.BoundCommand.{BoundCommand}

@@ -12,8 +12,8 @@ use Rattle.sql_tree.specs.declared.statement.TableDefinition.{TableDefinition}
 use Rattle.sql_tree.specs.declared.statement.TriggerDefinition.{TriggerDefinition}
 use Rattle.sql_tree.specs.declared.statement.TriggerEvent.TheVariants as event
 use Rattle.sql_tree.specs.declared.statement.TriggerEvent.{TriggerEvent}
-use Rattle.sql_meaning.specs.Binding.{◌>>=◌}
-use Rattle.sql_meaning.specs.Spelled.{name_at}
+use Rattle.sql_words.specs.Refusals.{◌>>=◌}
+use Rattle.sql_words.specs.Spelled.{name_at}
 use Rattle.bound_tree.specs.Exprs.{BoundExpr}
 use Rattle.bound_tree.specs.Same.{both_same}
 use Rattle.bound_tree.specs.declared.units.BoundColumn.{BoundColumn}

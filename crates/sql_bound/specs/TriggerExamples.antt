@@ -18,8 +18,8 @@ use Rattle.sql_tree.specs.declared.statement.Transaction.TheVariants as transact
 use Rattle.sql_tree.specs.declared.statement.TriggerEvent.TheVariants as event
 use Rattle.sql_tree.specs.declared.statement.TriggerTime.TheVariants as time
 use Rattle.sql_tree.specs.declared.token.Token.{Token}
-use Rattle.sql_meaning.specs.Binding.{by_bytes}
-use Rattle.sql_meaning.specs.Spelled.{the_text_test}
+use Rattle.sql_words.specs.Collations.{by_bytes}
+use Rattle.sql_words.specs.Spelled.{the_text_test}
 use Rattle.bound_tree.specs.Exprs as e
 use Rattle.bound_tree.specs.Exprs.{BoundExpr}
 use Rattle.bound_tree.specs.declared.units.BoundSource.TheVariants.{Given}

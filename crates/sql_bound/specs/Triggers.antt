@@ -7,7 +7,7 @@ use Rattle.eng_value.specs.declared.cause.Cause.TheVariants.{Unknown}
 use Rattle.eng_value.specs.declared.cause.NameKind.TheVariants as kind
 use Rattle.sql_tree.specs.declared.statement.TriggerEvent.TheVariants as event
 use Rattle.sql_tree.specs.declared.statement.TriggerEvent.{TriggerEvent}
-use Rattle.sql_meaning.specs.Binding.{◌>>=◌}
+use Rattle.sql_words.specs.Refusals.{◌>>=◌}
 use Rattle.bound_tree.specs.Exprs.{BoundExpr}
 use Rattle.bound_tree.specs.declared.units.BoundItem.{BoundItem}
 use Rattle.bound_tree.specs.declared.units.BoundSource.TheVariants.{Given}

@@ -9,7 +9,7 @@ use Rattle.sql_lex.specs.Tokens.{tokens_of}
 use Rattle.sql_tree.specs.declared.expr.BinaryOp.TheVariants as op
 use Rattle.sql_tree.specs.declared.query.CompoundOp.TheVariants as compound_op
 use Rattle.sql_tree.specs.declared.token.Token.{Token}
-use Rattle.sql_meaning.specs.Spelled.{the_text_test}
+use Rattle.sql_words.specs.Spelled.{the_text_test}
 use Rattle.bound_tree.specs.Exprs as e
 use Rattle.bound_tree.specs.declared.units.BoundSource.TheVariants.{Queue, Recursive, With}
 use Rattle.sql_bound.specs.Carriers.{All, QueryParts, Select}

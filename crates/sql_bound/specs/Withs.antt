@@ -1,7 +1,7 @@
 -- WITH: each table is bound where it is written, used or not, and sees itself and those in front of it, so that of two of one name the second sees itself alone (WITH Clause).
 use Rattle.std.specs.Prelude.{ℕ, Bool, true, false, List, [], ◌∷◌, ◌++◌, map, length, slice_get, Option, Some, Ok}
-use Rattle.sql_meaning.specs.Binding.{◌>>=◌}
-use Rattle.sql_meaning.specs.Spelled.{name_at}
+use Rattle.sql_words.specs.Refusals.{◌>>=◌}
+use Rattle.sql_words.specs.Spelled.{name_at}
 use Rattle.bound_tree.specs.declared.units.BoundUnit.TheVariants.{Recursed}
 use Rattle.bound_tree.specs.declared.units.BoundUnit.{BoundUnit}
 use Rattle.sql_bound.specs.Carriers.{TableParts}

@@ -7,7 +7,7 @@ use Rattle.sql_grammar.specs.Statements.{all_statement_rules}
 use Rattle.sql_lex.specs.Pieces.{word_kind}
 use Rattle.sql_lex.specs.Tokens.{tokens_of}
 use Rattle.sql_tree.specs.declared.statement.ConflictChoice.TheVariants as choice
-use Rattle.sql_meaning.specs.Spelled.{the_text_test}
+use Rattle.sql_words.specs.Spelled.{the_text_test}
 use Rattle.bound_tree.specs.Exprs as e
 use Rattle.bound_tree.specs.declared.writes.BoundChange.TheVariants.{Inserted, Updated}
 use Rattle.sql_bound.specs.Samples.{around_of, change_of, col, commanded, commanded_over, core, delete, dot, insert, lit, query, refused_write, res, set, starred, update, values, why}

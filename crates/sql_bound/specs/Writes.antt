@@ -4,8 +4,8 @@ use Rattle.std.specs.List.{range_with_len}
 use Rattle.eng_entry.specs.declared.entry.Entry.{Entry}
 use Rattle.sql_tree.specs.declared.statement.ConflictChoice.TheVariants as choice
 use Rattle.sql_tree.specs.declared.statement.ConflictChoice.{ConflictChoice}
-use Rattle.sql_meaning.specs.Binding.{◌>>=◌}
-use Rattle.sql_meaning.specs.Spelled.{name_at}
+use Rattle.sql_words.specs.Refusals.{◌>>=◌}
+use Rattle.sql_words.specs.Spelled.{name_at}
 use Rattle.bound_tree.specs.Exprs.{BoundExpr}
 use Rattle.bound_tree.specs.Same.{both_same}
 use Rattle.bound_tree.specs.declared.units.BoundSource.TheVariants as bound_source

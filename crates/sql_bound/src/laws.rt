@@ -21,7 +21,7 @@ ghost use Rattle.sql_bound.specs.Results.{ResultScope, nothing_shown, results_bo
 ghost use Rattle.bound_tree.specs.Same.{same_expr};
 ghost use Rattle.sql_bound.specs.Scopes.{Alias, Level, Scope, UnitsAnswer, bare_in, called_in, columns_named, counted_once, handed, is_need, name_of_ambiguous, nearest, needed, unjoined, with_named};
 ghost use Rattle.sql_bound.specs.Trees.{of_expr, of_query};
-ghost use Rattle.sql_meaning.specs.Spelled.{name_at};
+ghost use Rattle.sql_words.specs.Spelled.{name_at};
 ghost use Rattle.eng_value.specs.declared.cause.Cause.{Cause};
 ghost use Rattle.eng_value.specs.declared.cause.Cause.TheVariants.{Ambiguous, Misuse, Unknown};
 ghost use Rattle.sql_bound.specs.declared.froms.Found.{Found};

@@ -31,11 +31,11 @@ use Rattle.sql_meaning.specs.declared.bound.BoundExpr.{BoundExpr}
 use Rattle.sql_meaning.specs.declared.bound.BoundMatch.{BoundMatch}
 use Rattle.sql_meaning.specs.declared.bound.BoundExpr.TheFolds.{fold-roll-BoundExpr, fold-roll-BoundArm, fold-roll-BoundMatch, ind-BoundExpr, map-BoundExpr}
 use Rattle.sql_meaning.specs.declared.bound.BoundExpr.TheOpen.{BoundExpr-F, BoundArm-F, BoundMatch-F}
-use Rattle.sql_meaning.specs.declared.bound.Literal.{Literal}
-use Rattle.sql_meaning.specs.declared.bound.Literal.TheVariants as literal
+use Rattle.sql_words.specs.declared.literal.Literal.{Literal}
+use Rattle.sql_words.specs.declared.literal.Literal.TheVariants as literal
 use Rattle.sql_meaning.specs.declared.column.Column.{Column}
 use Rattle.sql_meaning.specs.declared.column.TableEntry.{TableEntry}
-use Rattle.sql_meaning.specs.Binding.{◌>>=◌}
+use Rattle.sql_words.specs.Refusals.{◌>>=◌}
 use Rattle.sql_meaning.specs.Expression.{Arm, MatchArm, Meaning, arm_of, arm_step, chosen_in, first_known, in_all, literal_out, match_of, match_step, matched_in, parameter_of, value_of, value_step}
 use Rattle.sql_meaning.specs.Statement.{IsNamed, Item, Row, Failed, after_conjunct, all_put, begun, bound_outcome, causes_of, given_of, if_some, item_by, item_of, item_put, item_rows, items_at, items_of, outcome_of, product, put_source, refusal_of, row_put, row_under, rows_put, shown, shown_rows, sifted, source_of, stored, text_bound, text_outcome, values_placed, with_others}
 use Rattle.sql_meaning.specs.World.{Context, State, environment_at, rows_at}

@@ -16,7 +16,7 @@ use Rattle.eng_value.specs.declared.truth.Truth.TheVariants as truth
 use Rattle.eng_value.specs.declared.value.Value.{Value}
 use Rattle.sql_meaning.specs.declared.bound.BoundExpr.{BoundExpr}
 use Rattle.sql_meaning.specs.declared.column.TableEntry.{TableEntry}
-use Rattle.sql_meaning.specs.Binding.{◌>>=◌}
+use Rattle.sql_words.specs.Refusals.{◌>>=◌}
 use Rattle.sql_meaning.specs.BoundStatements.{Put}
 use Rattle.sql_meaning.specs.Effects.{AreDrawn, IsFull, IsOneMore, last_rowid_of}
 use Rattle.sql_meaning.specs.Expression.{value_of}

@@ -38,14 +38,15 @@ use Rattle.sql_tree.specs.declared.statement.Statement.{Statement}
 use Rattle.sql_meaning.specs.declared.bound.BoundExpr.{BoundExpr}
 use Rattle.sql_meaning.specs.declared.column.Column.{Column}
 use Rattle.sql_meaning.specs.declared.column.TableEntry.{TableEntry}
-use Rattle.sql_meaning.specs.Binding.{◌>>=◌}
+use Rattle.sql_words.specs.Refusals.{◌>>=◌}
 use Rattle.sql_meaning.specs.BoundStatements.{BoundStatement, Creates, DoesNothing, Drops, Put, Puts, Queries, Shows}
 use Rattle.sql_meaning.specs.Built.{is_built, is_table}
 use Rattle.sql_meaning.specs.Declarations.{columns_created, columns_given, columns_of_definition, table_called, table_of, table_with, tables_among, tables_of}
 use Rattle.sql_meaning.specs.Effects.{last_rowid_of}
-use Rattle.sql_meaning.specs.Names.{is_reserved_name}
-use Rattle.sql_meaning.specs.Spelled.{name_at}
-use Rattle.sql_meaning.specs.Statement.{all_put, answer_bound, answer_of, begun, body_of, bound_outcome, causes_of, command_bound, create_bound, created, drop_bound, dropped, entry_with, fitting, found_table, given_of, is_free_name, is_new_table, limit_kind, outcome_of, part_bound, places_for, places_named, put_bound, put_from, put_source, rows_bound, rows_in, rows_put, select_bound, source_of, statement_bound, table_named, text_bound, text_outcome, values_for, where_built, with_created, without_table, written}
+use Rattle.sql_words.specs.Names.{is_reserved_name}
+use Rattle.sql_words.specs.Spelled.{name_at}
+use Rattle.sql_words.specs.Bodies.{answer_of, body_of}
+use Rattle.sql_meaning.specs.Statement.{all_put, answer_bound, begun, bound_outcome, causes_of, command_bound, create_bound, created, drop_bound, dropped, entry_with, fitting, found_table, given_of, is_free_name, is_new_table, limit_kind, outcome_of, part_bound, places_for, places_named, put_bound, put_from, put_source, rows_bound, rows_in, rows_put, select_bound, source_of, statement_bound, table_named, text_bound, text_outcome, values_for, where_built, with_created, without_table, written}
 use Rattle.sql_meaning.specs.Valid.{IsRowOf, IsTable, IsValid, IsWorld}
 use Rattle.sql_meaning.specs.World.{Context, State, World, rows_at, tables_in}
 use Rattle.sql_meaning.proofs.EffectLaws.{PutsRows, rows_put-all}

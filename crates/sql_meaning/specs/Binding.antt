@@ -41,26 +41,19 @@ use Rattle.sql_meaning.specs.declared.bound.BoundArm.{BoundArm, roll-BoundArm}
 use Rattle.sql_meaning.specs.declared.bound.BoundExpr.{BoundExpr}
 use Rattle.sql_meaning.specs.declared.bound.BoundExpr.TheVariants as e
 use Rattle.sql_meaning.specs.declared.bound.BoundMatch.{BoundMatch, roll-BoundMatch}
-use Rattle.sql_meaning.specs.declared.bound.Literal.TheVariants as literal
-use Rattle.sql_meaning.specs.declared.builtins.ArgumentCount.{ArgumentCount}
-use Rattle.sql_meaning.specs.declared.builtins.ArgumentCount.TheVariants as count
-use Rattle.sql_meaning.specs.declared.builtins.TheConstants.{BUILTINS}
+use Rattle.sql_words.specs.declared.literal.Literal.TheVariants as literal
+use Rattle.sql_words.specs.declared.builtins.ArgumentCount.{ArgumentCount}
+use Rattle.sql_words.specs.declared.builtins.ArgumentCount.TheVariants as count
+use Rattle.sql_words.specs.declared.builtins.TheConstants.{BUILTINS}
 use Rattle.sql_meaning.specs.declared.column.Column.{Column}
 use Rattle.eng_entry.specs.Names.{is_same_name}
-use Rattle.sql_meaning.specs.Spelled.{name_at, literal_at, is_least_magnitude}
+use Rattle.sql_words.specs.Builtins.{NamedBuiltin, builtin_named, takes}
+use Rattle.sql_words.specs.Collations.{by_bytes, collation_named}
+use Rattle.sql_words.specs.Names.{dotted}
+use Rattle.sql_words.specs.Refusals.{◌>>=◌, in_turn, or_else}
+use Rattle.sql_words.specs.Spelled.{name_at, literal_at, is_least_magnitude}
+use Rattle.sql_words.specs.Types.{affinity_of_type}
 use Rattle.sql_meaning.specs.declared.column.TableEntry.{TableEntry}
-
--- ---- refusals, of which the first counts
-
-infixl 10 ◌>>=◌
-abbrev pub ◌>>=◌ : {A B E : Type 0} → Result A E → (A → Result B E) → Result B E
-(Ok a) >>= f = f a
-(Err why) >>= f = Err why
-
--- all of them, from the first on
-abbrev pub in_turn : {A B : Type 0} → (A → Result B Cause) → List A → Result (List B) Cause
-in_turn f [] = Ok []
-in_turn f (a ∷ rest) = f a >>= λ b. in_turn f rest >>= λ bs. Ok (b ∷ bs)
 
 -- ---- bound expressions
 
@@ -95,10 +88,6 @@ pub record Scope : Type 0 where
 
 -- ---- collations of operands
 
-abbrev pub or_else : {X : Type 0} → Option X → Option X → Option X
-or_else None b = b
-or_else (Some a) b = Some a
-
 -- the collation of the first COLLATE in some
 abbrev pub first_explicit : List Bound → Option Collation
 first_explicit [] = None
@@ -112,9 +101,6 @@ collation_of b = or_else b.explicit b.column
 abbrev pub first_collation : List Bound → Option Collation
 first_collation [] = None
 first_collation (b ∷ rest) = or_else (collation_of b) (first_collation rest)
-
-abbrev pub by_bytes : Collation
-by_bytes = collation.Built built.Binary
 
 -- over these operands, without an affinity and no column
 abbrev pub over : List Bound → BoundExpr → Bound
@@ -181,9 +167,6 @@ column_or_result name results columns (Some place) = Ok (column_at columns place
 abbrev pub column_bound : List ℕ → List NamedResult → Option TableEntry → Result Bound Cause
 column_bound name results None = result_named name results
 column_bound name results (Some t) = column_or_result name results t.columns (column_place t.columns name)
-
-abbrev pub dotted : List ℕ → List ℕ → List ℕ
-dotted table name = table ++ codes "." ++ name
 
 -- a table that has another name there is not called by its own
 abbrev pub table_column_bound : List ℕ → List ℕ → List ℕ → Option TableEntry → Result Bound Cause
@@ -276,32 +259,10 @@ in_bound a others = over (a ∷ others) (e.In (member_sides a) a.tree (map tree_
 
 -- ---- collations and types
 
-abbrev pub collation_named : List ℕ → Option Collation
-collation_named name =
-    if is_same_name name (codes "BINARY") then Some (collation.Built built.Binary) else
-    if is_same_name name (codes "NOCASE") then Some (collation.Built built.NoCase) else
-    if is_same_name name (codes "RTRIM") then Some (collation.Built built.Rtrim) else None
-
 -- it keeps the value and the affinity
 abbrev pub collate_bound : List ℕ → Option Collation → Bound → Result Bound Cause
 collate_bound name None a = Err (cause.Unknown named.Collation name)
 collate_bound name (Some c) a = Ok (record a { explicit = Some c; form = Plain; conjuncts = a.tree ∷ [] })
-
--- some word holds this one
-abbrev pub mentions : List (List ℕ) → List ℕ → Bool
-mentions words part = list_any (λ w. is_some (place_of part (folded w))) words
-
--- the first rule that fits; no word at all is BLOB
-abbrev pub affinity_of_words : List (List ℕ) → Affinity
-affinity_of_words [] = affinity.Blob
-affinity_of_words (w ∷ ws) =
-    if mentions (w ∷ ws) (codes "int") then affinity.Integer else
-    if list_any (mentions (w ∷ ws)) (codes "char" ∷ codes "clob" ∷ codes "text" ∷ []) then affinity.Text else
-    if mentions (w ∷ ws) (codes "blob") then affinity.Blob else
-    if list_any (mentions (w ∷ ws)) (codes "real" ∷ codes "floa" ∷ codes "doub" ∷ []) then affinity.Real else affinity.Numeric
-
-abbrev pub affinity_of_type : List ℕ → TypeName → Affinity
-affinity_of_type text t = affinity_of_words (map (name_at text) t.words)
 
 abbrev pub cast_bound : Affinity → Bound → Bound
 cast_bound to a = record (over (a ∷ []) (e.Unary (unary.Cast to) a.tree)) { affinity = to; column = a.column }
@@ -340,17 +301,6 @@ case_bound (Some a) arms otherwise = over (a ∷ arm_parts arms ++ option_list o
 
 -- ---- calls
 
--- a name of a function, the function, and how many arguments it takes
-pub record NamedBuiltin : Type 0 where
-  pub name : List ℕ
-  pub function : Builtin
-  pub count : ArgumentCount
-
-abbrev pub takes : ArgumentCount → ℕ → Bool
-takes (count.Exactly n) given = nat_eq given n
-takes (count.Between least most) given = nat_le least given && nat_le given most
-takes (count.AtLeast least) given = nat_le least given
-
 -- coalesce and iif look at their arguments in order
 abbrev pub tree_by : FunctionKind → Builtin → Collation → List BoundExpr → BoundExpr
 tree_by FirstKnown f collation args = e.Coalesce args
@@ -362,10 +312,6 @@ call_tree f collation args = tree_by (kind_of f) f collation args
 
 abbrev pub call_bound : Builtin → List Bound → Bound
 call_bound f args = over args (call_tree f (unwrap_or (first_collation args) by_bytes) (map tree_of args))
-
--- a function by its name, as it is called
-abbrev pub builtin_named : List ℕ → Option NamedBuiltin
-builtin_named name = find (λ (b : NamedBuiltin). is_same_name b.name name) (map (λ b. record { name = b.0.now; function = b.1; count = b.2 }) BUILTINS)
 
 -- a call of a function: `*` is none of its arguments, and DISTINCT is none of its words
 abbrev pub call_checked : NamedBuiltin → Arguments → ℕ → Result Builtin Cause

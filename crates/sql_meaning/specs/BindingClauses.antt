@@ -6,8 +6,9 @@ use Rattle.sql_tree.specs.declared.expr.Expr.{Expr, the_lemmas}
 use Rattle.sql_tree.specs.declared.expr.Expr.TheVariants as e
 use Rattle.sql_tree.specs.declared.expr.UnaryOp.{UnaryOp}
 use Rattle.sql_tree.specs.declared.token.Token.{Token}
-use Rattle.sql_meaning.specs.Spelled.{name_at}
-use Rattle.sql_meaning.specs.Binding.{◌>>=◌, Scope, bound_of, literal_bound, column_bound, unary_bound, binary_bound, between_bound, in_bound, all_in}
+use Rattle.sql_words.specs.Spelled.{name_at}
+use Rattle.sql_words.specs.Refusals.{◌>>=◌}
+use Rattle.sql_meaning.specs.Binding.{Scope, bound_of, literal_bound, column_bound, unary_bound, binary_bound, between_bound, in_bound, all_in}
 
 pub bound_of-Literal : (t : Token) (s : Scope) → bound_of (e.Literal t) s ≡ Ok (literal_bound s.text t)
 bound_of-Literal t s = search (rules, the_lemmas)

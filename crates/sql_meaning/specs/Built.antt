@@ -28,8 +28,8 @@ use Rattle.sql_tree.specs.declared.statement.RowCommand.{RowCommand}
 use Rattle.sql_tree.specs.declared.statement.RowCommand.TheVariants as rows_by
 use Rattle.sql_tree.specs.declared.statement.Statement.{Statement}
 use Rattle.sql_tree.specs.declared.statement.TableDefinition.{TableDefinition}
-use Rattle.sql_meaning.specs.Names.{is_named_in}
-use Rattle.sql_meaning.specs.Spelled.{name_bytes}
+use Rattle.sql_words.specs.Names.{is_named_in}
+use Rattle.sql_words.specs.Spelled.{name_bytes}
 
 -- max and min of one argument are aggregates
 abbrev pub is_aggregate : List ℕ → Arguments → ℕ → Bool

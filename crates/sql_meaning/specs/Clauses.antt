@@ -24,8 +24,8 @@ use Rattle.sql_meaning.specs.declared.bound.BoundArm.{BoundArm, roll-BoundArm}
 use Rattle.sql_meaning.specs.declared.bound.BoundExpr.{BoundExpr, the_lemmas}
 use Rattle.sql_meaning.specs.declared.bound.BoundExpr.TheVariants as e
 use Rattle.sql_meaning.specs.declared.bound.BoundMatch.{BoundMatch, roll-BoundMatch}
-use Rattle.sql_meaning.specs.declared.bound.Literal.{Literal}
-use Rattle.sql_meaning.specs.declared.bound.Literal.TheVariants as literal
+use Rattle.sql_words.specs.declared.literal.Literal.{Literal}
+use Rattle.sql_words.specs.declared.literal.Literal.TheVariants as literal
 use Rattle.sql_meaning.specs.Expression.{value_of, arm_of, match_of, literal_out, column_of_item, parameter_of, between_of, first_known, chosen_in, matched_in, function_of, in_all}
 
 pub value_of-Literal : (l : Literal) (env : Environment) → value_of (e.Literal l) env ≡ literal_out l

@@ -21,17 +21,14 @@ use Rattle.sql_tree.specs.declared.statement.Definition.{Definition}
 use Rattle.sql_tree.specs.declared.statement.Definition.TheVariants as definition
 use Rattle.sql_meaning.specs.declared.column.Column.{Column}
 use Rattle.sql_meaning.specs.declared.column.TableEntry.{TableEntry}
-use Rattle.sql_meaning.specs.Binding.{◌>>=◌, affinity_of_type}
-use Rattle.sql_meaning.specs.Spelled.{name_at}
+use Rattle.sql_words.specs.Refusals.{◌>>=◌}
+use Rattle.sql_words.specs.Types.{type_affinity}
+use Rattle.sql_words.specs.Spelled.{name_at}
 
 abbrev pub within_columns : {X : Type 0} → List X → Result (List X) Cause
 within_columns xs = if nat_le (length xs) MAX_COLUMNS then Ok xs else Err (cause.Limit limit.Columns)
 
 -- ---- columns, each in turn
-
-abbrev pub type_affinity : List ℕ → Option TypeName → Affinity
-type_affinity text None = affinity.Blob
-type_affinity text (Some t) = affinity_of_type text t
 
 -- REAL is refused
 abbrev pub declared_affinity : Affinity → Result Affinity Cause

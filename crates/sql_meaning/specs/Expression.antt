@@ -20,8 +20,8 @@ use Rattle.sql_meaning.specs.declared.bound.BoundArm.{BoundArm, fold-BoundArm}
 use Rattle.sql_meaning.specs.declared.bound.BoundExpr.{BoundExpr, fold-BoundExpr}
 use Rattle.sql_meaning.specs.declared.bound.BoundMatch.{BoundMatch, fold-BoundMatch}
 use Rattle.sql_meaning.specs.declared.bound.BoundExpr.TheOpen.{BoundExpr-F, BoundArm-F, BoundMatch-F}
-use Rattle.sql_meaning.specs.declared.bound.Literal.{Literal}
-use Rattle.sql_meaning.specs.declared.bound.Literal.TheVariants as literal
+use Rattle.sql_words.specs.declared.literal.Literal.{Literal}
+use Rattle.sql_words.specs.declared.literal.Literal.TheVariants as literal
 
 -- what something comes to, by the environment
 abbrev pub Meaning : Type 0

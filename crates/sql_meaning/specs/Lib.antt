@@ -1,7 +1,5 @@
 -- in the order in which they are read
 pub use Rattle.eng_entry.specs.Entries
-pub mod Names
-pub mod Spelled
 pub mod BoundStatements
 pub mod Binding
 pub mod Declarations

@@ -15,7 +15,7 @@ use Rattle.sql_tree.specs.declared.token.Token.{Token}
 use Rattle.sql_tree.specs.declared.token.TokenKind.TheVariants as kind
 use Rattle.eng_value.specs.declared.value.Value.TheVariants as value
 use Rattle.sql_meaning.specs.declared.bound.BoundExpr.TheVariants as bound
-use Rattle.sql_meaning.specs.declared.bound.Literal.TheVariants as literal
+use Rattle.sql_words.specs.declared.literal.Literal.TheVariants as literal
 use Rattle.sql_meaning.specs.Binding.{Scope, bound_of, over}
 use Rattle.sql_meaning.specs.BindingClauses.{bound_of-Literal, bound_of-Unary}
 

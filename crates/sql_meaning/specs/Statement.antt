@@ -56,13 +56,15 @@ use Rattle.sql_meaning.specs.declared.bound.BoundExpr.{BoundExpr}
 use Rattle.sql_meaning.specs.declared.bound.BoundExpr.TheVariants as e
 use Rattle.sql_meaning.specs.declared.column.Column.{Column}
 use Rattle.sql_meaning.specs.declared.column.TableEntry.{TableEntry}
-use Rattle.sql_meaning.specs.Binding.{◌>>=◌, in_turn, NamedResult, Scope, bound_of, column_place, unsplit}
+use Rattle.sql_words.specs.Bodies.{answer_of, body_of}
+use Rattle.sql_words.specs.Refusals.{◌>>=◌, in_turn}
+use Rattle.sql_meaning.specs.Binding.{NamedResult, Scope, bound_of, column_place, unsplit}
 use Rattle.sql_meaning.specs.BoundStatements.{BoundStatement, Creates, DoesNothing, Drops, FromItem, Put, Puts, Queries, Query, Shows}
 use Rattle.sql_meaning.specs.Declarations.{columns_of_definition, table_called, tables_of, within_columns}
 use Rattle.sql_meaning.specs.Built.{is_built, is_table}
 use Rattle.sql_meaning.specs.Expression.{value_of}
-use Rattle.sql_meaning.specs.Names.{is_reserved_name}
-use Rattle.sql_meaning.specs.Spelled.{name_at}
+use Rattle.sql_words.specs.Names.{is_reserved_name}
+use Rattle.sql_words.specs.Spelled.{is_off, name_at}
 use Rattle.sql_meaning.specs.World.{Context, State, World, environment_at, rows_at}
 
 -- what a statement means: the causes why it is refused, if it is, any of which may be named; the rows that it gives, unless these are those of its plan, which are no part of the meaning; what the update hook is told; how many rows it changes, and what the connection then holds
@@ -150,10 +152,6 @@ abbrev pub drop_outcome : State → TableEntry → Outcome
 drop_outcome state t = done [] (without_table state t)
 
 -- ---- PRAGMA
-
-abbrev pub is_off : List ℕ → Option Token → Bool
-is_off text None = false
-is_off text (Some t) = is_same_name (slice_of text t) (codes "OFF")
 
 -- `foreign_keys = OFF` does nothing, and there is no other
 abbrev pub pragma_bound : List ℕ → Pragma → Result BoundStatement Cause
@@ -495,28 +493,6 @@ abbrev pub limit_kind : Limit → LimitKind
 limit_kind grammar_limit.Nestings = limit.Nestings
 limit_kind grammar_limit.Operators = limit.Operators
 limit_kind grammar_limit.Parts = limit.Parts
-
-abbrev pub is_semicolon : Option Token → Bool
-is_semicolon None = false
-is_semicolon (Some t) = same_kind t.kind kind.Semicolon
-
--- without a `;` behind the others
-abbrev pub without_end : List Token → List Token
-without_end tokens = if is_semicolon (slice_get tokens (length tokens - 1)) then take (length tokens - 1) tokens else tokens
-
--- the byte behind the last token
-abbrev pub end_of : List Token → ℕ
-end_of [] = 0
-end_of (t ∷ []) = t.span.end
-end_of (t ∷ u ∷ tokens) = end_of (u ∷ tokens)
-
--- a text up to its last token, without a `;` there
-abbrev pub body_of : List ℕ → List ℕ
-body_of text = take (end_of (without_end (tokens_of text))) text
-
--- the answer of a text's tokens
-abbrev pub answer_of : List ℕ → Answer Statement
-answer_of text = whole (read_statement start (tokens_of text))
 
 -- what a text with so many bytes in front of its first token is bound to; where the grammar derives nothing, or not within its limits, that is why
 abbrev pub answer_bound : World → ℕ → List ℕ → Answer Statement → Result BoundStatement Cause

@@ -1,15 +1,7 @@
 // Expressions and statements whose names are bound.
-use eng_value::{
-    Affinity, BinaryOperator, Builtin, Cause, Collation, Sides, Text, UnaryOperator, Value,
-};
+use eng_value::{Affinity, BinaryOperator, Builtin, Collation, Sides, Text, UnaryOperator};
+use sql_words::Literal;
 use sqlite_items::{Boxed, Items};
-
-/// What a literal stands for: a value, or why it has none.
-#[derive(Drop)]
-pub enum Literal {
-    Value(Value),
-    Bad(Cause),
-}
 
 /// An expression over the rows of a FROM, with columns by their places.
 #[cycle(bound)]

@@ -1,20 +1,9 @@
 // Bound expressions, copied.
 ghost use Rattle.std.specs.Prelude.{◌≡◌, IfOk};
 
-use crate::bound::{BoundArm, BoundExpr, BoundMatch, Literal};
+use crate::bound::{BoundArm, BoundExpr, BoundMatch};
 use sqlite_items::{Boxed, Items};
 use std::alloc::{AllocError, Global};
-
-impl Clone for Literal {
-    ghost is_clone = { λ source copy. copy ≡ source };
-
-    fn clone(&self) -> Result<Literal, AllocError> {
-        match self {
-            Literal::Value(value) => Ok(Literal::Value(value.clone()?)),
-            Literal::Bad(cause) => Ok(Literal::Bad(cause.clone()?)),
-        }
-    }
-}
 
 impl BoundExpr {
     /// The same expression once more.

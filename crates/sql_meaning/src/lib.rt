@@ -7,15 +7,13 @@
 #![tactic(auto)]
 
 mod bound;
-mod builtins;
 mod column;
 mod copies;
 mod laws;
 mod script;
 mod states;
 
-pub use bound::{BoundArm, BoundExpr, BoundInsert, BoundMatch, BoundSelect, Literal, PutColumn};
-pub use builtins::{ArgumentCount, BUILTINS};
+pub use bound::{BoundArm, BoundExpr, BoundInsert, BoundMatch, BoundSelect, PutColumn};
 pub use column::{Column, TableEntry};
 pub use laws::{
     a_refusal_keeps_the_state, each_refusal_has_a_cause, enough_budget_leaves_the_meaning,

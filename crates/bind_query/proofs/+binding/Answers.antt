@@ -46,7 +46,7 @@ use Rattle.sql_bound.specs.declared.froms.Joining.{Joining}
 use Rattle.sql_bound.specs.declared.froms.QueueTable.{QueueTable}
 use Rattle.sql_bound.specs.declared.scopes.ArmOperands.{ArmOperands}
 use Rattle.sql_bound.specs.declared.scopes.Operand.{Operand}
-use Rattle.sql_meaning.specs.Spelled.{name_at}
+use Rattle.sql_words.specs.Spelled.{name_at}
 use Rattle.sql_tree.specs.declared.expr.Expr.{Expr}
 use Rattle.sql_tree.specs.declared.query.CommonTable.{CommonTable, out-CommonTable}
 use Rattle.sql_tree.specs.declared.query.FromItem.{FromItem, out-FromItem}

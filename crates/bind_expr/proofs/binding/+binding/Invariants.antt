@@ -1,5 +1,5 @@
 use Rattle.std.proofs.Common.{◌≡◌, drop, Ok}
-use Rattle.sql_meaning.specs.Binding.{◌>>=◌}
+use Rattle.sql_words.specs.Refusals.{◌>>=◌}
 use Rattle.bind_expr.specs.Gathers.{choices_of, matches_of, operands_of}
 use Rattle.bind_expr.specs.Groups.{beside}
 use Rattle.bind_expr.specs.Parts.{whole}

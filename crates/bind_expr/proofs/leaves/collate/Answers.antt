@@ -1,7 +1,7 @@
 use Rattle.std.proofs.Common.{Ok, ap, sym, ◌∙◌}
 use Rattle.std.proofs.lemmas.Result.{err_from_is_err_and}
-use Rattle.sql_meaning.specs.Binding.{collation_named}
-use Rattle.sql_meaning.specs.Spelled.{name_at}
+use Rattle.sql_words.specs.Collations.{collation_named}
+use Rattle.sql_words.specs.Spelled.{name_at}
 use Rattle.bind_expr.specs.Parts.{itself, whole}
 use Rattle.bind_expr.proofs.Collations.{collate_bound-is}
 use Rattle.bind_expr.proofs.Givings.{ends, goes_on}

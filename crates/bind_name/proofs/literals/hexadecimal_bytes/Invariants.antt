@@ -1,5 +1,5 @@
 use Rattle.std.proofs.Common.{◌≡◌, ◌++◌, length}
-use Rattle.sql_meaning.specs.Spelled.{hexadecimal_bytes}
+use Rattle.sql_words.specs.Spelled.{hexadecimal_bytes}
 use Rattle.bind_name.proofs.literals.hexadecimal_bytes.Given as goal
 
 abbrev pub invariant-loop-rest : goal.invariant-loop-rest

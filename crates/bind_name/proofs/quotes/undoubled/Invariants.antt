@@ -1,5 +1,5 @@
 use Rattle.std.proofs.Common.{◌≡◌, ◌++◌, length}
-use Rattle.sql_meaning.specs.Spelled.{undoubled}
+use Rattle.sql_words.specs.Spelled.{undoubled}
 use Rattle.bind_name.proofs.quotes.undoubled.Given as goal
 
 abbrev pub invariant-loop-rest : goal.invariant-loop-rest

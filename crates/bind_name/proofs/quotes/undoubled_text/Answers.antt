@@ -2,7 +2,7 @@ use Rattle.std.proofs.Common.{◌≡◌, ◌∙◌, IfOk, ap, string_bytes, sym,
 use Rattle.std.specs.Str.{IsUtf8}
 use Rattle.std.proofs.lemmas.Bool.{false≢true}
 use Rattle.std.proofs.lemmas.Str.{IsUtf8-string_bytes}
-use Rattle.sql_meaning.specs.Spelled.{as_text, undoubled}
+use Rattle.sql_words.specs.Spelled.{as_text, undoubled}
 use Rattle.bind_name.proofs.Texts.{utf8_as_text, other_as_text}
 use Rattle.bind_name.proofs.quotes.undoubled_text.Goals as goal
 

@@ -1,6 +1,6 @@
 use Rattle.std.proofs.Common.{◌≡◌, map, take}
 use Rattle.eng_text.specs.Texts.{folded}
-use Rattle.sql_meaning.specs.Spelled.{name_at}
+use Rattle.sql_words.specs.Spelled.{name_at}
 use Rattle.bind_name.proofs.types.folded_names.Given as goal
 
 abbrev pub invariant-loop-token : goal.invariant-loop-token

@@ -1,7 +1,7 @@
 use Rattle.std.proofs.Common.{◌≡◌, ◌&&◌, false, is_some, Ok, sym, ap, ◌∙◌}
 use Rattle.sql_meaning.specs.BoundStatements.{Creates}
 use Rattle.sql_meaning.specs.Declarations.{columns_created, columns_given, columns_of_definition, table_called}
-use Rattle.sql_meaning.specs.Spelled.{name_at}
+use Rattle.sql_words.specs.Spelled.{name_at}
 use Rattle.sql_meaning.specs.Statement.{entry_with, is_free_name}
 use Rattle.bind_stmt.proofs.TableNames.{create-Ok, not_both, not_first}
 use Rattle.bind_stmt.proofs.creating.bind_create.Goals.{else-create-via-then-create+else-has_table, else-create-via-else-create}

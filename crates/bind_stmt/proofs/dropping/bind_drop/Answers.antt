@@ -1,7 +1,7 @@
 use Rattle.std.proofs.Common.{◌≡◌, Some, refl, ap, ◌∙◌}
 use Rattle.sql_meaning.specs.BoundStatements.{Drops}
 use Rattle.sql_meaning.specs.Declarations.{table_called}
-use Rattle.sql_meaning.specs.Spelled.{name_at}
+use Rattle.sql_words.specs.Spelled.{name_at}
 use Rattle.bind_stmt.proofs.TableNames.{drop-Some}
 use Rattle.bind_stmt.proofs.dropping.bind_drop.Goals as goal
 

@@ -1,7 +1,7 @@
 use Rattle.std.proofs.Common.{◌+◌, drop, sym, ap, ◌∙◌, arith}
 use Rattle.std.proofs.lemmas.Grind.{common_steps}
 use Rattle.sql_tree.specs.declared.token.Token.{Token}
-use Rattle.sql_meaning.specs.Spelled.{name_at}
+use Rattle.sql_words.specs.Spelled.{name_at}
 use Rattle.sql_meaning.specs.Statement.{place_named}
 use Rattle.bind_stmt.proofs.Listing.{turn_left, turn_left-next}
 use Rattle.bind_stmt.proofs.inserting.places_of.Goals as goal

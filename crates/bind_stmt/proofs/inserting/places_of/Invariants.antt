@@ -1,6 +1,6 @@
 use Rattle.std.proofs.Common.{◌≡◌, drop}
-use Rattle.sql_meaning.specs.Binding.{in_turn}
-use Rattle.sql_meaning.specs.Spelled.{name_at}
+use Rattle.sql_words.specs.Refusals.{in_turn}
+use Rattle.sql_words.specs.Spelled.{name_at}
 use Rattle.sql_meaning.specs.Statement.{place_named}
 use Rattle.bind_stmt.proofs.Listing.{turn_left}
 use Rattle.bind_stmt.proofs.inserting.places_of.Given as goal

@@ -1,5 +1,5 @@
 use Rattle.std.proofs.Common.{Ok, ap}
-use Rattle.sql_meaning.specs.Binding.{◌>>=◌}
+use Rattle.sql_words.specs.Refusals.{◌>>=◌}
 use Rattle.sql_meaning.specs.BoundStatements.{Queries}
 use Rattle.bind_stmt.proofs.selecting.select_part.Goals as goal
 

@@ -1,5 +1,5 @@
 use Rattle.std.proofs.Common.{Ok, refl, ap}
-use Rattle.sql_meaning.specs.Binding.{◌>>=◌}
+use Rattle.sql_words.specs.Refusals.{◌>>=◌}
 use Rattle.sql_meaning.specs.BoundStatements.{Shows}
 use Rattle.bind_stmt.proofs.selecting.values_part.Goals as goal
 

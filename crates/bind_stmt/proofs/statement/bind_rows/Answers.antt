@@ -1,5 +1,5 @@
 use Rattle.std.proofs.Common.{Ok, ap, ◌∙◌}
-use Rattle.sql_meaning.specs.Binding.{◌>>=◌}
+use Rattle.sql_words.specs.Refusals.{◌>>=◌}
 use Rattle.sql_meaning.specs.BoundStatements.{Puts}
 use Rattle.sql_meaning.specs.Statement.{rows_bound}
 use Rattle.bind_stmt.proofs.statement.bind_rows.Goals as goal

@@ -2,7 +2,7 @@ use Rattle.std.proofs.Common.{◌≡◌, ◌+◌, rules}
 use Rattle.bind_target.specs.Meant.{target_meant}
 use Rattle.bind_target.proofs.PlaceLaws.{walk-first}
 use Rattle.sql_bound.specs.Writes.{listed_place}
-use Rattle.sql_meaning.specs.Spelled.{name_at}
+use Rattle.sql_words.specs.Spelled.{name_at}
 use Rattle.bind_target.proofs.places.+put_places.Goals as goal
 
 pub returns-in_ok-put_place-in-Some : goal.returns-in_ok-put_place-in-Some

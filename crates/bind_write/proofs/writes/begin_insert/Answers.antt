@@ -1,7 +1,7 @@
 use Rattle.std.proofs.Common.{rules, map, []}
 use Rattle.std.proofs.lemmas.Result.{err_from_is_err_and}
 use Rattle.bind_target.specs.Meant.{begun_meant, target_meant}
-use Rattle.sql_meaning.specs.Spelled.{name_at}
+use Rattle.sql_words.specs.Spelled.{name_at}
 use Rattle.bind_query.specs.Scopes.{outer_of}
 use Rattle.bind_write.specs.Parts.{insert_parts}
 use Rattle.sql_bound.specs.Writes.{insert_begun}

@@ -7,7 +7,8 @@ use Rattle.sql_grammar.specs.Answers.{Answer}
 use Rattle.sql_grammar.specs.StatementTexts.{AnswersAs}
 use Rattle.sql_lex.specs.Tokens.{tokens_of}
 use Rattle.sql_meaning.specs.Declarations.{tables_of}
-use Rattle.sql_meaning.specs.Statement.{body_of, end_of, statement_bound, text_bound_from, without_end}
+use Rattle.sql_words.specs.Bodies.{body_of, end_of, without_end}
+use Rattle.sql_meaning.specs.Statement.{statement_bound, text_bound_from}
 use Rattle.sql_tree.specs.Sizes.{size_of_statement}
 use Rattle.sql_tree.specs.declared.statement.Statement.{Statement}
 use Rattle.engine.specs.Held.{world_in}

@@ -3,18 +3,17 @@ ghost use Rattle.std.specs.Prelude.{◌≡◌, map, codes};
 ghost use Rattle.std.specs.Option.{option_map};
 ghost use Rattle.sql_meaning.specs.Built.{all_pass, is_aggregate, is_built_arm, is_built_expr, option_passes};
 ghost use Rattle.eng_entry.specs.Names.{is_same_name};
-ghost use Rattle.sql_meaning.specs.Names.{is_named_in};
-ghost use Rattle.sql_meaning.specs.Spelled.{name_bytes, name_of, undoubled};
+ghost use Rattle.sql_words.specs.Names.{is_named_in};
+ghost use Rattle.sql_words.specs.Spelled.{name_bytes, name_of, undoubled};
 
-use crate::quotes::past_second;
-use crate::slices::{inside, slice_of};
+use bind_name::{inside, past_second, slice_of};
 use eng_entry::is_same_name;
 use sql_tree::{Arguments, Arm, Expr, Token};
 use sqlite_items::Boxed;
 
 /// Whether all of an expression in the text is built. Takes no memory.
 #[cycle(built)]
-pub fn is_built(text: &str, e: &Expr) -> bool
+pub(crate) fn is_built(text: &str, e: &Expr) -> bool
     ensures { result ≡ is_built_expr e.now text.now }
 {
     match e {

@@ -1,8 +1,9 @@
 -- What the names and the literals of a text stand for (SQL Language Expressions, section 3; SQL Keywords).
-use Rattle.std.specs.Prelude.{◌≡◌, ℕ, ◌-◌, ◌%◌, ◌^◌, ◌==◌, ◌&&◌, ◌||◌, nat_lt, Bool, false, List, [], ◌∷◌, take, drop, length, ℤ, pos, negsuc, ◌-ℤ◌, if◌then◌else◌, codes, refl}
+use Rattle.std.specs.Prelude.{◌≡◌, ℕ, ◌-◌, ◌%◌, ◌^◌, ◌==◌, ◌&&◌, ◌||◌, nat_lt, Bool, false, List, [], ◌∷◌, take, drop, length, ℤ, pos, negsuc, ◌-ℤ◌, Option, Some, None, if◌then◌else◌, codes, refl}
 use Rattle.std.specs.Char.{encode_utf8, to_ascii_lowercase}
 use Rattle.std.specs.Str.{chars, is_utf8}
 use Rattle.std.specs.Str.Parse.{digits_value}
+use Rattle.eng_entry.specs.Names.{is_same_name}
 use Rattle.eng_number.specs.Forms.{digits}
 use Rattle.eng_number.specs.Numbers.{fits_integer}
 use Rattle.eng_value.specs.declared.cause.Cause.TheVariants as cause
@@ -13,8 +14,8 @@ use Rattle.sql_lex.specs.Tokens.{slice_of}
 use Rattle.sql_tree.specs.declared.token.Token.{Token}
 use Rattle.sql_tree.specs.declared.token.TokenKind.{TokenKind}
 use Rattle.sql_tree.specs.declared.token.TokenKind.TheVariants as kind
-use Rattle.sql_meaning.specs.declared.bound.Literal.{Literal}
-use Rattle.sql_meaning.specs.declared.bound.Literal.TheVariants.{Value, Bad}
+use Rattle.sql_words.specs.declared.literal.Literal.{Literal}
+use Rattle.sql_words.specs.declared.literal.Literal.TheVariants.{Value, Bad}
 
 -- ---- quotes
 
@@ -100,6 +101,13 @@ literal_of _ bytes = Value value.Null
 
 abbrev pub literal_at : List ℕ → Token → Literal
 literal_at text t = literal_of t.kind (slice_of text t)
+
+-- ---- words
+
+-- what a PRAGMA is set to
+abbrev pub is_off : List ℕ → Option Token → Bool
+is_off text None = false
+is_off text (Some t) = is_same_name (slice_of text t) (codes "OFF")
 
 -- ---- examples
 

@@ -1,6 +1,6 @@
 use Rattle.std.proofs.Common.{arith}
 use Rattle.std.proofs.lemmas.Grind.{common_steps}
-use Rattle.bind_name.proofs.built.is_undoubled.Goals as goal
+use Rattle.bind_stmt.proofs.built_expressions.is_undoubled.Goals as goal
 
 pub returns-in_default-wanted : goal.returns-in_default-wanted
 returns-in_default-wanted c = grind (arith, common_steps)

@@ -1,6 +1,6 @@
 use Rattle.std.proofs.Common.{◌≡◌, drop, map}
 use Rattle.sql_meaning.specs.Built.{all_pass, is_built_arm, is_built_expr}
-use Rattle.bind_name.proofs.built.+built.Given as goal
+use Rattle.bind_stmt.proofs.built_expressions.+built.Given as goal
 
 abbrev pub invariant-are_built-loop-e : goal.invariant-are_built-loop-e
 invariant-are_built-loop-e l = all_pass (map is_built_expr (drop l.e-index l.es)) l.text ≡ all_pass (map is_built_expr l.es) l.text

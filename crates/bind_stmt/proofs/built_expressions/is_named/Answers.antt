@@ -1,6 +1,6 @@
 use Rattle.std.proofs.Common.{arith}
 use Rattle.std.proofs.lemmas.Grind.{common_steps}
-use Rattle.bind_name.proofs.built.is_named.Goals as goal
+use Rattle.bind_stmt.proofs.built_expressions.is_named.Goals as goal
 
 pub returns-in-empty : goal.returns-in-empty
 returns-in-empty c = grind (arith, common_steps)

@@ -1,6 +1,6 @@
 use Rattle.std.proofs.Common.{arith}
-use Rattle.bind_name.proofs.BuiltLaws.{built-Literal, built-Parameter, built-Column, built-TableColumn, built-Unary, built-Binary, built-Between, built-Like, built-In, built-Collate, built-Cast, built-Case, built-InQuery, built-Subquery, built-Exists, built-RaiseIgnore, built-RaiseAbort}
-use Rattle.bind_name.proofs.built.+built.Goals as goal
+use Rattle.bind_stmt.proofs.BuiltLaws.{built-Literal, built-Parameter, built-Column, built-TableColumn, built-Unary, built-Binary, built-Between, built-Like, built-In, built-Collate, built-Cast, built-Case, built-InQuery, built-Subquery, built-Exists, built-RaiseIgnore, built-RaiseAbort}
+use Rattle.bind_stmt.proofs.built_expressions.+built.Goals as goal
 
 pub is_built-returns-in-Literal : goal.is_built-returns-in-Literal
 is_built-returns-in-Literal t c = grind (arith, built-Literal)
