@@ -1,0 +1,9 @@
+pub mod NodeLaws
+pub mod BoundLaws
+pub mod ColumnLaws
+pub mod OperandLaws
+pub mod SizeLaws
+pub mod SplitLaws
+pub mod FromLaws
+pub mod LayerLaws
+pub mod ResultLaws

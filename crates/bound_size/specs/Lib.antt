@@ -1,0 +1,4 @@
+pub mod Sizes
+pub mod Plain
+pub mod Brought
+pub mod Small
