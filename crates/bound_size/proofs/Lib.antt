@@ -7,3 +7,8 @@ pub mod SplitLaws
 pub mod FromLaws
 pub mod LayerLaws
 pub mod ResultLaws
+pub mod ValueLaws
+pub mod CoreLaws
+pub mod QueryLaws
+pub mod SameSizes
+pub mod PlaceLaws

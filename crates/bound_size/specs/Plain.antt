@@ -76,10 +76,10 @@ abbrev pub is_plain_part : PartLayer → Bool
 is_plain_part (QueryPart-F.Select core) = is_plain_core core
 is_plain_part (QueryPart-F.Values rows) = list_all is_plain_row rows
 
+abbrev pub is_alone : {X : Type 0} → List X → Bool
+is_alone [] = true
+is_alone (x ∷ others) = false
+
 -- of one part, which is plain
 abbrev pub is_plain_query : Query → Bool
 is_plain_query q = is_alone (of_query q).others && is_plain_part (of_part (of_query q).first)
-  where
-    is_alone : {X : Type 0} → List X → Bool
-    is_alone [] = true
-    is_alone (x ∷ others) = false

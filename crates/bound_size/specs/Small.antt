@@ -1,12 +1,11 @@
 -- How large what is bound of a query is, beside its tree.
-use Rattle.std.specs.Prelude.{◌≡◌, ◌≤◌, ℕ, ◌+◌, ◌*◌, Bool, true, false, List, [], ◌∷◌, length, map, Option, Some, None}
+use Rattle.std.specs.Prelude.{◌≡◌, ◌≤◌, ℕ, ◌+◌, ◌*◌, Bool, true, false, List, [], ◌∷◌, length, map, slice_get, Some, None}
 use Rattle.std.specs.List.{flat_map, list_all}
 use Rattle.sql_tree.specs.Layers.{PartLayer, ResultLayer, SelectLayer, of_part, of_query, of_result, of_select}
 use Rattle.sql_tree.specs.Sizes.{size_of_filter, size_of_from, size_of_result, size_of_row, total}
 use Rattle.sql_tree.specs.declared.expr.Expr.TheOpen.{QueryPart-F, ResultColumn-F}
 use Rattle.sql_tree.specs.declared.query.Query.{Query}
 use Rattle.sql_tree.specs.declared.query.ResultColumn.{ResultColumn}
-use Rattle.sql_tree.specs.declared.token.Token.{Token}
 use Rattle.bound_tree.specs.Exprs.{BoundExpr}
 use Rattle.bound_tree.specs.declared.units.BoundCore.{BoundCore}
 use Rattle.bound_tree.specs.declared.units.BoundItem.{BoundItem}
@@ -15,12 +14,8 @@ use Rattle.bound_tree.specs.declared.units.BoundPart.{BoundPart}
 use Rattle.bound_tree.specs.declared.units.BoundQuery.{BoundQuery}
 use Rattle.bound_tree.specs.declared.units.BoundUnit.TheVariants.{Queried}
 use Rattle.bound_tree.specs.declared.units.BoundUnit.{BoundUnit}
-use Rattle.sql_bound.specs.Queries.{asked_as}
 use Rattle.sql_bound.specs.Scopes.{Level}
-use Rattle.sql_bound.specs.declared.scopes.Asked.{Asked}
-use Rattle.sql_bound.specs.declared.scopes.ResultColumn.{ResultColumn as GivenColumn}
 use Rattle.sql_bound.specs.declared.scopes.ScopeItem.{ScopeItem}
-use Rattle.sql_bound.specs.declared.scopes.Work.{Work}
 use Rattle.bound_size.specs.Sizes.{all_nodes, rows_size, tests_of}
 
 -- ---- FROM
@@ -71,10 +66,8 @@ IsSmallPart (QueryPart-F.Select core) (bound_part.Select b) = IsSmallCore (of_se
 IsSmallPart (QueryPart-F.Values rows) (bound_part.Values bound) = AreFewRows (total (map size_of_row rows)) bound
 IsSmallPart part other = ⊥
 
--- the unit that a query makes is this one, and its first part is small
-pub record MakesSmall (q : Query) (a : Asked × List BoundUnit) : Type 0 where
+-- in this place stands a query whose first part is small beside that of the tree
+pub record MakesSmall (q : Query) (place : ℕ) (units : List BoundUnit) : Type 0 where
   pub unit : BoundQuery
-  pub columns : List GivenColumn
-  pub work : Work
-  pub made : a ≡ asked_as (Queried unit) columns work
+  pub placed : slice_get units place ≡ Some (Queried unit)
   pub small : IsSmallPart (of_part (of_query q).first) unit.first

@@ -7,4 +7,7 @@
 
 mod laws;
 
-pub use laws::expressions_are_linear;
+pub use laws::{
+    columns_are_nodes, expressions_are_linear, queries_are_linear, results_are_linear,
+    rows_are_linear,
+};
