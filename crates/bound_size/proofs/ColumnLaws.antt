@@ -1,16 +1,13 @@
 -- A name brings one node.
-use Rattle.std.proofs.Common.{◌≡◌, ◌≤◌, ℕ, zero, suc, Bool, true, false, not, ◌&&◌, cond, List, [], ◌∷◌, ◌++◌, filter, position, Option, Some, None, Ok, Err, refl, ap, subst, ◌∙◌, arith}
-use Rattle.std.specs.Bool.{⊤}
+use Rattle.std.proofs.Common.{◌≡◌, ◌≤◌, ℕ, zero, suc, Bool, true, false, not, ◌&&◌, cond, List, [], ◌∷◌, ◌++◌, filter, position, Option, Some, None, Ok, refl, ap, subst, ◌∙◌, arith}
 use Rattle.std.specs.List.{AllByRecursion, flat_map}
 use Rattle.std.specs.Option.{option_to_list}
 use Rattle.eng_entry.specs.Names.{is_same_name}
 use Rattle.eng_value.specs.declared.cause.Cause.TheVariants.{Misuse}
 use Rattle.sql_words.specs.Names.{dotted}
 use Rattle.sql_words.specs.Refusals.{◌>>=◌}
-use Rattle.bound_tree.specs.Exprs as e
 use Rattle.bound_tree.specs.Exprs.{BoundExpr}
-use Rattle.sql_bound.specs.Columns.{called_column_bound, column_bound, further_out, name_shown, named_in, of_alias, of_outer, of_own, seen, seen_or_unknown}
-use Rattle.sql_bound.specs.Refusals.{Checked}
+use Rattle.sql_bound.specs.Columns.{called_column_bound, column_bound, further_out, name_shown, named_in, of_outer, of_own, seen, seen_or_unknown}
 use Rattle.sql_bound.specs.Scopes.{Level, Scope, argument_at, bare_in, brought, called_in, columns_named, counted_once, has_column, is_called, is_need, is_rowid_name, nearest, nearest_from, nearest_of, rowid_named, unjoined}
 use Rattle.sql_bound.specs.declared.scopes.Need.{Need}
 use Rattle.sql_bound.specs.declared.scopes.Operand.{Operand}

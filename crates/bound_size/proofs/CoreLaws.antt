@@ -1,5 +1,5 @@
 -- A SELECT that is bound is small beside its tree.
-use Rattle.std.proofs.Common.{◌≡◌, ◌≤◌, ℕ, ◌+◌, ◌*◌, Bool, true, false, ◌&&◌, List, [], ◌∷◌, ◌++◌, length, map, Option, Some, None, Ok, refl, sym, ap, subst, ◌∙◌, arith}
+use Rattle.std.proofs.Common.{◌≡◌, ◌≤◌, ℕ, ◌*◌, Bool, true, List, [], ◌∷◌, ◌++◌, length, map, Option, Some, None, Ok, refl, ap, subst, ◌∙◌, arith}
 use Rattle.std.proofs.lemmas.List.{length-map}
 use Rattle.std.specs.List.{flat_map, list_all}
 use Rattle.std.specs.Option.{option_map}
@@ -99,11 +99,11 @@ clauses_small standing o core grouped f w r found items plain h =
     let behind = scope_of_clause standing f.level o parts.results in
     let shown = shown_in o.text f.level parts.results in
     let made : List BoundExpr × Work → List BoundKey × Work → List BoundExpr × Work → Shown × Work → BoundSelect × Work =
-        λ c k h r. (select_with parts f c.0 grouped k.0 h.0 r.0, r.1) in
+    λ c k h r. (select_with parts f c.0 grouped k.0 h.0 r.0, r.1) in
     let c = bound_by (conjuncts_bound before parts.filter w)
-        (λ c. keys_bound before shown parts.group_by c.1 >>= λ k. having_bound behind k.0 f.level parts.having k.1 >>= λ h. results_of standing o parts f.level grouped k.0 h.1 >>= λ r. Ok (made c k h r)) r h in
+    (λ c. keys_bound before shown parts.group_by c.1 >>= λ k. having_bound behind k.0 f.level parts.having k.1 >>= λ h. results_of standing o parts f.level grouped k.0 h.1 >>= λ r. Ok (made c k h r)) r h in
     let k = bound_by (keys_bound before shown parts.group_by c.0.1)
-        (λ k. having_bound behind k.0 f.level parts.having k.1 >>= λ h. results_of standing o parts f.level grouped k.0 h.1 >>= λ r. Ok (made c.0 k h r)) r c.2 in
+    (λ k. having_bound behind k.0 f.level parts.having k.1 >>= λ h. results_of standing o parts f.level grouped k.0 h.1 >>= λ r. Ok (made c.0 k h r)) r c.2 in
     let g = bound_by (having_bound behind k.0.0 f.level parts.having k.0.1) (λ h. results_of standing o parts f.level grouped k.0.0 h.1 >>= λ r. Ok (made c.0 k.0 h r)) r k.2 in
     let s = bound_by (results_of standing o parts f.level grouped k.0.0 g.0.1) (λ r. Ok (made c.0 k.0 g.0 r)) r g.2 in
     subst (λ (x : BoundSelect × Work). IsSmallSelect (of_select core) x.0) (same_answer (made c.0 k.0 g.0 s.0) r s.2)

@@ -1,11 +1,9 @@
 -- Each column that a FROM brings is one node, and names see no more columns than its items have.
-use Rattle.std.proofs.Common.{◌≡◌, ◌≤◌, ℕ, zero, suc, ◌+◌, Bool, true, false, ◌&&◌, cond, filter, List, [], ◌∷◌, ◌++◌, length, map, Option, Some, None, slice_get, Ok, Err, refl, ap, subst, arith}
+use Rattle.std.proofs.Common.{◌≡◌, ◌≤◌, ℕ, zero, suc, ◌+◌, Bool, true, false, ◌&&◌, cond, filter, List, [], ◌∷◌, ◌++◌, length, map, Option, Some, None, slice_get, Ok, subst, arith}
 use Rattle.std.proofs.lemmas.List.{length-map}
 use Rattle.std.specs.List.{AllByRecursion}
 use Rattle.eng_entry.specs.Names.{is_same_name}
 use Rattle.eng_value.specs.declared.limits.TheConstants.{MAX_COLUMNS}
-use Rattle.sql_tree.specs.Sizes.{total}
-use Rattle.sql_tree.specs.declared.token.Token.{Token}
 use Rattle.sql_words.specs.Refusals.{◌>>=◌}
 use Rattle.sql_words.specs.Spelled.{name_at}
 use Rattle.bound_tree.specs.declared.units.BoundColumn.{BoundColumn}
@@ -19,13 +17,12 @@ use Rattle.sql_bound.specs.declared.froms.Found.{Found}
 use Rattle.sql_bound.specs.declared.froms.Joining.{Joining}
 use Rattle.sql_bound.specs.declared.froms.QueueTable.{QueueTable}
 use Rattle.sql_bound.specs.declared.froms.Sourced.{Sourced}
-use Rattle.sql_bound.specs.declared.scopes.Operand.{Operand}
 use Rattle.sql_bound.specs.declared.scopes.ScopeColumn.{ScopeColumn}
 use Rattle.sql_bound.specs.declared.scopes.ScopeItem.{ScopeItem}
 use Rattle.sql_bound.specs.declared.scopes.Work.{Work}
 use Rattle.bound_size.specs.Brought.{AllBringNodes, BringsNodes, IsNode, IsNodeIfThere}
 use Rattle.bound_size.specs.Small.{columns_in, seen_columns}
-use Rattle.bound_size.proofs.BoundLaws.{answer, bound_by, same_answer}
+use Rattle.bound_size.proofs.BoundLaws.{bound_by, same_answer}
 use Rattle.bound_size.proofs.ColumnLaws.{all_append}
 
 -- ---- an item, as names see it

@@ -1,13 +1,12 @@
 -- What results, parts of queries and queries come to, by their layers.
-use Rattle.std.proofs.Common.{◌≡◌, rules, List, map, Option, Some, None, refl, ap, subst}
+use Rattle.std.proofs.Common.{◌≡◌, rules, map, Some, None, refl, ap, subst}
 use Rattle.sql_tree.specs.Layers.{PartLayer, ResultLayer}
 use Rattle.sql_tree.specs.declared.expr.Expr.TheOpen.{QueryPart-F, ResultColumn-F}
-use Rattle.sql_tree.specs.declared.expr.Expr.{Expr, the_lemmas}
+use Rattle.sql_tree.specs.declared.expr.Expr.{the_lemmas}
 use Rattle.sql_tree.specs.declared.query.QueryPart.{QueryPart, fold-roll-QueryPart, out-QueryPart, roll-QueryPart, roll-out-QueryPart}
 use Rattle.sql_tree.specs.declared.query.ResultColumn.{ResultColumn, fold-roll-ResultColumn, out-ResultColumn, roll-ResultColumn, roll-out-ResultColumn}
 use Rattle.sql_tree.specs.declared.query.SpannedExpr.{SpannedExpr, out-SpannedExpr}
-use Rattle.sql_tree.specs.declared.token.Token.{Token}
-use Rattle.sql_bound.specs.Carriers.{All, AllOf, One, PartParts, ResultParts, Select, SpannedExpression, Values}
+use Rattle.sql_bound.specs.Carriers.{All, AllOf, One, PartParts, ResultParts, Select, Values}
 use Rattle.sql_bound.specs.Trees.{of_core, of_expr, of_part, of_result, of_spanned}
 
 pub of_spanned-out : (x : SpannedExpr) → of_spanned x ≡ record { expr = of_expr (out-SpannedExpr x).expr; text = (out-SpannedExpr x).text }

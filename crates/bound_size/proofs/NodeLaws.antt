@@ -3,7 +3,6 @@ use Rattle.std.proofs.Common.{◌≡◌, ◌≤◌, ℕ, ◌+◌, ◌*◌, List,
 use Rattle.std.specs.List.{flat_map}
 use Rattle.eng_value.specs.declared.builtin.Builtin.{Builtin}
 use Rattle.eng_value.specs.declared.collation.Collation.{Collation}
-use Rattle.eng_value.specs.declared.operators.BinaryOperator.TheVariants as binary
 use Rattle.eng_value.specs.declared.operators.Sides.{Sides}
 use Rattle.sql_tree.specs.Sizes.{total}
 use Rattle.bound_tree.specs.Exprs as e

@@ -1,5 +1,5 @@
 -- What operators, calls and CASE make of operands adds a node or two.
-use Rattle.std.proofs.Common.{◌≡◌, ◌≤◌, ℕ, ◌+◌, List, [], ◌∷◌, map, Option, Some, None, unwrap_or, refl, arith}
+use Rattle.std.proofs.Common.{◌≡◌, ◌≤◌, ℕ, ◌+◌, List, [], ◌∷◌, map, Option, Some, None, refl, arith}
 use Rattle.eng_value.specs.Functions.{ByKeys, Choice, FirstKnown, FunctionKind, OfText, OfValues, kind_of}
 use Rattle.eng_value.specs.declared.affinity.Affinity.{Affinity}
 use Rattle.eng_value.specs.declared.builtin.Builtin.{Builtin}
@@ -9,9 +9,8 @@ use Rattle.sql_tree.specs.declared.expr.BinaryOp.TheVariants as op
 use Rattle.sql_tree.specs.declared.expr.BinaryOp.{BinaryOp}
 use Rattle.sql_tree.specs.declared.expr.UnaryOp.TheVariants as sign
 use Rattle.sql_tree.specs.declared.expr.UnaryOp.{UnaryOp}
-use Rattle.bound_tree.specs.Exprs as e
 use Rattle.bound_tree.specs.Exprs.{BoundExpr}
-use Rattle.sql_bound.specs.Operands.{between_of, binary_of, call_by, call_of, case_of, cast_of, chosen_arm, collation_of_arguments, host_call_of, in_of, is_of, like_of, matched_arm, member_sides, negated, negative_of, or_null, sides_of, trees_of, unary_of}
+use Rattle.sql_bound.specs.Operands.{between_of, binary_of, call_by, call_of, case_of, cast_of, chosen_arm, collation_of_arguments, host_call_of, in_of, is_of, like_of, matched_arm, member_sides, negated, negative_of, or_null, trees_of, unary_of}
 use Rattle.sql_bound.specs.declared.scopes.ArmOperands.{ArmOperands}
 use Rattle.sql_bound.specs.declared.scopes.Form.TheVariants.{LeastMagnitude, Plain, Truth}
 use Rattle.sql_bound.specs.declared.scopes.Form.{Form}

@@ -17,7 +17,7 @@ use Rattle.sql_bound.specs.Carriers.{Queries}
 use Rattle.sql_bound.specs.Compounds.{width_fits}
 use Rattle.sql_bound.specs.Expressions.{asked}
 use Rattle.sql_bound.specs.Froms.{beside_from}
-use Rattle.sql_bound.specs.Queries.{asked_as, unit_at}
+use Rattle.sql_bound.specs.Queries.{unit_at}
 use Rattle.sql_bound.specs.Scopes.{Outer, handed}
 use Rattle.sql_bound.specs.Statements.{rows_bound}
 use Rattle.sql_bound.specs.Targets.{Target}

@@ -1,5 +1,5 @@
 -- A query of one part makes a unit that is small beside its tree.
-use Rattle.std.proofs.Common.{◌≡◌, ◌≤◌, ℕ, ◌+◌, ◌*◌, Bool, true, false, ◌&&◌, List, [], ◌∷◌, length, map, Option, Some, None, Ok, refl, sym, ap, subst, ◌∙◌, arith}
+use Rattle.std.proofs.Common.{◌≡◌, ℕ, true, List, [], ◌∷◌, length, map, Ok, refl, sym, subst}
 use Rattle.std.specs.Option.{option_map}
 use Rattle.sql_tree.specs.Layers.{PartLayer, of_part as layer_of, of_query as query_layer}
 use Rattle.sql_tree.specs.declared.expr.Expr.TheOpen.{QueryPart-F}
@@ -8,21 +8,19 @@ use Rattle.sql_tree.specs.declared.query.CompoundPart.{CompoundPart}
 use Rattle.sql_tree.specs.declared.query.Query.{Query, out-Query}
 use Rattle.sql_tree.specs.declared.query.SelectCore.{SelectCore}
 use Rattle.sql_words.specs.Refusals.{◌>>=◌}
-use Rattle.bound_tree.specs.declared.units.BoundPart.TheVariants as bound_part
-use Rattle.bound_tree.specs.declared.units.BoundPart.{BoundPart}
 use Rattle.bound_tree.specs.declared.units.BoundQuery.{BoundQuery}
 use Rattle.bound_tree.specs.declared.units.BoundTerm.{BoundTerm}
 use Rattle.bound_tree.specs.declared.units.BoundUnit.TheVariants.{Queried}
 use Rattle.bound_tree.specs.declared.units.BoundUnit.{BoundUnit}
 use Rattle.sql_bound.proofs.TreeLaws.{of_query-out}
 use Rattle.sql_bound.specs.Carriers.{PartParts, QueryParts, TermParts, Values}
-use Rattle.sql_bound.specs.Compounds.{gathered_alone, part_bound, parts_bound, select_alone, select_given, trees_in, values_alone, values_bound, values_given}
-use Rattle.sql_bound.specs.Cores.{core_of, select_bound}
+use Rattle.sql_bound.specs.Compounds.{gathered_alone, part_bound, parts_bound, select_alone, select_given, values_alone, values_bound, values_given}
+use Rattle.sql_bound.specs.Cores.{select_bound}
 use Rattle.sql_bound.specs.Froms.{Inside, as_columns}
 use Rattle.sql_bound.specs.Orders.{limit_bound, orders_by_aggregate, terms_of_compound, terms_of_select}
-use Rattle.sql_bound.specs.Queries.{Written, asked_as, body_bound, entered, query_bound, query_in, query_unit}
+use Rattle.sql_bound.specs.Queries.{Written, asked_as, body_bound, entered, query_in, query_unit}
 use Rattle.sql_bound.specs.Results.{shown_in}
-use Rattle.sql_bound.specs.Scopes.{Bottom, Deeper, Depth, Outer, UnitsAnswer, begun, scope_over}
+use Rattle.sql_bound.specs.Scopes.{Bottom, Deeper, Depth, Outer, begun, scope_over}
 use Rattle.sql_bound.specs.Trees.{of_compound, of_core, of_expr, of_limit, of_part, of_query, of_table, of_term}
 use Rattle.sql_bound.specs.Withs.{tables_bound}
 use Rattle.sql_bound.specs.declared.queries.BoundLimit.{BoundLimit}

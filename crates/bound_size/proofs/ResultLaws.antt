@@ -1,5 +1,5 @@
 -- What results show: each expression is as large as it is written, but for the factor, and each column of a `*` is one node.
-use Rattle.std.proofs.Common.{◌≡◌, ◌≤◌, ℕ, zero, suc, ◌+◌, ◌*◌, Bool, true, false, ◌&&◌, not, cond, filter, List, [], ◌∷◌, ◌++◌, length, map, Option, Some, None, Ok, Err, refl, sym, ap, subst, ◌∙◌, arith, length-append}
+use Rattle.std.proofs.Common.{◌≡◌, ◌≤◌, ℕ, zero, suc, ◌+◌, ◌*◌, Bool, true, false, cond, filter, List, [], ◌∷◌, ◌++◌, length, map, Ok, refl, sym, ap, subst, ◌∙◌, arith, length-append}
 use Rattle.std.proofs.lemmas.List.{length-map}
 use Rattle.std.specs.List.{AllByRecursion, flat_map, list_all, list_any}
 use Rattle.eng_value.specs.declared.cause.Cause.TheVariants.{Unknown}
@@ -10,7 +10,6 @@ use Rattle.sql_tree.specs.declared.expr.Expr.TheOpen.{ResultColumn-F}
 use Rattle.sql_tree.specs.declared.query.ResultColumn.{ResultColumn, out-ResultColumn}
 use Rattle.sql_words.specs.Refusals.{◌>>=◌}
 use Rattle.sql_words.specs.Spelled.{name_at}
-use Rattle.bound_tree.specs.Exprs.{BoundExpr}
 use Rattle.sql_bound.proofs.LimitLaws.{results_kept}
 use Rattle.sql_bound.specs.Carriers.{ResultParts}
 use Rattle.sql_bound.specs.Groups.{grouped_checked}
@@ -29,7 +28,7 @@ use Rattle.bound_size.specs.Plain.{is_plain_result, result_is_plain}
 use Rattle.bound_size.specs.Sizes.{all_nodes, nodes_of}
 use Rattle.bound_size.specs.Small.{AreFewShown, seen_columns}
 use Rattle.bound_size.proofs.BoundLaws.{answer, both_hold, bound_by, if_passed, same_answer}
-use Rattle.bound_size.proofs.ColumnLaws.{all_append, all_flat, all_kept}
+use Rattle.bound_size.proofs.ColumnLaws.{all_flat, all_kept}
 use Rattle.bound_size.proofs.LayerLaws.{of_result-out, result_parts}
 use Rattle.bound_size.proofs.NodeLaws.{all_nodes-append, all_nodes-one}
 use Rattle.bound_size.proofs.SizeLaws.{tree_nodes}

@@ -1,5 +1,5 @@
 -- What is the same is as large: so what is asked twice, which is one unit, is small wherever it is asked.
-use Rattle.std.proofs.Common.{◌≡◌, ◌≤◌, ℕ, ◌+◌, ◌*◌, Bool, true, false, ◌&&◌, nat_eq, List, [], ◌∷◌, ◌++◌, length, map, refl, sym, ap, subst, ◌∙◌, arith}
+use Rattle.std.proofs.Common.{◌≡◌, ℕ, ◌+◌, Bool, true, ◌&&◌, nat_eq, List, [], ◌∷◌, length, map, refl, sym, ap, ◌∙◌, arith}
 use Rattle.std.specs.List.{flat_map}
 use denote.Enum.Bare.{sameb}
 use Rattle.eng_entry.specs.Names.{is_same_name}
@@ -18,7 +18,7 @@ use Rattle.bound_tree.specs.declared.units.BoundPart.{BoundPart}
 use Rattle.bound_tree.specs.declared.units.BoundQuery.{BoundQuery}
 use Rattle.bound_tree.specs.declared.units.BoundUnit.TheVariants.{Queried, Recursed}
 use Rattle.bound_tree.specs.declared.units.BoundUnit.{BoundUnit}
-use Rattle.bound_size.specs.Sizes.{all_nodes, nodes_in, nodes_in_arms, nodes_in_matches, nodes_of, row_size, rows_size, tests_of}
+use Rattle.bound_size.specs.Sizes.{all_nodes, nodes_in, nodes_in_arms, nodes_in_matches, nodes_of, row_size, tests_of}
 use Rattle.bound_size.specs.Small.{AreFewRows, AreFewShown, IsSmallCore, IsSmallPart, columns_in, from_size}
 use Rattle.bound_size.proofs.BoundLaws.{both_hold, three_hold}
 use Rattle.bound_size.proofs.NodeLaws.{all_nodes-append}
@@ -178,7 +178,7 @@ few_same size m n xs ys columns nodes few = record {
 core_same : (s : SelectLayer) (a b : BoundCore) → same_core a b ≡ true → IsSmallCore s a → IsSmallCore s b
 core_same s a b h small =
     let last = three_hold (all_same same_item a.items b.items && same_exprs a.conjuncts b.conjuncts && both_same same_groups a.groups b.groups && same_exprs a.results b.results)
-        (all_same same_collation a.collations b.collations) (same_truth a.distinct b.distinct) h in
+    (all_same same_collation a.collations b.collations) (same_truth a.distinct b.distinct) h in
     let next = three_hold (all_same same_item a.items b.items && same_exprs a.conjuncts b.conjuncts) (both_same same_groups a.groups b.groups) (same_exprs a.results b.results) last.0 in
     let first = both_hold (all_same same_item a.items b.items) (same_exprs a.conjuncts b.conjuncts) next.0 in
     let tests = tests_same a.conjuncts b.conjuncts first.1 in

@@ -1,6 +1,6 @@
 -- A bound expression is at most twice as large as the tree that it is bound from, where it asks no query, no result has a name, and each
 -- column of the own FROM is one node.
-use Rattle.std.proofs.Common.{◌≡◌, ◌≤◌, ℕ, ◌+◌, ◌*◌, Bool, true, false, ◌&&◌, List, [], ◌∷◌, ◌++◌, map, length, Option, Some, None, unwrap_or, codes, Ok, Err, subst, arith}
+use Rattle.std.proofs.Common.{◌≡◌, ◌≤◌, ℕ, ◌+◌, ◌*◌, Bool, true, false, ◌&&◌, List, [], ◌∷◌, ◌++◌, map, length, Option, Some, None, unwrap_or, codes, Ok, subst, arith}
 use Rattle.std.specs.Option.{option_map}
 use Rattle.sql_tree.specs.Sizes.{or_0, size_of, size_of_arm, total}
 use Rattle.sql_tree.specs.declared.expr.Arguments.{Arguments}
@@ -145,7 +145,7 @@ module _ (s : Scope) (bare : s.aliases ≡ []) (own : AllBringNodes (own_of s.ou
   aggregate_sized a how xs filter w r h =
       let inner = within_aggregate s in
       let slot : List Operand × Work → Option Operand × Work → Operand × Work =
-          λ args f. (over (args.0 ++ option_list f.0) (e.Aggregate (length f.1.aggregates)), with_aggregate (aggregate_of a how args.0 f.0) f.1) in
+      λ args f. (over (args.0 ++ option_list f.0) (e.Aggregate (length f.1.aggregates)), with_aggregate (aggregate_of a how args.0 f.0) f.1) in
       let u = bound_by (may_aggregate a s.aggregates how (length xs)) (λ u. all_bound inner xs w >>= λ args. option_bound inner filter args.1 >>= λ f. Ok (slot args f)) r h in
       let args = bound_by (all_bound inner xs w) (λ args. option_bound inner filter args.1 >>= λ f. Ok (slot args f)) r u.2 in
       let f = bound_by (option_bound inner filter args.0.1) (λ f. Ok (slot args.0 f)) r args.2 in
@@ -200,7 +200,7 @@ module _ (s : Scope) (bare : s.aliases ≡ []) (own : AllBringNodes (own_of s.ou
 
     like_case : (a b : Y) (c : Option Y)
         → Sized (expr_step (Expr-F.Like (of_expr (of a)) (of_expr (of b)) (option_map of_expr (option_map of c)))) (1 + size_of (of a) + size_of (of b) + or_0 (option_map size_of (option_map of c)))
-          (is_plain (of a) && is_plain (of b) && option_plain (option_map is_plain (option_map of c)))
+        (is_plain (of a) && is_plain (of b) && option_plain (option_map is_plain (option_map of c)))
     like_case a b c plain w r h =
         let all = three_hold (is_plain (of a)) (is_plain (of b)) (option_plain (option_map is_plain (option_map of c))) plain in
         let last = option_map of_expr (option_map of c) in
@@ -221,7 +221,7 @@ module _ (s : Scope) (bare : s.aliases ≡ []) (own : AllBringNodes (own_of s.ou
 
     call_case : (t : Token) (how : Arguments) (args : List Y) (filter : Option Y)
         → Sized (expr_step (Expr-F.Call t how (bound_all args) (option_map of_expr (option_map of filter)))) (1 + total (map size_of (map of args)) + or_0 (option_map size_of (option_map of filter)))
-          (all_plain (map is_plain (map of args)) && option_plain (option_map is_plain (option_map of filter)))
+        (all_plain (map is_plain (map of args)) && option_plain (option_map is_plain (option_map of filter)))
     call_case t how args filter plain w r h =
         let both = both_hold (all_plain (map is_plain (map of args))) (option_plain (option_map is_plain (option_map of filter))) plain in
         let name = name_at s.outer.text t in
@@ -230,8 +230,8 @@ module _ (s : Scope) (bare : s.aliases ≡ []) (own : AllBringNodes (own_of s.ou
 
     case_case : (a : Option Y) (arms : List Z) (otherwise : Option Y)
         → Sized (expr_step (Expr-F.Case (option_map of_expr (option_map of a)) (bound_arms arms) (option_map of_expr (option_map of otherwise))))
-          (2 + or_0 (option_map size_of (option_map of a)) + total (map size_of_arm (map arm_of arms)) + or_0 (option_map size_of (option_map of otherwise)))
-          (option_plain (option_map is_plain (option_map of a)) && all_plain (map is_plain_arm (map arm_of arms)) && option_plain (option_map is_plain (option_map of otherwise)))
+        (2 + or_0 (option_map size_of (option_map of a)) + total (map size_of_arm (map arm_of arms)) + or_0 (option_map size_of (option_map of otherwise)))
+        (option_plain (option_map is_plain (option_map of a)) && all_plain (map is_plain_arm (map arm_of arms)) && option_plain (option_map is_plain (option_map of otherwise)))
     case_case a arms otherwise plain w r h =
         let all = three_hold (option_plain (option_map is_plain (option_map of a))) (all_plain (map is_plain_arm (map arm_of arms))) (option_plain (option_map is_plain (option_map of otherwise))) plain in
         let last = option_map of_expr (option_map of otherwise) in

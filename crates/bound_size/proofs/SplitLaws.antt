@@ -1,5 +1,5 @@
 -- What a condition is split into is no larger than it is.
-use Rattle.std.proofs.Common.{◌≡◌, ◌≤◌, ℕ, ◌+◌, ◌*◌, true, List, [], ◌∷◌, ◌++◌, Option, Some, None, Ok, subst, arith}
+use Rattle.std.proofs.Common.{◌≡◌, ◌≤◌, ◌*◌, true, List, [], ◌∷◌, Some, None, Ok, subst, arith}
 use Rattle.std.specs.List.{flat_map}
 use Rattle.eng_value.specs.declared.operators.BinaryOperator.TheVariants as binary
 use Rattle.sql_tree.specs.Sizes.{size_of}
@@ -21,8 +21,8 @@ use Rattle.sql_tree.specs.declared.query.Source.{Source}
 use Rattle.sql_tree.specs.declared.query.SpannedExpr.{SpannedExpr}
 use Rattle.bound_tree.specs.Exprs as e
 use Rattle.bound_tree.specs.Exprs.{BoundExpr}
-use Rattle.sql_bound.specs.Carriers.{ExprLayer, Expression}
-use Rattle.sql_bound.specs.Expressions.{conjuncts_step, split_by}
+use Rattle.sql_bound.specs.Carriers.{Expression}
+use Rattle.sql_bound.specs.Expressions.{split_by}
 use Rattle.sql_bound.specs.Scopes.{Scope}
 use Rattle.sql_bound.specs.Trees.{of_expr}
 use Rattle.sql_bound.specs.declared.scopes.Operand.{Operand}

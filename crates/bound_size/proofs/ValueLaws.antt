@@ -1,5 +1,5 @@
 -- Rows of VALUES are as large as they are written, but for the factor, and as many.
-use Rattle.std.proofs.Common.{◌≡◌, ◌≤◌, ℕ, ◌+◌, ◌*◌, true, ◌&&◌, List, [], ◌∷◌, ◌++◌, length, map, Ok, refl, ap, subst, arith, length-append, codes}
+use Rattle.std.proofs.Common.{◌≡◌, ◌≤◌, ℕ, ◌+◌, ◌*◌, true, List, [], ◌∷◌, ◌++◌, length, map, Ok, refl, subst, arith, length-append, codes}
 use Rattle.std.proofs.lemmas.List.{length-map}
 use Rattle.std.specs.List.{list_all}
 use Rattle.sql_tree.specs.Sizes.{size_of, size_of_row, total}

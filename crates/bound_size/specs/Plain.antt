@@ -4,7 +4,7 @@ use Rattle.std.specs.List.{list_all}
 use Rattle.sql_tree.specs.Folds.{ArmStep, ExprStep, fold_arm, fold_expr}
 use Rattle.sql_tree.specs.Layers.{PartLayer, ResultLayer, SelectLayer, of_part, of_query, of_result, of_select}
 use Rattle.sql_tree.specs.declared.expr.Arm.{Arm}
-use Rattle.sql_tree.specs.declared.expr.Expr.TheOpen.{Arm-F, Expr-F, QueryPart-F, ResultColumn-F}
+use Rattle.sql_tree.specs.declared.expr.Expr.TheOpen.{Expr-F, QueryPart-F, ResultColumn-F}
 use Rattle.sql_tree.specs.declared.expr.Expr.{Expr}
 use Rattle.sql_tree.specs.declared.query.Query.{Query}
 use Rattle.sql_tree.specs.declared.query.ResultColumn.{ResultColumn}

@@ -1,5 +1,5 @@
 -- How large what is bound of a query is, beside its tree.
-use Rattle.std.specs.Prelude.{◌≡◌, ◌≤◌, ℕ, ◌+◌, ◌*◌, Bool, true, false, List, [], ◌∷◌, length, map, slice_get, Some, None}
+use Rattle.std.specs.Prelude.{◌≡◌, ◌≤◌, ℕ, ◌+◌, ◌*◌, Bool, true, false, List, [], ◌∷◌, length, map, slice_get, Some}
 use Rattle.std.specs.List.{flat_map, list_all}
 use Rattle.sql_tree.specs.Layers.{PartLayer, ResultLayer, SelectLayer, of_part, of_query, of_result, of_select}
 use Rattle.sql_tree.specs.Sizes.{size_of_filter, size_of_from, size_of_result, size_of_row, total}
