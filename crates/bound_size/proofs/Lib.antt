@@ -12,3 +12,5 @@ pub mod CoreLaws
 pub mod QueryLaws
 pub mod SameSizes
 pub mod PlaceLaws
+pub mod InsertLaws
+pub mod RollLaws

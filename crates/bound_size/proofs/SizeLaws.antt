@@ -2,12 +2,13 @@
 -- column of the own FROM is one node.
 use Rattle.std.proofs.Common.{◌≡◌, ◌≤◌, ℕ, ◌+◌, ◌*◌, Bool, true, false, ◌&&◌, List, [], ◌∷◌, ◌++◌, map, length, Option, Some, None, unwrap_or, codes, Ok, subst, arith}
 use Rattle.std.specs.Option.{option_map}
-use Rattle.sql_tree.specs.Sizes.{or_0, size_of, size_of_arm, total}
+use Rattle.sql_tree.specs.Layers.{ExprLayer}
+use Rattle.sql_tree.specs.Sizes.{size_step, or_0, size_of, size_of_arm, total}
 use Rattle.sql_tree.specs.declared.expr.Arguments.{Arguments}
 use Rattle.sql_tree.specs.declared.expr.Arm.{Arm, fold-roll-Arm, map-Arm, roll-Arm}
 use Rattle.sql_tree.specs.declared.expr.BinaryOp.{BinaryOp}
 use Rattle.sql_tree.specs.declared.expr.Expr.TheOpen.{Arm-F, Expr-F}
-use Rattle.sql_tree.specs.declared.expr.Expr.{Expr, fold-roll-Expr, ind-Expr, map-Expr, roll-Expr}
+use Rattle.sql_tree.specs.declared.expr.Expr.{Expr, ind-Expr, map-Expr, roll-Expr}
 use Rattle.sql_tree.specs.declared.expr.TypeName.{TypeName}
 use Rattle.sql_tree.specs.declared.expr.UnaryOp.{UnaryOp}
 use Rattle.sql_tree.specs.declared.query.CommonTable.{CommonTable}
@@ -39,11 +40,12 @@ use Rattle.sql_bound.specs.declared.scopes.ArmOperands.{ArmOperands}
 use Rattle.sql_bound.specs.declared.scopes.Operand.{Operand}
 use Rattle.sql_bound.specs.declared.scopes.Work.{Work}
 use Rattle.bound_size.specs.Brought.{AllBringNodes, own_of}
-use Rattle.bound_size.specs.Plain.{all_plain, is_plain, is_plain_arm, option_plain}
+use Rattle.bound_size.specs.Plain.{all_plain, is_plain, is_plain_arm, option_plain, plain_step}
 use Rattle.bound_size.specs.Sizes.{all_nodes, nodes_of}
 use Rattle.bound_size.proofs.BoundLaws.{answer, both_hold, bound_by, same_answer, three_hold}
 use Rattle.bound_size.proofs.ColumnLaws.{called_column_node, column_node}
 use Rattle.bound_size.proofs.OperandLaws.{arms_nodes, between_nodes, binary_nodes, call_nodes, case_nodes, cast_nodes, host_call_nodes, in_nodes, like_nodes, option_nodes, unary_nodes}
+use Rattle.bound_size.proofs.RollLaws.{bound_layer, is_plain-roll, of_expr-roll, plain_layer, size_layer, size_of-roll}
 
 -- ---- what is bound of a tree of so many nodes
 
@@ -249,33 +251,36 @@ module _ (s : Scope) (bare : s.aliases ≡ []) (own : AllBringNodes (own_of s.ou
     abbrev tree : {T : Type 0} → With T → T
     tree q = q.0
 
+    rolled : (l : ExprLayer) → Sized (expr_step (bound_layer l)) (size_step (size_layer l)) (plain_step (plain_layer l)) → IsSized (roll-Expr l)
+    rolled l h = rw (of_expr-roll l, size_of-roll l, is_plain-roll l) h
+
     step : (y : Expr-F Y (With JoinConstraint) (With QueryPart) (With ResultColumn) (With Source) Z (With CommonTable) (With CompoundPart) (With FromItem) (With OrderingTerm) (With Query) (With RowLimit) (With SelectCore) (With SpannedExpr)) → IsSized (roll-Expr (map-Expr Y (With JoinConstraint) (With QueryPart) (With ResultColumn) (With Source) Z (With CommonTable) (With CompoundPart) (With FromItem) (With OrderingTerm) (With Query) (With RowLimit) (With SelectCore) (With SpannedExpr) Expr JoinConstraint QueryPart ResultColumn Source Arm CommonTable CompoundPart FromItem OrderingTerm Query RowLimit SelectCore SpannedExpr of tree tree tree tree arm_of tree tree tree tree tree tree tree tree y))
-    step (Expr-F.Literal t) = rw (fold-roll-Expr, fold-roll-Expr, fold-roll-Expr) (literal_case t)
-    step (Expr-F.Parameter t) = rw (fold-roll-Expr, fold-roll-Expr, fold-roll-Expr) (parameter_case t)
-    step (Expr-F.Column t) = rw (fold-roll-Expr, fold-roll-Expr, fold-roll-Expr) (column_case t)
-    step (Expr-F.TableColumn t c) = rw (fold-roll-Expr, fold-roll-Expr, fold-roll-Expr) (table_column_case t c)
-    step (Expr-F.Unary o a) = rw (fold-roll-Expr, fold-roll-Expr, fold-roll-Expr) (unary_case o (of_expr (of a)) (size_of (of a)) (is_plain (of a)) (sized a))
+    step (Expr-F.Literal t) = rolled (Expr-F.Literal t) (literal_case t)
+    step (Expr-F.Parameter t) = rolled (Expr-F.Parameter t) (parameter_case t)
+    step (Expr-F.Column t) = rolled (Expr-F.Column t) (column_case t)
+    step (Expr-F.TableColumn t c) = rolled (Expr-F.TableColumn t c) (table_column_case t c)
+    step (Expr-F.Unary o a) = rolled (Expr-F.Unary o (of a)) (unary_case o (of_expr (of a)) (size_of (of a)) (is_plain (of a)) (sized a))
     step (Expr-F.Binary o a b) =
-        rw (fold-roll-Expr, fold-roll-Expr, fold-roll-Expr) (binary_case o (of_expr (of a)) (of_expr (of b)) (size_of (of a)) (size_of (of b)) (is_plain (of a)) (is_plain (of b)) (sized a) (sized b))
+        rolled (Expr-F.Binary o (of a) (of b)) (binary_case o (of_expr (of a)) (of_expr (of b)) (size_of (of a)) (size_of (of b)) (is_plain (of a)) (is_plain (of b)) (sized a) (sized b))
     step (Expr-F.Between a b c) =
-        rw (fold-roll-Expr, fold-roll-Expr, fold-roll-Expr)
+        rolled (Expr-F.Between (of a) (of b) (of c))
         (between_case (of_expr (of a)) (of_expr (of b)) (of_expr (of c)) (size_of (of a)) (size_of (of b)) (size_of (of c)) (is_plain (of a)) (is_plain (of b)) (is_plain (of c)) (sized a) (sized b) (sized c))
-    step (Expr-F.Like a b None) = rw (fold-roll-Expr, fold-roll-Expr, fold-roll-Expr) (like_case a b None)
-    step (Expr-F.Like a b (Some c)) = rw (fold-roll-Expr, fold-roll-Expr, fold-roll-Expr) (like_case a b (Some c))
-    step (Expr-F.In a others) = rw (fold-roll-Expr, fold-roll-Expr, fold-roll-Expr) (in_case a others)
-    step (Expr-F.InQuery a q) = rw (fold-roll-Expr, fold-roll-Expr, fold-roll-Expr) (λ plain w r h. cc)
-    step (Expr-F.Subquery q) = rw (fold-roll-Expr, fold-roll-Expr, fold-roll-Expr) (λ plain w r h. cc)
-    step (Expr-F.Exists q) = rw (fold-roll-Expr, fold-roll-Expr, fold-roll-Expr) (λ plain w r h. cc)
-    step (Expr-F.Collate a t) = rw (fold-roll-Expr, fold-roll-Expr, fold-roll-Expr) (collate_case (of_expr (of a)) t (size_of (of a)) (is_plain (of a)) (sized a))
-    step (Expr-F.Cast a t) = rw (fold-roll-Expr, fold-roll-Expr, fold-roll-Expr) (cast_case (of_expr (of a)) t (size_of (of a)) (is_plain (of a)) (sized a))
-    step (Expr-F.Call t how args None) = rw (fold-roll-Expr, fold-roll-Expr, fold-roll-Expr) (call_case t how args None)
-    step (Expr-F.Call t how args (Some filter)) = rw (fold-roll-Expr, fold-roll-Expr, fold-roll-Expr) (call_case t how args (Some filter))
-    step (Expr-F.Case None arms None) = rw (fold-roll-Expr, fold-roll-Expr, fold-roll-Expr) (case_case None arms None)
-    step (Expr-F.Case None arms (Some last)) = rw (fold-roll-Expr, fold-roll-Expr, fold-roll-Expr) (case_case None arms (Some last))
-    step (Expr-F.Case (Some a) arms None) = rw (fold-roll-Expr, fold-roll-Expr, fold-roll-Expr) (case_case (Some a) arms None)
-    step (Expr-F.Case (Some a) arms (Some last)) = rw (fold-roll-Expr, fold-roll-Expr, fold-roll-Expr) (case_case (Some a) arms (Some last))
-    step Expr-F.RaiseIgnore = rw (fold-roll-Expr, fold-roll-Expr, fold-roll-Expr) (λ plain w r h. raise_case e.RaiseIgnore w r (omega arith) h)
-    step (Expr-F.RaiseAbort t) = rw (fold-roll-Expr, fold-roll-Expr, fold-roll-Expr) (λ plain w r h. raise_case (e.RaiseAbort (text_at s.outer.text t)) w r (omega arith) h)
+    step (Expr-F.Like a b None) = rolled (Expr-F.Like (of a) (of b) None) (like_case a b None)
+    step (Expr-F.Like a b (Some c)) = rolled (Expr-F.Like (of a) (of b) (Some (of c))) (like_case a b (Some c))
+    step (Expr-F.In a others) = rolled (Expr-F.In (of a) (map of others)) (in_case a others)
+    step (Expr-F.InQuery a q) = rolled (Expr-F.InQuery (of a) (tree q)) (λ plain w r h. cc)
+    step (Expr-F.Subquery q) = rolled (Expr-F.Subquery (tree q)) (λ plain w r h. cc)
+    step (Expr-F.Exists q) = rolled (Expr-F.Exists (tree q)) (λ plain w r h. cc)
+    step (Expr-F.Collate a t) = rolled (Expr-F.Collate (of a) t) (collate_case (of_expr (of a)) t (size_of (of a)) (is_plain (of a)) (sized a))
+    step (Expr-F.Cast a t) = rolled (Expr-F.Cast (of a) t) (cast_case (of_expr (of a)) t (size_of (of a)) (is_plain (of a)) (sized a))
+    step (Expr-F.Call t how args None) = rolled (Expr-F.Call t how (map of args) None) (call_case t how args None)
+    step (Expr-F.Call t how args (Some filter)) = rolled (Expr-F.Call t how (map of args) (Some (of filter))) (call_case t how args (Some filter))
+    step (Expr-F.Case None arms None) = rolled (Expr-F.Case None (map arm_of arms) None) (case_case None arms None)
+    step (Expr-F.Case None arms (Some last)) = rolled (Expr-F.Case None (map arm_of arms) (Some (of last))) (case_case None arms (Some last))
+    step (Expr-F.Case (Some a) arms None) = rolled (Expr-F.Case (Some (of a)) (map arm_of arms) None) (case_case (Some a) arms None)
+    step (Expr-F.Case (Some a) arms (Some last)) = rolled (Expr-F.Case (Some (of a)) (map arm_of arms) (Some (of last))) (case_case (Some a) arms (Some last))
+    step Expr-F.RaiseIgnore = rolled Expr-F.RaiseIgnore (λ plain w r h. raise_case e.RaiseIgnore w r (omega arith) h)
+    step (Expr-F.RaiseAbort t) = rolled (Expr-F.RaiseAbort t) (λ plain w r h. raise_case (e.RaiseAbort (text_at s.outer.text t)) w r (omega arith) h)
 
     arm_step : (y : Arm-F Y (With JoinConstraint) (With QueryPart) (With ResultColumn) (With Source) Z (With CommonTable) (With CompoundPart) (With FromItem) (With OrderingTerm) (With Query) (With RowLimit) (With SelectCore) (With SpannedExpr)) → IsArmSized (roll-Arm (map-Arm Y (With JoinConstraint) (With QueryPart) (With ResultColumn) (With Source) Z (With CommonTable) (With CompoundPart) (With FromItem) (With OrderingTerm) (With Query) (With RowLimit) (With SelectCore) (With SpannedExpr) Expr JoinConstraint QueryPart ResultColumn Source Arm CommonTable CompoundPart FromItem OrderingTerm Query RowLimit SelectCore SpannedExpr of tree tree tree tree arm_of tree tree tree tree tree tree tree tree y))
     arm_step y =

@@ -1,5 +1,5 @@
 -- How large what is bound of a query is, beside its tree.
-use Rattle.std.specs.Prelude.{◌≡◌, ◌≤◌, ℕ, ◌+◌, ◌*◌, Bool, true, false, List, [], ◌∷◌, length, map, slice_get, Some}
+use Rattle.std.specs.Prelude.{◌≡◌, ◌≤◌, ℕ, ◌+◌, ◌*◌, Bool, true, false, List, [], ◌∷◌, length, map, slice_get, Option, Some}
 use Rattle.std.specs.List.{flat_map, list_all}
 use Rattle.sql_tree.specs.Layers.{PartLayer, ResultLayer, SelectLayer, of_part, of_query, of_result, of_select}
 use Rattle.sql_tree.specs.Sizes.{size_of_filter, size_of_from, size_of_result, size_of_row, total}
@@ -14,6 +14,8 @@ use Rattle.bound_tree.specs.declared.units.BoundPart.{BoundPart}
 use Rattle.bound_tree.specs.declared.units.BoundQuery.{BoundQuery}
 use Rattle.bound_tree.specs.declared.units.BoundUnit.TheVariants.{Queried}
 use Rattle.bound_tree.specs.declared.units.BoundUnit.{BoundUnit}
+use Rattle.bound_tree.specs.declared.writes.BoundChange.TheVariants.{Inserted}
+use Rattle.bound_tree.specs.declared.writes.BoundChange.{BoundChange}
 use Rattle.sql_bound.specs.Scopes.{Level}
 use Rattle.sql_bound.specs.declared.scopes.ScopeItem.{ScopeItem}
 use Rattle.bound_size.specs.Sizes.{all_nodes, rows_size, tests_of}
@@ -71,3 +73,12 @@ pub record MakesSmall (q : Query) (place : ℕ) (units : List BoundUnit) : Type 
   pub unit : BoundQuery
   pub placed : slice_get units place ≡ Some (Queried unit)
   pub small : IsSmallPart (of_part (of_query q).first) unit.first
+
+-- an INSERT's change, whose source is such a query
+pub record InsertsSmall (q : Query) (made : BoundChange) (units : List BoundUnit) : Type 0 where
+  pub columns : List (Option ℕ)
+  pub rowid : Option ℕ
+  pub source : ℕ
+  pub arguments : List BoundExpr
+  pub change : made ≡ Inserted columns rowid source arguments
+  pub makes : MakesSmall q source units

@@ -1,3 +1,4 @@
+use Rattle.bound_size.proofs.InsertLaws.{insert_placed}
 use Rattle.bound_size.proofs.PlaceLaws.{asked_placed, inserted_placed, query_placed}
 use Rattle.bound_size.proofs.laws.queries_are_linear.Goals as goal
 
@@ -9,3 +10,6 @@ returns-clause-statement c q o r plain h = asked_placed q o r plain h
 
 pub returns-clause-source : goal.returns-clause-source
 returns-clause-source c q o t listed w r plain h = inserted_placed q o t listed w r plain h
+
+pub returns-clause-insert : goal.returns-clause-insert
+returns-clause-insert c q o i r from none plain h = insert_placed q o i r from none plain h
