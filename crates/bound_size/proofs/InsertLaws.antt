@@ -1,5 +1,5 @@
 -- An INSERT whose source is a plain query of one part asks a unit that is small beside its tree, where the catalog has no triggers.
-use Rattle.std.proofs.Common.{◌≡◌, ℕ, true, List, [], ◌∷◌, map, Option, Some, Ok, refl, sym, ap, subst, ◌∙◌}
+use Rattle.std.proofs.Common.{◌≡◌, true, List, [], map, Option, Some, Ok, sym, ap, subst}
 use Rattle.eng_entry.specs.declared.entry.Entry.{Entry}
 use Rattle.sql_tree.specs.declared.query.Query.{Query}
 use Rattle.sql_tree.specs.declared.statement.Insert.{Insert}
@@ -9,7 +9,6 @@ use Rattle.sql_words.specs.Refusals.{◌>>=◌}
 use Rattle.sql_words.specs.Spelled.{name_at}
 use Rattle.bound_tree.specs.declared.statements.BoundCommand.TheVariants.{Written}
 use Rattle.bound_tree.specs.declared.statements.BoundCommand.{BoundCommand}
-use Rattle.bound_tree.specs.declared.units.BoundUnit.{BoundUnit}
 use Rattle.bound_tree.specs.declared.writes.BoundChange.{BoundChange}
 use Rattle.bound_tree.specs.declared.writes.BoundWrite.{BoundWrite}
 use Rattle.sql_bound.specs.Carriers.{InsertParts, QueryParts}
@@ -22,8 +21,8 @@ use Rattle.sql_bound.specs.Triggers.{opening}
 use Rattle.sql_bound.specs.Writes.{Begun, Fired, Opened, Opening, fired_all, insert_begun, inserted_from, inserting, none_fired, places_named, write_bound, write_with}
 use Rattle.sql_bound.specs.declared.scopes.Work.{Work}
 use Rattle.bound_size.specs.Plain.{is_plain_query}
-use Rattle.bound_size.specs.Small.{InsertsSmall, MakesSmall}
-use Rattle.bound_size.proofs.BoundLaws.{answer, bound_by, same_answer}
+use Rattle.bound_size.specs.Small.{InsertsSmall}
+use Rattle.bound_size.proofs.BoundLaws.{bound_by, same_answer}
 use Rattle.bound_size.proofs.PlaceLaws.{inserted_placed}
 
 abbrev Writing : Type 0

@@ -14,3 +14,4 @@ pub mod SameSizes
 pub mod PlaceLaws
 pub mod InsertLaws
 pub mod RollLaws
+pub mod StatementLaws

@@ -1,9 +1,9 @@
 -- What a tree comes to, how large it is and whether it is plain, by its layer.
 use Rattle.std.proofs.Common.{◌≡◌, ℕ, Bool, refl}
-use Rattle.sql_tree.specs.Folds.{ArmStep, ExprStep, Q}
+use Rattle.sql_tree.specs.Folds.{ExprStep, Q}
 use Rattle.sql_tree.specs.Layers.{ExprLayer}
 use Rattle.sql_tree.specs.Sizes.{size_of, size_of_arm, size_step}
-use Rattle.sql_tree.specs.declared.expr.Arm.{Arm, fold-roll-Arm, map-Arm, roll-Arm}
+use Rattle.sql_tree.specs.declared.expr.Arm.{Arm}
 use Rattle.sql_tree.specs.declared.expr.Expr.{Expr, fold-roll-Expr, map-Expr, roll-Expr}
 use Rattle.sql_tree.specs.declared.query.CommonTable.{CommonTable}
 use Rattle.sql_tree.specs.declared.query.CompoundPart.{CompoundPart}

@@ -75,6 +75,9 @@ module _ (s : Scope) (bare : s.aliases ≡ []) (own : AllBringNodes (own_of s.ou
 
   -- ---- one layer at a time
 
+  rolled : (l : ExprLayer) → Sized (expr_step (bound_layer l)) (size_step (size_layer l)) (plain_step (plain_layer l)) → IsSized (roll-Expr l)
+  rolled l h = rw (of_expr-roll l, size_of-roll l, is_plain-roll l) h
+
   literal_case : (t : Token) → Sized (expr_step (Expr-F.Literal t)) 1 true
   literal_case t plain w r h = made 1 (literal_operand s.outer.text t, w) r (omega arith) h
 
@@ -250,9 +253,6 @@ module _ (s : Scope) (bare : s.aliases ≡ []) (own : AllBringNodes (own_of s.ou
 
     abbrev tree : {T : Type 0} → With T → T
     tree q = q.0
-
-    rolled : (l : ExprLayer) → Sized (expr_step (bound_layer l)) (size_step (size_layer l)) (plain_step (plain_layer l)) → IsSized (roll-Expr l)
-    rolled l h = rw (of_expr-roll l, size_of-roll l, is_plain-roll l) h
 
     step : (y : Expr-F Y (With JoinConstraint) (With QueryPart) (With ResultColumn) (With Source) Z (With CommonTable) (With CompoundPart) (With FromItem) (With OrderingTerm) (With Query) (With RowLimit) (With SelectCore) (With SpannedExpr)) → IsSized (roll-Expr (map-Expr Y (With JoinConstraint) (With QueryPart) (With ResultColumn) (With Source) Z (With CommonTable) (With CompoundPart) (With FromItem) (With OrderingTerm) (With Query) (With RowLimit) (With SelectCore) (With SpannedExpr) Expr JoinConstraint QueryPart ResultColumn Source Arm CommonTable CompoundPart FromItem OrderingTerm Query RowLimit SelectCore SpannedExpr of tree tree tree tree arm_of tree tree tree tree tree tree tree tree y))
     step (Expr-F.Literal t) = rolled (Expr-F.Literal t) (literal_case t)

@@ -2,3 +2,4 @@ pub mod Sizes
 pub mod Plain
 pub mod Brought
 pub mod Small
+pub mod SizeExamples

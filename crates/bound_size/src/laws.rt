@@ -2,20 +2,20 @@
 ghost use Rattle.std.specs.List.{flat_map, list_all};
 ghost use Rattle.std.specs.Prelude.{◌≡◌, ◌≤◌, ℕ, ◌*◌, List, [], length, map, Option, Some, true, Ok};
 ghost use Rattle.bound_tree.specs.Exprs.{BoundExpr};
-ghost use Rattle.bound_tree.specs.declared.statements.BoundCommand.{BoundCommand};
 ghost use Rattle.bound_tree.specs.declared.statements.BoundCommand.TheVariants.{Asked as AskedOf, Written};
+ghost use Rattle.bound_tree.specs.declared.statements.BoundStatement.{BoundStatement};
 ghost use Rattle.bound_tree.specs.declared.units.BoundUnit.{BoundUnit};
 ghost use Rattle.bound_tree.specs.declared.writes.BoundChange.{BoundChange};
 ghost use Rattle.bound_tree.specs.declared.writes.BoundWrite.{BoundWrite};
-ghost use Rattle.sql_bound.specs.Carriers.{ItemParts, Queries};
+ghost use Rattle.sql_bound.specs.Carriers.{ItemParts};
 ghost use Rattle.sql_bound.specs.Compounds.{trees_in, values_bound};
 ghost use Rattle.sql_bound.specs.Froms.{Inside, items_found, nothing_found};
 ghost use Rattle.sql_bound.specs.Results.{ResultScope, nothing_shown, results_bound};
-ghost use Rattle.sql_bound.specs.Scopes.{Outer, Scope};
-ghost use Rattle.sql_bound.specs.Statements.{rows_bound};
+ghost use Rattle.sql_bound.specs.Scopes.{Around, Outer, Scope};
+ghost use Rattle.sql_bound.specs.Statements.{bound_of};
 ghost use Rattle.sql_bound.specs.Targets.{Target};
-ghost use Rattle.sql_bound.specs.Trees.{of_expr, of_query, of_result, of_rows};
-ghost use Rattle.sql_bound.specs.Writes.{Opened, inserted_from, insertion};
+ghost use Rattle.sql_bound.specs.Trees.{of_expr, of_query, of_result};
+ghost use Rattle.sql_bound.specs.Writes.{inserted_from, insertion};
 ghost use Rattle.sql_bound.specs.declared.froms.Found.{Found};
 ghost use Rattle.sql_bound.specs.declared.froms.QueueTable.{QueueTable};
 ghost use Rattle.sql_bound.specs.declared.queries.Shown.{Shown};
@@ -26,9 +26,11 @@ ghost use Rattle.sql_tree.specs.Sizes.{size_of, size_of_result, size_of_row, tot
 ghost use Rattle.sql_tree.specs.declared.expr.Expr.{Expr};
 ghost use Rattle.sql_tree.specs.declared.query.Query.{Query};
 ghost use Rattle.sql_tree.specs.declared.query.ResultColumn.{ResultColumn};
+ghost use Rattle.sql_tree.specs.declared.statement.Command.TheVariants.{Rows};
 ghost use Rattle.sql_tree.specs.declared.statement.Insert.{Insert};
 ghost use Rattle.sql_tree.specs.declared.statement.InsertSource.TheVariants.{Query as FromQuery};
-ghost use Rattle.sql_tree.specs.declared.statement.RowCommand.TheVariants.{Insert as RowsInserted};
+ghost use Rattle.sql_tree.specs.declared.statement.RowCommand.TheVariants.{Insert as RowsInserted, Query as RowsAsked};
+ghost use Rattle.sql_tree.specs.declared.statement.Statement.{Statement};
 ghost use Rattle.bound_size.specs.Brought.{AllBringNodes, own_of};
 ghost use Rattle.bound_size.specs.Plain.{is_plain, is_plain_query, is_plain_result, is_plain_row};
 ghost use Rattle.bound_size.specs.Sizes.{all_nodes, nodes_of, tests_of};
@@ -62,10 +64,15 @@ pub fn rows_are_linear()
 {}
 
 /// A query of one part that asks no query in its results, its WHERE or its rows makes a unit that is small beside its tree, wherever it
-/// stands: as a statement, and as the source of an INSERT, in a catalog without triggers as a whole.
+/// stands, and so does the source of an INSERT.
 pub fn queries_are_linear()
     ensures anywhere { (q : Query) (o : Outer) (units : List BoundUnit) (r : Asked × List BoundUnit) → is_plain_query q ≡ true → (of_query q).bound o units ≡ Ok r → MakesSmall q r.0.unit r.1 }
-    ensures statement { (q : Query) (o : Outer) (r : BoundCommand × Opened) → is_plain_query q ≡ true → rows_bound o (Queries (of_query q)) ≡ Ok r → (place : ℕ) × (r.0 ≡ AskedOf place) × MakesSmall q place r.1.units }
     ensures source { (q : Query) (o : Outer) (t : Target) (listed : List (Option ℕ)) (w : Work) (r : BoundChange × Work) → is_plain_query q ≡ true → inserted_from o t listed (Some (of_query q)) w ≡ Ok r → (place : ℕ) × (arguments : List BoundExpr) × (r.0 ≡ insertion t listed place arguments) × MakesSmall q place r.1.units }
-    ensures insert { (q : Query) (o : Outer) (i : Insert) (r : BoundCommand × Opened) → i.source ≡ FromQuery q → o.around.catalog.triggers ≡ [] → is_plain_query q ≡ true → rows_bound o (of_rows (RowsInserted i)) ≡ Ok r → (write : BoundWrite) × (r.0 ≡ Written write) × InsertsSmall q write.change r.1.units }
+{}
+
+/// So a statement that is such a query asks a unit that is small, and so does an INSERT whose source is one, where the catalog has no
+/// triggers.
+pub fn statements_are_linear()
+    ensures query { (around : Around) (text : List ℕ) (s : Statement) (q : Query) (b : BoundStatement) → s.command ≡ Rows (RowsAsked q) → is_plain_query q ≡ true → bound_of around text s ≡ Ok b → (place : ℕ) × (b.command ≡ AskedOf place) × MakesSmall q place b.units }
+    ensures insert { (around : Around) (text : List ℕ) (s : Statement) (i : Insert) (q : Query) (b : BoundStatement) → s.command ≡ Rows (RowsInserted i) → i.source ≡ FromQuery q → around.catalog.triggers ≡ [] → is_plain_query q ≡ true → bound_of around text s ≡ Ok b → (write : BoundWrite) × (b.command ≡ Written write) × InsertsSmall q write.change b.units }
 {}

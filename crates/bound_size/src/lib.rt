@@ -9,5 +9,5 @@ mod laws;
 
 pub use laws::{
     columns_are_nodes, expressions_are_linear, queries_are_linear, results_are_linear,
-    rows_are_linear,
+    rows_are_linear, statements_are_linear,
 };
