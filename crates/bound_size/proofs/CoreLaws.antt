@@ -30,7 +30,8 @@ use Rattle.sql_bound.specs.declared.scopes.Standing.{Standing}
 use Rattle.sql_bound.specs.declared.scopes.Work.{Work}
 use Rattle.bound_size.specs.Brought.{AllBringNodes, own_of}
 use Rattle.bound_size.specs.Plain.{is_plain_core, is_plain_filter, is_plain_result}
-use Rattle.bound_size.specs.Sizes.{all_nodes, tests_of}
+use Rattle.bound_size.specs.Counts.{conditions_of}
+use Rattle.bound_size.specs.Sizes.{all_nodes}
 use Rattle.bound_size.specs.Small.{AreFewShown, IsSmallCore, columns_in, from_size, is_unnamed, names_none}
 use Rattle.bound_size.proofs.BoundLaws.{both_hold, bound_by, same_answer}
 use Rattle.bound_size.proofs.FromLaws.{FoundBrings, from_brings}
@@ -66,15 +67,15 @@ no_aliases text plain (r ∷ rs) h =
     ap (λ (more : List Alias). more ++ aliases_of text plain (map of_result rs)) one ∙ no_aliases text plain rs both.1
 
 tests_are_few : (s : Scope) (filter : Option Expr) (w : Work) (c : List BoundExpr × Work) → s.aliases ≡ [] → AllBringNodes (own_of s.outer.levels) → is_plain_filter filter ≡ true
-    → conjuncts_bound s (option_map of_expr filter) w ≡ Ok c → all_nodes (flat_map tests_of c.0) ≤ 4 * size_of_filter filter
-tests_are_few s None w c bare own plain h = subst (λ (x : List BoundExpr × Work). all_nodes (flat_map tests_of x.0) ≤ 4 * 0) (same_answer ([], w) c h) (omega arith)
+    → conjuncts_bound s (option_map of_expr filter) w ≡ Ok c → all_nodes (flat_map conditions_of c.0) ≤ 4 * size_of_filter filter
+tests_are_few s None w c bare own plain h = subst (λ (x : List BoundExpr × Work). all_nodes (flat_map conditions_of x.0) ≤ 4 * 0) (same_answer ([], w) c h) (omega arith)
 tests_are_few s (Some x) w c bare own plain h =
     let a = bound_by ((of_expr x).bound s w) (λ a. Ok ((of_expr x).conjuncts a.0.tree, a.1)) c h in
-    subst (λ (y : List BoundExpr × Work). all_nodes (flat_map tests_of y.0) ≤ 4 * size_of_filter (Some x)) (same_answer ((of_expr x).conjuncts a.0.0.tree, a.0.1) c a.2) (test_nodes x s w a.0 plain bare own a.1)
+    subst (λ (y : List BoundExpr × Work). all_nodes (flat_map conditions_of y.0) ≤ 4 * size_of_filter (Some x)) (same_answer ((of_expr x).conjuncts a.0.0.tree, a.0.1) c a.2) (test_nodes x s w a.0 plain bare own a.1)
 
 filter_is_small : (o : Outer) (core : SelectCore) (f : Found) (w : Work) (c : List BoundExpr × Work) → FoundBrings f → is_plain_filter (of_select core).filter ≡ true
     → conjuncts_bound (scope_of_clause Nowhere f.level o (of_core core).results) (of_core core).filter w ≡ Ok c → names_none (of_select core).results ≡ true
-    → all_nodes (flat_map tests_of c.0) ≤ 4 * size_of_filter (of_select core).filter
+    → all_nodes (flat_map conditions_of c.0) ≤ 4 * size_of_filter (of_select core).filter
 filter_is_small o core f w c found plain h unnamed =
     let scope = scope_of_clause Nowhere f.level o (of_core core).results in
     let results : (of_core core).results ≡ map of_result (of_select core).results = ap (λ (x : CoreParts). x.results) (of_core-out core) in
@@ -88,7 +89,7 @@ filter_is_small o core f w c found plain h unnamed =
 pub record IsSmallSelect (core : SelectLayer) (b : BoundSelect) : Type 0 where
   pub items : from_size b.found.items ≡ size_of_from core.from
   pub results : AreFewShown (total (map size_of_result core.results)) (columns_in b.found.items) b.shown.trees
-  pub tests : names_none core.results ≡ true → all_nodes (flat_map tests_of b.conjuncts) ≤ 4 * size_of_filter core.filter
+  pub tests : names_none core.results ≡ true → all_nodes (flat_map conditions_of b.conjuncts) ≤ 4 * size_of_filter core.filter
 
 clauses_small : (standing : Standing) (o : Outer) (core : SelectCore) (grouped : Bool) (f : Found) (w : Work) (r : BoundSelect × Work) → FoundBrings f → from_size f.items ≡ size_of_from (of_select core).from → is_plain_core core ≡ true
     → clauses_bound standing o (of_core core) grouped f w ≡ Ok r → IsSmallSelect (of_select core) r.0

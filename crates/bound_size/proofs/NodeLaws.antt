@@ -7,7 +7,8 @@ use Rattle.eng_value.specs.declared.operators.Sides.{Sides}
 use Rattle.sql_tree.specs.Sizes.{total}
 use Rattle.bound_tree.specs.Exprs as e
 use Rattle.bound_tree.specs.Exprs.{BoundArm, BoundExpr, BoundMatch, arms, exprs, matches}
-use Rattle.bound_size.specs.Sizes.{all_nodes, nodes_in, nodes_in_arms, nodes_in_matches, nodes_of, nodes_of_arm, nodes_of_match, tests_of}
+use Rattle.bound_size.specs.Counts.{conditions_of, nodes_of_arm, nodes_of_match}
+use Rattle.bound_size.specs.Sizes.{all_nodes, nodes_in, nodes_in_arms, nodes_in_matches, nodes_of}
 
 -- ---- plain lists
 
@@ -52,10 +53,10 @@ all_nodes-one x = omega arith
 
 -- ---- what a WHERE tests is at most twice as large as its conditions
 
-pub test_nodes : (t : BoundExpr) → all_nodes (tests_of t) ≤ 2 * nodes_of t
+pub test_nodes : (t : BoundExpr) → all_nodes (conditions_of t) ≤ 2 * nodes_of t
 test_nodes (e.Between above below a low high) = omega arith
 test_nodes t = omega arith
 
-pub tests_nodes : (ts : List BoundExpr) → all_nodes (flat_map tests_of ts) ≤ 2 * all_nodes ts
+pub tests_nodes : (ts : List BoundExpr) → all_nodes (flat_map conditions_of ts) ≤ 2 * all_nodes ts
 tests_nodes [] = omega arith
-tests_nodes (t ∷ ts) = omega (arith, test_nodes t, tests_nodes ts, all_nodes-append (tests_of t) (flat_map tests_of ts))
+tests_nodes (t ∷ ts) = omega (arith, test_nodes t, tests_nodes ts, all_nodes-append (conditions_of t) (flat_map conditions_of ts))

@@ -15,7 +15,8 @@ use Rattle.sql_bound.specs.declared.scopes.ArmOperands.{ArmOperands}
 use Rattle.sql_bound.specs.declared.scopes.Form.TheVariants.{LeastMagnitude, Plain, Truth}
 use Rattle.sql_bound.specs.declared.scopes.Form.{Form}
 use Rattle.sql_bound.specs.declared.scopes.Operand.{Operand}
-use Rattle.bound_size.specs.Sizes.{all_nodes, nodes_of, nodes_of_arm, nodes_of_match}
+use Rattle.bound_size.specs.Counts.{nodes_of_arm, nodes_of_match}
+use Rattle.bound_size.specs.Sizes.{all_nodes, nodes_of}
 use Rattle.bound_size.proofs.NodeLaws.{nodes-Call, nodes-Choose, nodes-Coalesce, nodes-HostCall, nodes-In, nodes-Match}
 
 -- ---- operators

@@ -18,7 +18,8 @@ use Rattle.bound_tree.specs.declared.units.BoundPart.{BoundPart}
 use Rattle.bound_tree.specs.declared.units.BoundQuery.{BoundQuery}
 use Rattle.bound_tree.specs.declared.units.BoundUnit.TheVariants.{Queried, Recursed}
 use Rattle.bound_tree.specs.declared.units.BoundUnit.{BoundUnit}
-use Rattle.bound_size.specs.Sizes.{all_nodes, nodes_in, nodes_in_arms, nodes_in_matches, nodes_of, row_size, tests_of}
+use Rattle.bound_size.specs.Counts.{conditions_of, row_size}
+use Rattle.bound_size.specs.Sizes.{all_nodes, nodes_in, nodes_in_arms, nodes_in_matches, nodes_of}
 use Rattle.bound_size.specs.Small.{AreFewRows, AreFewShown, IsSmallCore, IsSmallPart, columns_in, from_size}
 use Rattle.bound_size.proofs.BoundLaws.{both_hold, three_hold}
 use Rattle.bound_size.proofs.NodeLaws.{all_nodes-append}
@@ -86,7 +87,7 @@ mutual
 one_test : (x y : BoundExpr) → same_expr x y ≡ true → all_nodes (x ∷ []) ≡ all_nodes (y ∷ [])
 one_test x y h = omega (arith, nodes_same x y h)
 
-test_same : (x y : BoundExpr) → same_expr x y ≡ true → all_nodes (tests_of x) ≡ all_nodes (tests_of y)
+test_same : (x y : BoundExpr) → same_expr x y ≡ true → all_nodes (conditions_of x) ≡ all_nodes (conditions_of y)
 test_same (e.Between s t a b c) (e.Between u v x y z) h =
     let k = three_hold (same_sides s u && same_sides t v && same_expr a x) (same_expr b y) (same_expr c z) h in
     let l = three_hold (same_sides s u) (same_sides t v) (same_expr a x) k.0 in
@@ -132,12 +133,12 @@ sums_same same f each (x ∷ xs) [] h = cc
 exprs_same : (xs ys : List BoundExpr) → same_exprs xs ys ≡ true → all_nodes xs ≡ all_nodes ys
 exprs_same xs ys h = sums_same same_expr nodes_of nodes_same xs ys h
 
-tests_sum : (xs : List BoundExpr) → all_nodes (flat_map tests_of xs) ≡ total (map (λ x. all_nodes (tests_of x)) xs)
+tests_sum : (xs : List BoundExpr) → all_nodes (flat_map conditions_of xs) ≡ total (map (λ x. all_nodes (conditions_of x)) xs)
 tests_sum [] = refl
-tests_sum (x ∷ xs) = omega (arith, tests_sum xs, all_nodes-append (tests_of x) (flat_map tests_of xs))
+tests_sum (x ∷ xs) = omega (arith, tests_sum xs, all_nodes-append (conditions_of x) (flat_map conditions_of xs))
 
-tests_same : (xs ys : List BoundExpr) → same_exprs xs ys ≡ true → all_nodes (flat_map tests_of xs) ≡ all_nodes (flat_map tests_of ys)
-tests_same xs ys h = tests_sum xs ∙ sums_same same_expr (λ x. all_nodes (tests_of x)) test_same xs ys h ∙ sym (tests_sum ys)
+tests_same : (xs ys : List BoundExpr) → same_exprs xs ys ≡ true → all_nodes (flat_map conditions_of xs) ≡ all_nodes (flat_map conditions_of ys)
+tests_same xs ys h = tests_sum xs ∙ sums_same same_expr (λ x. all_nodes (conditions_of x)) test_same xs ys h ∙ sym (tests_sum ys)
 
 -- ---- items
 

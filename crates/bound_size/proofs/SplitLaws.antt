@@ -29,7 +29,8 @@ use Rattle.sql_bound.specs.declared.scopes.Operand.{Operand}
 use Rattle.sql_bound.specs.declared.scopes.Work.{Work}
 use Rattle.bound_size.specs.Brought.{AllBringNodes, own_of}
 use Rattle.bound_size.specs.Plain.{is_plain}
-use Rattle.bound_size.specs.Sizes.{all_nodes, nodes_of, tests_of}
+use Rattle.bound_size.specs.Counts.{conditions_of}
+use Rattle.bound_size.specs.Sizes.{all_nodes, nodes_of}
 use Rattle.bound_size.proofs.NodeLaws.{all_nodes-append, all_nodes-one, tests_nodes}
 use Rattle.bound_size.proofs.SizeLaws.{tree_nodes}
 
@@ -85,5 +86,5 @@ pub conjunct_nodes : (x : Expr) (s : Scope) (w : Work) (r : Operand × Work) →
 conjunct_nodes x s w r plain bare own h = omega (arith, parts_nodes x r.0.tree, tree_nodes x s w r plain bare own h)
 
 pub test_nodes : (x : Expr) (s : Scope) (w : Work) (r : Operand × Work) → is_plain x ≡ true → s.aliases ≡ [] → AllBringNodes (own_of s.outer.levels) → (of_expr x).bound s w ≡ Ok r
-    → all_nodes (flat_map tests_of ((of_expr x).conjuncts r.0.tree)) ≤ 4 * size_of x
+    → all_nodes (flat_map conditions_of ((of_expr x).conjuncts r.0.tree)) ≤ 4 * size_of x
 test_nodes x s w r plain bare own h = omega (arith, tests_nodes ((of_expr x).conjuncts r.0.tree), conjunct_nodes x s w r plain bare own h)

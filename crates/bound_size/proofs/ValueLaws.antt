@@ -14,7 +14,8 @@ use Rattle.sql_bound.specs.declared.scopes.Operand.{Operand}
 use Rattle.sql_bound.specs.declared.scopes.Work.{Work}
 use Rattle.bound_size.specs.Brought.{AllBringNodes, own_of}
 use Rattle.bound_size.specs.Plain.{is_plain, is_plain_row}
-use Rattle.bound_size.specs.Sizes.{all_nodes, nodes_of, row_size, rows_size}
+use Rattle.bound_size.specs.Counts.{row_size, rows_size}
+use Rattle.bound_size.specs.Sizes.{all_nodes, nodes_of}
 use Rattle.bound_size.specs.Small.{AreFewRows}
 use Rattle.bound_size.proofs.BoundLaws.{both_hold, bound_by, same_answer}
 use Rattle.bound_size.proofs.SizeLaws.{tree_nodes}

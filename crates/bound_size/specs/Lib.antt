@@ -1,4 +1,5 @@
 pub mod Sizes
+pub mod Counts
 pub mod Plain
 pub mod Brought
 pub mod Small

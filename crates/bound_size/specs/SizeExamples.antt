@@ -7,7 +7,8 @@ use Rattle.eng_value.specs.declared.operators.UnaryOperator.TheVariants as unary
 use Rattle.sql_words.specs.Collations.{by_bytes}
 use Rattle.bound_tree.specs.Exprs as e
 use Rattle.bound_tree.specs.Exprs.{BoundExpr}
-use Rattle.bound_size.specs.Sizes.{all_nodes, nodes_of, rows_size, tests_of}
+use Rattle.bound_size.specs.Counts.{conditions_of, rows_size}
+use Rattle.bound_size.specs.Sizes.{all_nodes, nodes_of}
 
 abbrev sides : Sides
 sides = record { left = affinity.None; right = affinity.None; collation = by_bytes }
@@ -35,8 +36,8 @@ a_row_counts_beside_its_values : rows_size ((column ∷ column ∷ []) ∷ (colu
 a_row_counts_beside_its_values = refl
 
 -- `a BETWEEN ?1 AND ?2` is tested as `a >= ?1` and `a <= ?2`
-a_between_is_two_tests : length (tests_of (e.Between sides sides column (e.Parameter 1) (e.Parameter 2))) ≡ 2
+a_between_is_two_tests : length (conditions_of (e.Between sides sides column (e.Parameter 1) (e.Parameter 2))) ≡ 2
 a_between_is_two_tests = refl
 
-of_which_each_has_three_nodes : all_nodes (tests_of (e.Between sides sides column (e.Parameter 1) (e.Parameter 2))) ≡ 6
+of_which_each_has_three_nodes : all_nodes (conditions_of (e.Between sides sides column (e.Parameter 1) (e.Parameter 2))) ≡ 6
 of_which_each_has_three_nodes = refl

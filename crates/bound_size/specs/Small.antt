@@ -18,7 +18,8 @@ use Rattle.bound_tree.specs.declared.writes.BoundChange.TheVariants.{Inserted}
 use Rattle.bound_tree.specs.declared.writes.BoundChange.{BoundChange}
 use Rattle.sql_bound.specs.Scopes.{Level}
 use Rattle.sql_bound.specs.declared.scopes.ScopeItem.{ScopeItem}
-use Rattle.bound_size.specs.Sizes.{all_nodes, rows_size, tests_of}
+use Rattle.bound_size.specs.Counts.{conditions_of, rows_size}
+use Rattle.bound_size.specs.Sizes.{all_nodes}
 
 -- ---- FROM
 
@@ -57,7 +58,7 @@ names_none results = list_all (λ r. is_unnamed (of_result r)) results
 pub record IsSmallCore (s : SelectLayer) (b : BoundCore) : Type 0 where
   pub items : from_size b.items ≡ size_of_from s.from
   pub results : AreFewShown (total (map size_of_result s.results)) (columns_in b.items) b.results
-  pub tests : names_none s.results ≡ true → all_nodes (flat_map tests_of b.conjuncts) ≤ 4 * size_of_filter s.filter
+  pub tests : names_none s.results ≡ true → all_nodes (flat_map conditions_of b.conjuncts) ≤ 4 * size_of_filter s.filter
 
 pub record AreFewRows (size : ℕ) (rows : List (List BoundExpr)) : Type 0 where
   pub nodes : rows_size rows ≤ 2 * size

@@ -33,7 +33,8 @@ ghost use Rattle.sql_tree.specs.declared.statement.RowCommand.TheVariants.{Inser
 ghost use Rattle.sql_tree.specs.declared.statement.Statement.{Statement};
 ghost use Rattle.bound_size.specs.Brought.{AllBringNodes, own_of};
 ghost use Rattle.bound_size.specs.Plain.{is_plain, is_plain_query, is_plain_result, is_plain_row};
-ghost use Rattle.bound_size.specs.Sizes.{all_nodes, nodes_of, tests_of};
+ghost use Rattle.bound_size.specs.Counts.{conditions_of};
+ghost use Rattle.bound_size.specs.Sizes.{all_nodes, nodes_of};
 ghost use Rattle.bound_size.specs.Small.{AreFewRows, AreFewShown, InsertsSmall, MakesSmall, columns_in, seen_columns};
 
 /// Where an expression asks no query, no result has a name and each column of the own FROM is one node, what it is bound to has at most
@@ -42,7 +43,7 @@ ghost use Rattle.bound_size.specs.Small.{AreFewRows, AreFewShown, InsertsSmall, 
 pub fn expressions_are_linear()
     ensures tree { (x : Expr) (s : Scope) (w : Work) (r : Operand × Work) → is_plain x ≡ true → s.aliases ≡ [] → AllBringNodes (own_of s.outer.levels) → (of_expr x).bound s w ≡ Ok r → nodes_of r.0.tree ≤ 2 * size_of x }
     ensures conjuncts { (x : Expr) (s : Scope) (w : Work) (r : Operand × Work) → is_plain x ≡ true → s.aliases ≡ [] → AllBringNodes (own_of s.outer.levels) → (of_expr x).bound s w ≡ Ok r → all_nodes ((of_expr x).conjuncts r.0.tree) ≤ 2 * size_of x }
-    ensures tests { (x : Expr) (s : Scope) (w : Work) (r : Operand × Work) → is_plain x ≡ true → s.aliases ≡ [] → AllBringNodes (own_of s.outer.levels) → (of_expr x).bound s w ≡ Ok r → all_nodes (flat_map tests_of ((of_expr x).conjuncts r.0.tree)) ≤ 4 * size_of x }
+    ensures tests { (x : Expr) (s : Scope) (w : Work) (r : Operand × Work) → is_plain x ≡ true → s.aliases ≡ [] → AllBringNodes (own_of s.outer.levels) → (of_expr x).bound s w ≡ Ok r → all_nodes (flat_map conditions_of ((of_expr x).conjuncts r.0.tree)) ≤ 4 * size_of x }
 {}
 
 /// Each column that a FROM brings is one node, whatever stands in it and however it is joined, and names see no more columns than its items
