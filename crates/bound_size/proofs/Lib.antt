@@ -1,0 +1,17 @@
+pub mod NodeLaws
+pub mod BoundLaws
+pub mod ColumnLaws
+pub mod OperandLaws
+pub mod SizeLaws
+pub mod SplitLaws
+pub mod FromLaws
+pub mod LayerLaws
+pub mod ResultLaws
+pub mod ValueLaws
+pub mod CoreLaws
+pub mod QueryLaws
+pub mod SameSizes
+pub mod PlaceLaws
+pub mod InsertLaws
+pub mod RollLaws
+pub mod StatementLaws

@@ -1,0 +1,6 @@
+pub mod Sizes
+pub mod Counts
+pub mod Plain
+pub mod Brought
+pub mod Small
+pub mod SizeExamples
