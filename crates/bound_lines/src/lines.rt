@@ -5,8 +5,8 @@ use crate::scene::Scene;
 use bound_print::{Page, print_statement};
 use std::alloc::{AllocError, Global};
 
-/// The lines with the outcomes of those that are statements.
-pub(crate) fn outcomes(alloc: Global, text: &str) -> Result<Vec<u8>, AllocError> {
+/// The lines with the outcomes of those that are statements. Only memory can fail.
+pub fn outcomes(alloc: Global, text: &str) -> Result<Vec<u8>, AllocError> {
     let mut scene = Scene::new(alloc);
     let mut page = Page::new(alloc);
     for line in text.lines() {
