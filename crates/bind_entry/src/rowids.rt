@@ -67,8 +67,10 @@ fn is_own_rowid(alloc: Global, text: &str, column: &ColumnDefinition) -> Result<
     ensures ok { IfOk result (λ is. is ≡ is_own_rowid text.now column.now) }
     ensures mem { OnlyMem result }
 {
-    let is_integer = is_integer_type(alloc, text, &column.type_name)?;
-    Ok(is_integer && has_primary(column))
+    if !has_primary(column) {
+        return Ok(false);
+    }
+    is_integer_type(alloc, text, &column.type_name)
 }
 
 fn is_rowid_called(

@@ -1,5 +1,7 @@
 -- The affinities of types.
-use Rattle.std.proofs.Common.{◌≡◌, ℕ, Bool, ◌||◌, List, [], ◌∷◌, map, is_some, codes, refl, ap}
+use Rattle.std.proofs.Common.{◌≡◌, ◌∙◌, ℕ, Bool, true, ◌||◌, List, [], ◌∷◌, map, is_some, codes, refl, sym, ap}
+use Rattle.std.proofs.lemmas.Slice.Eq.{bytes_eq-Decides}
+use Rattle.eng_entry.specs.Names.{is_same_name}
 use Rattle.std.specs.List.{list_any}
 use Rattle.eng_text.specs.Texts.{folded, place_of}
 use Rattle.sql_words.specs.Types.{mentions, affinity_of_words, affinity_of_type}
@@ -25,3 +27,8 @@ map_twice f g (x ∷ xs) = ap (λ rest. f (g x) ∷ rest) (map_twice f g xs)
 
 pub affinity_of_type_is : (text : List ℕ) (t : TypeName) → affinity_of_folded (map (λ word. folded (name_at text word)) t.words) ≡ affinity_of_type text t
 affinity_of_type_is text t = rw (map_twice folded (name_at text) t.words) (affinity_of_folded_is (map (name_at text) t.words))
+
+-- a word that is another but for the case of its letters
+pub usual : (w n : List ℕ) → is_same_name w n ≡ true → affinity_of_words (n ∷ []) ≡ affinity_of_words (w ∷ [])
+usual w n h =
+    sym (affinity_of_folded_is (n ∷ [])) ∙ ap (λ word. affinity_of_folded (word ∷ [])) (sym ((bytes_eq-Decides (folded w) (folded n)).0 h)) ∙ affinity_of_folded_is (w ∷ [])

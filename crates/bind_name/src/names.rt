@@ -1,5 +1,5 @@
 // Names (SQLite Keywords).
-ghost use Rattle.std.specs.Prelude.{◌≡◌, IfOk};
+ghost use Rattle.std.specs.Prelude.{◌≡◌, IfOk, IfSome};
 ghost use Rattle.sql_words.specs.Spelled.{as_text, name_at, name_of};
 
 use crate::quotes::{text_of, undoubled_text};
@@ -7,6 +7,7 @@ use crate::slices::{inside, slice_of};
 use eng_value::Text;
 use sql_tree::Token;
 use std::alloc::{AllocError, Global};
+use std::str;
 
 /// The name that a token of the text stands for: without its quotes, if any. Only memory can fail.
 pub fn name(alloc: Global, text: &str, token: &Token) -> Result<Text, AllocError>
@@ -26,5 +27,26 @@ fn name_of(alloc: Global, bytes: &[u8]) -> Result<Text, AllocError>
             undoubled_text(alloc, *first, inside(bytes))
         }
         _ => text_of(alloc, bytes),
+    }
+}
+
+/// The name of a token without quotes, which stands in the text. Takes no memory.
+pub(crate) fn plain_name<'a>(text: &'a str, token: &Token) -> Option<&'a str>
+    ensures { IfSome result (λ n. n.now ≡ name_at text.now token.now) }
+{
+    let bytes = slice_of(text, token);
+    match bytes {
+        [] => None,
+        [first, ..] if *first == b'[' || *first == b'"' || *first == b'`' => None,
+        _ => utf8(bytes),
+    }
+}
+
+fn utf8(bytes: &[u8]) -> Option<&str>
+    ensures { IfSome result (λ n. n.now ≡ as_text bytes.now) }
+{
+    match str::from_utf8(bytes) {
+        Ok(name) => Some(name),
+        Err(_) => None,
     }
 }

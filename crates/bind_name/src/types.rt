@@ -1,12 +1,13 @@
 // The affinities of types (Datatypes In SQLite, section 3.1).
-ghost use Rattle.std.specs.Prelude.{◌≡◌, List, ℕ, map, is_some, codes, IfOk};
+ghost use Rattle.std.specs.Prelude.{◌≡◌, List, ℕ, [], ◌∷◌, map, is_some, codes, IfOk, IfSome};
 ghost use Rattle.std.specs.List.{list_any};
 ghost use Rattle.eng_text.specs.Texts.{folded, place_of};
-ghost use Rattle.sql_words.specs.Types.{affinity_of_type};
+ghost use Rattle.sql_words.specs.Types.{affinity_of_type, affinity_of_words};
 ghost use Rattle.sql_words.specs.Spelled.{name_at};
 ghost use Rattle.bind_name.specs.Types.{affinity_of_folded, holds};
 
-use crate::names::name;
+use crate::names::{name, plain_name};
+use eng_entry::is_same_name;
 use eng_text::{find, fold};
 use eng_value::{Affinity, Text};
 use sql_tree::{Token, TypeName};
@@ -14,7 +15,6 @@ use sqlite_items::Items;
 use std::alloc::{AllocError, Global};
 
 /// The affinity of a type that is named in the text. Only memory can fail.
-#[tactic(auto, using(crate::proofs::Affinities::affinity_of_type_is))]
 pub fn affinity_of_type(
     alloc: Global,
     text: &str,
@@ -22,8 +22,47 @@ pub fn affinity_of_type(
 ) -> Result<Affinity, AllocError>
     ensures { IfOk result (λ a. a ≡ affinity_of_type text.now type_name.now) }
 {
+    match usual_type(text, type_name.words.as_slice()) {
+        Some(affinity) => Ok(affinity),
+        None => affinity_of_any(alloc, text, type_name),
+    }
+}
+
+/// The affinity of a type of one word that is often met. Takes no memory.
+fn usual_type(text: &str, words: &[Token]) -> Option<Affinity>
+    ensures { IfSome result (λ a. a ≡ affinity_of_words (map (name_at text.now) words.now)) }
+{
+    match words {
+        [word] => match plain_name(text, word) {
+            Some(name) => usual_affinity(name),
+            None => None,
+        },
+        _ => None,
+    }
+}
+
+#[tactic(auto, using(crate::proofs::Affinities::usual))]
+fn usual_affinity(name: &str) -> Option<Affinity>
+    ensures { IfSome result (λ a. a ≡ affinity_of_words (name.now ∷ [])) }
+{
+    if is_same_name(b"integer", name.as_bytes()) || is_same_name(b"int", name.as_bytes()) {
+        Some(Affinity::Integer)
+    } else if is_same_name(b"text", name.as_bytes()) {
+        Some(Affinity::Text)
+    } else if is_same_name(b"real", name.as_bytes()) {
+        Some(Affinity::Real)
+    } else {
+        None
+    }
+}
+
+/// The same of any type.
+#[tactic(auto, using(crate::proofs::Affinities::affinity_of_type_is))]
+fn affinity_of_any(alloc: Global, text: &str, type_name: &TypeName) -> Result<Affinity, AllocError>
+    ensures { IfOk result (λ a. a ≡ affinity_of_type text.now type_name.now) }
+{
     let words = folded_names(alloc, text, type_name.words.as_slice())?;
-    Ok(affinity_of_words(words.as_slice()))
+    Ok(affinity_of_folded(words.as_slice()))
 }
 
 /// The names of the tokens, in lower case.
@@ -53,7 +92,7 @@ fn holds(words: &[Text], part: &[u8]) -> bool
 }
 
 /// The first rule that fits words in lower case.
-fn affinity_of_words(words: &[Text]) -> Affinity
+fn affinity_of_folded(words: &[Text]) -> Affinity
     ensures { result ≡ affinity_of_folded words.now }
 {
     if words.is_empty() {

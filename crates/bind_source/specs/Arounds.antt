@@ -1,5 +1,5 @@
 -- What binding goes by, as code has it, and the rows of a table by what code has of it.
-use Rattle.std.specs.Prelude.{◌≡◌, ◌⊎◌, ℕ, Bool, true, List, Option, Some, Result, Ok, Err}
+use Rattle.std.specs.Prelude.{◌≡◌, ◌⊎◌, ℕ, Bool, List, Option, Some, Result, Ok, Err}
 use Rattle.bound_tree.specs.declared.units.BoundColumn.{BoundColumn}
 use Rattle.bound_tree.specs.declared.units.BoundIndex.{BoundIndex}
 use Rattle.bound_tree.specs.declared.units.BoundSource.TheVariants as source
@@ -16,6 +16,6 @@ use Rattle.sql_bound.specs.declared.froms.Sourced.{Sourced}
 abbrev pub around_of : Entries → HostFacts → Around
 around_of catalog facts = record { catalog = catalog; facts = facts_of facts }
 
-abbrev pub table_rows : Entry → List BoundIndex → List BoundColumn → Option ℕ → Sourced
-table_rows entry indexes columns rowid =
-    record (plain_source (Some entry.name) (source.Table entry.name entry.number) columns) { has_rowid = true; rowid = rowid; indexes = indexes }
+abbrev pub table_rows : Bool → Entry → List BoundIndex → List BoundColumn → Option ℕ → Sourced
+table_rows rowids entry indexes columns rowid =
+    record (plain_source (Some entry.name) (source.Table entry.name entry.number) columns) { has_rowid = rowids; rowid = rowid; indexes = indexes }

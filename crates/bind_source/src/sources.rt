@@ -120,12 +120,13 @@ pub fn as_columns(alloc: Global, columns: &[ResultColumn]) -> Result<Items<Bound
 /// The rows of a table of these indexes.
 fn table_source(
     alloc: Global,
+    rowids: bool,
     entry: &Entry,
     indexes: Items<BoundIndex>,
     columns: Items<BoundColumn>,
     rowid: Option<u32>,
 ) -> Result<Sourced, Cause>
-    ensures ok { IfOk result (λ s. s ≡ table_rows entry.now indexes columns rowid) }
+    ensures ok { IfOk result (λ s. s ≡ table_rows rowids entry.now indexes columns rowid) }
     ensures mem { OnlyMem result }
 {
     let hidden = falses(alloc, columns.as_slice())?;
@@ -137,7 +138,7 @@ fn table_source(
         columns,
         kinds: Items::new(alloc),
         hidden,
-        has_rowid: true,
+        has_rowid: rowids,
         rowid,
         indexes,
         is_queue: false,
@@ -168,7 +169,7 @@ pub fn declared_source(
         columns.as_slice(),
         keys.as_slice(),
     )?;
-    table_source(alloc, entry, indexes, columns, rowid)
+    table_source(alloc, facts.rowids, entry, indexes, columns, rowid)
 }
 
 /// No table or view has the name.

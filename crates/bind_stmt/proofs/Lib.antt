@@ -1,8 +1,10 @@
 pub mod BuiltLaws
-pub mod Results
-pub mod TableNames
-pub mod Listing
-pub mod Queries
-pub mod Putting
+pub mod Steps
 pub mod Sizing
+pub mod BuiltPlain
 pub mod Whole
+pub mod Places
+pub mod PlainValues
+pub mod PlainTables
+pub mod PlainInserts
+pub mod PlainBinds

@@ -1,23 +1,282 @@
--- A statement is bound as what it does is, where all of it is built.
-use Rattle.std.proofs.Common.{◌≡◌, ℕ, true, false, List, Result, Ok, Err, inl, inr, ap, ◌∙◌}
+-- The whole statement.
+use Rattle.std.proofs.Common.{◌≡◌, ◌⊎◌, codes, ℕ, ◌+◌, ◌≤◌, Bool, true, false, ◌&&◌, not, is_some, if◌then◌else◌, List, [], ◌∷◌, map, Option, Some, None, Result, Ok, Err, inl, inr, refl, sym, ap, subst, ◌∙◌, arith}
+use Rattle.std.specs.Bool.{⊤}
+use Rattle.eng_entry.specs.Entries.{Entries, entry_named}
+use Rattle.eng_entry.specs.declared.entry.Entry.{Entry}
 use Rattle.eng_value.specs.declared.cause.Cause.{Cause}
-use Rattle.eng_value.specs.declared.cause.Cause.TheVariants.{NotYet}
+use Rattle.eng_value.specs.declared.cause.Cause.TheVariants as cause
+use Rattle.eng_value.specs.declared.cause.NameKind.TheVariants as name_kind
+use Rattle.sql_tree.specs.Layers.{of_query}
+use Rattle.sql_tree.specs.Sizes.{size_of_command, size_of_definition, size_of_query, size_of_source, size_of_statement}
+use Rattle.sql_tree.specs.declared.statement.Command.{Command}
+use Rattle.sql_tree.specs.declared.statement.Command.TheVariants as command
+use Rattle.sql_tree.specs.declared.statement.Create.{Create}
+use Rattle.sql_tree.specs.declared.statement.Definition.{Definition}
+use Rattle.sql_tree.specs.declared.statement.Definition.TheVariants as definition
+use Rattle.sql_tree.specs.declared.statement.Explain.{Explain}
+use Rattle.sql_tree.specs.declared.statement.Insert.{Insert}
+use Rattle.sql_tree.specs.declared.statement.InsertSource.{InsertSource}
+use Rattle.sql_tree.specs.declared.statement.InsertSource.TheVariants as source
+use Rattle.sql_tree.specs.declared.statement.ObjectKind.{ObjectKind}
+use Rattle.sql_tree.specs.declared.statement.RowCommand.{RowCommand}
+use Rattle.sql_tree.specs.declared.statement.RowCommand.TheVariants as rows_by
 use Rattle.sql_tree.specs.declared.statement.Statement.{Statement}
-use Rattle.sql_meaning.specs.Built.{is_built}
+use Rattle.sql_tree.specs.declared.query.Query.{Query as Tree}
+use Rattle.bound_tree.specs.declared.statements.BoundCommand.{BoundCommand}
+use Rattle.bound_tree.specs.declared.statements.BoundCommand.TheVariants as made
+use Rattle.bound_tree.specs.declared.statements.BoundStatement.{BoundStatement}
+use Rattle.bound_tree.specs.declared.statements.ThingKind.{ThingKind}
+use Rattle.bound_tree.specs.declared.statements.ThingKind.TheVariants as thing
+use Rattle.bound_tree.specs.declared.units.BoundUnit.{BoundUnit}
+use Rattle.bound_tree.specs.declared.writes.BoundChange.{BoundChange}
+use Rattle.bound_tree.specs.declared.writes.BoundChange.TheVariants as change
+use Rattle.bound_tree.specs.declared.writes.BoundWrite.{BoundWrite}
+use Rattle.bound_size.proofs.BoundLaws.{both_hold, bound_by, same_answer}
+use Rattle.bound_size.proofs.StatementLaws.{insert_small, query_small}
+use Rattle.sql_bound.specs.Carriers.{InsertParts}
+use Rattle.sql_bound.specs.Creates.{create_bound, create_there, created_by, entries_beside, is_free, name_of_entry, nothing_created}
+use Rattle.sql_bound.specs.Refusals.{Checked}
+use Rattle.sql_bound.specs.Scopes.{Around, Outer, begun, in_statement}
+use Rattle.sql_bound.specs.Statements.{bound_of, command_bound, entries_of, nothing_opened, plain, pragma_bound, remove_bound, removed, rows_bound, statement_with, thing_there}
+use Rattle.sql_bound.specs.Targets.{Target, target_bound}
+use Rattle.sql_bound.specs.Trees.{full_depth, of_insert_source, of_rows, outer_at}
+use Rattle.sql_bound.specs.Triggers.{opening}
+use Rattle.sql_bound.specs.Writes.{Begun, Fired, Opened, fired_all, insert_begun, inserted_from, inserting, none_fired, places_named, write_bound, write_with}
+use Rattle.sql_bound.specs.declared.scopes.Work.{Work}
+use Rattle.sql_meaning.specs.Built.{is_abort, is_built, is_built_command, is_built_rows, is_built_rows_source, is_built_values}
+use Rattle.sql_meaning.specs.Declarations.{tables_of}
+use Rattle.sql_meaning.specs.Running.{command_of, creation_of, entry_with, found_table, if_built, put_into, put_of, removal_of, runnable_of, table_of_source}
+use Rattle.sql_meaning.specs.Runnables.{Creates, DoesNothing, Drops, Put, Puts, Queries, Runnable, Shows}
+use Rattle.sql_meaning.specs.Statement.{around, statement_bound}
 use Rattle.sql_meaning.specs.declared.column.TableEntry.{TableEntry}
-use Rattle.sql_meaning.specs.Statement.{command_bound, where_built}
+use Rattle.sql_meaning.specs.Declarations.{columns_created, table_called}
+use Rattle.sql_meaning.proofs.ValidLaws.{if_built-ok, same-ok, then-ok}
+use Rattle.sql_words.specs.Refusals.{◌>>=◌}
+use Rattle.sql_words.specs.Spelled.{name_at}
 use Rattle.bind_stmt.specs.declared.statement.Bound.{Bound}
-use Rattle.bind_stmt.specs.Binds.{AnswersBy, Binds, IsBound}
-use Rattle.bind_stmt.proofs.Sizing.{command_small}
+use Rattle.bind_stmt.specs.declared.statement.Bound.TheVariants as bound
+use Rattle.bind_stmt.specs.Binds.{AnswersBy, Binds, BindsTo, IsBound}
+use Rattle.bind_stmt.specs.Small.{AreFew, IsSmall}
+use Rattle.bind_stmt.proofs.BuiltPlain.{built_query_plain, built_values_plain}
+use Rattle.bind_stmt.proofs.Sizing.{defaulted-small, inserted-small, of_insert_as, query-small}
 
-module _ (tables : List TableEntry) (number : ℕ) (text : List ℕ) (s : Statement) where
-  pub not_built : is_built text s ≡ false → Binds tables number text s (Err NotYet)
-  unfolding Binds
-  not_built is = inr (ap (λ b. where_built b (command_bound tables number text s s.command)) is)
+-- ---- what neither reads nor puts rows
 
-  pub built : (r : Result Bound Cause) → is_built text s ≡ true → AnswersBy IsBound (command_bound tables number text s s.command) r → Binds tables number text s r
+abbrev IsAside : Runnable → Type 0
+IsAside (Creates e) = ⊤
+IsAside (Drops t) = ⊤
+IsAside DoesNothing = ⊤
+IsAside other = ⊥
+
+aside-small : (size : ℕ) (x : Runnable) (b : Bound) → 1 ≤ size → IsAside x → IsBound x b → IsSmall size x b
+aside-small size (Creates e) (bound.CreateTable b) le a is = le
+aside-small size (Creates e) (bound.DropTable b) le a is = absurd is
+aside-small size (Creates e) (bound.Insert b) le a is = absurd is
+aside-small size (Creates e) (bound.Select b) le a is = absurd is
+aside-small size (Creates e) (bound.Values b) le a is = absurd is
+aside-small size (Creates e) bound.Nothing le a is = absurd is
+aside-small size (Drops t) (bound.CreateTable b) le a is = absurd is
+aside-small size (Drops t) (bound.DropTable b) le a is = le
+aside-small size (Drops t) (bound.Insert b) le a is = absurd is
+aside-small size (Drops t) (bound.Select b) le a is = absurd is
+aside-small size (Drops t) (bound.Values b) le a is = absurd is
+aside-small size (Drops t) bound.Nothing le a is = absurd is
+aside-small size DoesNothing (bound.CreateTable b) le a is = absurd is
+aside-small size DoesNothing (bound.DropTable b) le a is = absurd is
+aside-small size DoesNothing (bound.Insert b) le a is = absurd is
+aside-small size DoesNothing (bound.Select b) le a is = absurd is
+aside-small size DoesNothing (bound.Values b) le a is = absurd is
+aside-small size DoesNothing bound.Nothing le a is = le
+aside-small size (Puts p) b le a is = absurd a
+aside-small size (Queries q) b le a is = absurd a
+aside-small size (Shows rows) b le a is = absurd a
+
+abbrev IsAsideCommand : BoundCommand → Type 0
+IsAsideCommand (made.Asked place) = ⊥
+IsAsideCommand (made.Written w) = ⊥
+IsAsideCommand other = ⊤
+
+removal-aside : (tables : List TableEntry) (k : ThingKind) (name : List ℕ) (x : Runnable) → removal_of tables k name ≡ Ok x → IsAside x
+removal-aside tables thing.ATable name x e =
+    let drops : TableEntry → Result Runnable Cause = λ t. Ok (Drops t) in
+    let t = then-ok (found_table (table_called tables name)) drops x e in
+    subst IsAside (same-ok (Drops t.0) x t.2) tt
+removal-aside tables thing.AModuleTable name x e = absurd (let bad : Err cause.NotYet ≡ Ok x = e in cc)
+removal-aside tables thing.AnIndex name x e = absurd (let bad : Err cause.NotYet ≡ Ok x = e in cc)
+removal-aside tables thing.AView name x e = absurd (let bad : Err cause.NotYet ≡ Ok x = e in cc)
+removal-aside tables thing.ATrigger name x e = absurd (let bad : Err cause.NotYet ≡ Ok x = e in cc)
+
+command-aside : (tables : List TableEntry) (number : ℕ) (text : List ℕ) (s : Statement) (units : List BoundUnit) (k : BoundCommand) (x : Runnable) → IsAsideCommand k → command_of tables number text s units k ≡ Ok x → IsAside x
+command-aside tables number text s units (made.Asked place) x a e = absurd a
+command-aside tables number text s units (made.Written w) x a e = absurd a
+command-aside tables number text s units (made.Created c) x a e =
+    let entry = entry_with number text c.name s in
+    subst IsAside (same-ok (Creates entry) x (if_built-ok (is_some (columns_created text s.command)) (Ok (Creates entry)) x e).1) tt
+command-aside tables number text s units (made.Removed r) x a e = removal-aside tables r.kind r.name x e
+command-aside tables number text s units (made.Transacted t) x a e = absurd (let bad : Err cause.NotYet ≡ Ok x = e in cc)
+command-aside tables number text s units (made.Pragma name) x a e = subst IsAside (same-ok DoesNothing x e) tt
+command-aside tables number text s units (made.Nothing kind name owner) x a e = subst IsAside (same-ok DoesNothing x e) tt
+
+nothing-aside : (o : Outer) (name : List ℕ) (d : Definition) → IsAsideCommand (nothing_created o name d)
+nothing-aside o name (definition.Table t) = tt
+nothing-aside o name (definition.Index i) = tt
+nothing-aside o name (definition.View v) = tt
+nothing-aside o name (definition.Trigger t) = tt
+nothing-aside o name (definition.VirtualTable v) = tt
+
+create-aside : (o : Outer) (c : Create) (name : List ℕ) (there : Option Entry) (k : BoundCommand) → create_there o c name there ≡ Ok k → IsAsideCommand k
+create-aside o c name there k e = by (c.if_not_exists && is_some there) e
+  where
+    by : (skips : Bool) → (if skips then Ok (nothing_created o (name_of_entry name there) c.definition) else (is_free name there >>= λ u. created_by o name c.definition >>= λ x. Ok (made.Created x))) ≡ Ok k → IsAsideCommand k
+    by true f = subst IsAsideCommand (same-ok (nothing_created o (name_of_entry name there) c.definition) k f) (nothing-aside o (name_of_entry name there) c.definition)
+    by false f =
+        let free = then-ok (is_free name there) (λ u. created_by o name c.definition >>= λ x. Ok (made.Created x)) k f in
+        let one = then-ok (created_by o name c.definition) (λ x. Ok (made.Created x)) k free.2 in
+        subst IsAsideCommand (same-ok (made.Created one.0) k one.2) tt
+
+removed-aside : (if_exists : Bool) (kind : ObjectKind) (name : List ℕ) (there : Option Entry) (t : Option (ThingKind × Entry)) (k : BoundCommand) → removed if_exists kind name there t ≡ Ok k → IsAsideCommand k
+removed-aside if_exists kind name there (Some t) k e = subst IsAsideCommand (same-ok _ k e) tt
+removed-aside true kind name there None k e = subst IsAsideCommand (same-ok _ k e) tt
+removed-aside false kind name there None k e = absurd (cc)
+
+pragma-aside : (known : Bool) (name : List ℕ) (why : Cause) (k : BoundCommand) → (if known then Ok (made.Pragma name) else Err why) ≡ Ok k → IsAsideCommand k
+pragma-aside true name why k e = subst IsAsideCommand (same-ok (made.Pragma name) k e) tt
+pragma-aside false name why k e = absurd (let bad : Err why ≡ Ok k = e in cc)
+
+-- ---- DEFAULT VALUES
+
+defaults_placed : (o : Outer) (i : Insert) (r : BoundCommand × Opened) → i.source ≡ source.Defaults → rows_bound o (of_rows (rows_by.Insert i)) ≡ Ok r → (write : BoundWrite) × (r.0 ≡ made.Written write) × (write.change ≡ change.Defaulted)
+defaults_placed o i r from h =
+    let parts : InsertParts = record { choice = i.choice; table = i.table; columns = i.columns; source = of_insert_source i.source } in
+    let open_it = opening o.around in
+    let opened : (Begun × Work) → Opened = λ g. record nothing_opened { units = g.1.units } in
+    let write : (Begun × Work) → Fired × Opened → BoundWrite × Opened = λ g f. (write_with g.0 g.1.needs f.0 true, f.1) in
+    let told : BoundWrite × Opened → BoundCommand × Opened = λ b. (made.Written b.0, b.1) in
+    let fires : (Begun × Work) → Checked (Fired × Opened) = λ g. fired_all open_it o.around g.0 o.around.catalog.triggers (none_fired, opened g) in
+    let b = bound_by (write_bound open_it o.around true (insert_begun o parts (begun [])) nothing_opened) (λ b. Ok (told b)) r h in
+    let g = bound_by (insert_begun o parts (begun [])) (λ g. fires g >>= λ f. Ok (write g f)) b.0 b.1 in
+    let f = bound_by (fires g.0) (λ f. Ok (write g.0 f)) b.0 g.2 in
+    let same_b = same_answer (write g.0 f.0) b.0 f.2 in
+    let same_r = same_answer (told b.0) r b.2 in
+    let here = begun_defaulted o parts (begun []) g.0 (ap of_insert_source from) g.1 in
+    (b.0.0, sym (ap (λ (x : BoundCommand × Opened). x.0) same_r), ap (λ (x : BoundWrite × Opened). x.0.change) (sym same_b) ∙ here)
+  where
+    begun_defaulted : (o : Outer) (i : InsertParts) (w : Work) (g : Begun × Work) → i.source ≡ None → insert_begun o i w ≡ Ok g → g.0.change ≡ change.Defaulted
+    begun_defaulted o i w g from h =
+        let one : Target → BoundChange × Work → Begun × Work = λ t c. (record { target = t; choice = i.choice; firing = inserting; change = c.0 }, c.1) in
+        let names = map (name_at o.text) i.columns in
+        let t = bound_by (target_bound o (name_at o.text i.table) inserting w) (λ t. places_named t.0 names >>= λ listed. inserted_from o t.0 listed i.source t.1 >>= λ c. Ok (one t.0 c)) g h in
+        let l = bound_by (places_named t.0.0 names) (λ listed. inserted_from o t.0.0 listed i.source t.0.1 >>= λ c. Ok (one t.0.0 c)) g t.2 in
+        let c = bound_by (inserted_from o t.0.0 l.0 i.source t.0.1) (λ c. Ok (one t.0.0 c)) g l.2 in
+        let here = subst (λ x. inserted_from o t.0.0 l.0 x t.0.1 ≡ Ok c.0) from c.1 in
+        let same : (change.Defaulted, t.0.1) ≡ c.0 = same_answer (change.Defaulted, t.0.1) c.0 here in
+        ap (λ (x : Begun × Work). x.0.change) (sym (same_answer (one t.0.0 c.0) g c.2)) ∙ ap (λ (x : BoundChange × Work). x.0) (sym same)
+
+-- ---- INSERT
+
+put-small : (size : ℕ) (tables : List TableEntry) (units : List BoundUnit) (w : BoundWrite) (x : Runnable) (b : Bound) → ((t : TableEntry) (p : Put) → put_into t units w.change ≡ Ok p → AreFew size p.rows) → put_of tables units w ≡ Ok x → IsBound x b → IsSmall size x b
+put-small size tables units w x b few e is =
+    let puts : Put → Result Runnable Cause = λ put. Ok (Puts put) in
+    let table = then-ok (table_of_source tables w.target.item.source) (λ t. put_into t units w.change >>= puts) x e in
+    let put = then-ok (put_into table.0 units w.change) puts x table.2 in
+    subst (λ y. IsBound y b → IsSmall size y b) (same-ok (Puts put.0) x put.2) (λ held. of_insert_as size put.0 b held (few table.0 put.0 put.1)) is
+
+-- ---- every statement
+
+module _ (catalog : Entries) (number : ℕ) (text : List ℕ) (s : Statement) (made_of : BoundStatement) (x : Runnable) (b : Bound) (none : catalog.triggers ≡ []) (is : bound_of (around catalog) text s ≡ Ok made_of) (runs : runnable_of (tables_of catalog) number text s made_of ≡ Ok x) (held : IsBound x b) where
+  outer : Outer
+  outer = outer_at (around catalog) (full_depth (around catalog)) text [] in_statement
+
+  -- what its command comes to
+  command_was : (k : Command) → s.command ≡ k → (c : BoundCommand × Opened) × (command_bound outer k ≡ Ok c) × (made_of.command ≡ c.0)
+  unfolding outer
+  command_was k at =
+      let c = bound_by (command_bound outer s.command) (λ c. Ok (statement_with s.explain c)) made_of is in
+      (c.0, subst (λ (y : Command). command_bound outer y ≡ Ok c.0) at c.1, ap (λ (y : BoundStatement). y.command) (sym (same_answer (statement_with s.explain c.0) made_of c.2)))
+
+  aside_is : (k : BoundCommand) (size : ℕ) → 1 ≤ size → made_of.command ≡ k → IsAsideCommand k → IsSmall size x b
+  aside_is k size le at a =
+      aside-small size x b le (command-aside (tables_of catalog) number text s made_of.units made_of.command x (subst IsAsideCommand (sym at) a) runs) held
+
+  opening_is : (size : ℕ) (r : Checked BoundCommand) (c : BoundCommand × Opened) → 1 ≤ size → made_of.command ≡ c.0 → ((k : BoundCommand) → r ≡ Ok k → IsAsideCommand k) → (r >>= λ k. Ok (plain k)) ≡ Ok c → IsSmall size x b
+  opening_is size r c le at aside e =
+      let one = bound_by r (λ k. Ok (plain k)) c e in
+      let same : one.0 ≡ c.0 = ap (λ (y : BoundCommand × Opened). y.0) (same_answer (plain one.0) c one.2) in
+      aside_is one.0 size le (at ∙ sym same) (aside one.0 one.1)
+
+  definition_size : (d : Definition) → 1 ≤ size_of_definition d
+  definition_size (definition.Table t) = omega arith
+  definition_size (definition.Index i) = omega arith
+  definition_size (definition.View v) = omega arith
+  definition_size (definition.Trigger t) = omega arith
+  definition_size (definition.VirtualTable v) = omega arith
+
+  query_is : (q : Tree) → s.command ≡ command.Rows (rows_by.Query q) → is_built_rows text (rows_by.Query q) ≡ true → IsSmall (size_of_command (command.Rows (rows_by.Query q))) x b
+  query_is q at built =
+      let m = query_small (around catalog) text s q made_of at (built_query_plain text q built) is in
+      query-small (size_of_command (command.Rows (rows_by.Query q))) (tables_of catalog) q made_of.units m.0 x b (omega arith) m.2
+      (subst (λ k. command_of (tables_of catalog) number text s made_of.units k ≡ Ok x) m.1 runs) held
+
+  insert_is : (i : Insert) (from : InsertSource) → i.source ≡ from → s.command ≡ command.Rows (rows_by.Insert i) → is_built_rows text (rows_by.Insert i) ≡ true → IsSmall (size_of_command (command.Rows (rows_by.Insert i))) x b
+  insert_is i (source.Query q) from at built =
+      let values : is_built_values text (of_query q) ≡ true = subst (λ y. is_built_rows_source text y ≡ true) from (both_hold (is_abort i.choice) (is_built_rows_source text i.source) built).1 in
+      let m = insert_small (around catalog) text s i q made_of at from none (built_values_plain text q values) is in
+      let size : size_of_command (command.Rows (rows_by.Insert i)) ≡ 2 + size_of_query q = ap (λ y. 2 + size_of_source y) from in
+      put-small (size_of_command (command.Rows (rows_by.Insert i))) (tables_of catalog) made_of.units m.0 x b
+      (λ t p e. inserted-small (size_of_command (command.Rows (rows_by.Insert i))) t q made_of.units m.2.columns m.2.rowid m.2.source m.2.arguments p (omega (arith, size)) m.2.makes (subst (λ c. put_into t made_of.units c ≡ Ok p) m.2.change e))
+      (subst (λ k. command_of (tables_of catalog) number text s made_of.units k ≡ Ok x) m.1 runs) held
+  insert_is i source.Defaults from at built =
+      let c = command_was (command.Rows (rows_by.Insert i)) at in
+      let m = defaults_placed outer i c.0 from c.1 in
+      put-small (size_of_command (command.Rows (rows_by.Insert i))) (tables_of catalog) made_of.units m.0 x b
+      (λ t p e. defaulted-small (size_of_command (command.Rows (rows_by.Insert i))) t made_of.units p (omega arith) (subst (λ d. put_into t made_of.units d ≡ Ok p) m.2 e))
+      (subst (λ k. command_of (tables_of catalog) number text s made_of.units k ≡ Ok x) (c.2 ∙ m.1) runs) held
+
+  by_command : (k : Command) → s.command ≡ k → is_built_command text k ≡ true → IsSmall (size_of_command k) x b
+  by_command (command.Rows (rows_by.Query q)) at built = query_is q at built
+  by_command (command.Rows (rows_by.Insert i)) at built = insert_is i i.source refl at built
+  by_command (command.Rows (rows_by.Update u)) at built = absurd (let bad : false ≡ true = built in cc)
+  by_command (command.Rows (rows_by.Delete d)) at built = absurd (let bad : false ≡ true = built in cc)
+  by_command (command.Create c) at built =
+      let w = command_was (command.Create c) at in
+      opening_is (size_of_command (command.Create c)) (create_bound outer c) w.0 (definition_size c.definition) w.2
+      (λ k e. create-aside outer c (name_at outer.text c.name) (entry_named (name_at outer.text c.name) (entries_beside outer.around c.definition)) k e) w.1
+  by_command (command.Remove r) at built =
+      let w = command_was (command.Remove r) at in
+      let there = entry_named (name_at outer.text r.name) (entries_of outer.around r.kind) in
+      opening_is 1 (remove_bound outer r) w.0 (omega arith) w.2 (λ k e. removed-aside r.if_exists r.kind (name_at outer.text r.name) there (thing_there r.kind there) k e) w.1
+  by_command (command.Transaction t) at built = absurd (let bad : false ≡ true = built in cc)
+  by_command (command.Pragma p) at built =
+      let w = command_was (command.Pragma p) at in
+      opening_is 1 (pragma_bound outer p) w.0 (omega arith) w.2 (λ k e. pragma-aside _ (codes "foreign_keys") (cause.Unknown name_kind.Pragma (name_at outer.text p.name)) k e) w.1
+
+  pub small : is_built text s ≡ true → IsSmall (size_of_statement s) x b
+  small built = by_command s.command refl (both_hold (not (is_some s.explain)) (is_built_command text s.command) built).1
+
+-- ---- what `bind` answers
+
+if_none : {A B : Type 0} (t : Bool) (r : Result A Cause) (f : A → Result B Cause) → t ≡ false → if_built t (r >>= f) ≡ Err cause.NotYet
+if_none t r f not_so = ap (λ u. if_built u (r >>= f)) not_so
+
+if_refused : {A B : Type 0} (t : Bool) (r : Result A Cause) (f : A → Result B Cause) (why : Cause) → t ≡ true → r ≡ Err why → if_built t (r >>= f) ≡ Err why
+if_refused t r f why built is = ap (λ u. if_built u (r >>= f)) built ∙ ap (λ x. x >>= f) is
+
+if_came : {A B : Type 0} (t : Bool) (r : Result A Cause) (f : A → Result B Cause) (a : A) (b : Result B Cause) → t ≡ true → r ≡ Ok a → f a ≡ b → if_built t (r >>= f) ≡ b
+if_came t r f a b built is e = ap (λ u. if_built u (r >>= f)) built ∙ ap (λ x. x >>= f) is ∙ e
+
+module _ (catalog : Entries) (number : ℕ) (text : List ℕ) (s : Statement) where
+  pub not_built : is_built text s ≡ false → Binds catalog number text s (Err cause.NotYet)
   unfolding Binds
-  built (Ok b) is bound =
-      (bound.0, ap (λ t. where_built t (command_bound tables number text s s.command)) is ∙ bound.1, bound.2, command_small tables number text s s.command bound.0 b bound.1 bound.2)
-  built (Err why) is (inl mem) = inl mem
-  built (Err why) is (inr refused) = inr (ap (λ t. where_built t (command_bound tables number text s s.command)) is ∙ refused)
+  not_built not_so = inr (if_none (is_built text s) (bound_of (around catalog) text s) (runnable_of (tables_of catalog) number text s) not_so)
+
+  pub refused : (why : Cause) → is_built text s ≡ true → (why ≡ cause.Mem) ⊎ (bound_of (around catalog) text s ≡ Err why) → Binds catalog number text s (Err why)
+  unfolding Binds
+  refused why built (inl mem) = inl mem
+  refused why built (inr is) = inr (if_refused (is_built text s) (bound_of (around catalog) text s) (runnable_of (tables_of catalog) number text s) why built is)
+
+  pub bound_so : (b : BoundStatement) (r : Result Bound Cause) → catalog.triggers ≡ [] → is_built text s ≡ true → bound_of (around catalog) text s ≡ Ok b → AnswersBy IsBound (runnable_of (tables_of catalog) number text s b) r → Binds catalog number text s r
+  unfolding Binds
+  bound_so b (Ok c) none built is (x, runs, held) =
+      (x, if_came (is_built text s) (bound_of (around catalog) text s) (runnable_of (tables_of catalog) number text s) b (Ok x) built is runs, held, small catalog number text s b x c none is runs held built)
+  bound_so b (Err why) none built is (inl mem) = inl mem
+  bound_so b (Err why) none built is (inr runs) = inr (if_came (is_built text s) (bound_of (around catalog) text s) (runnable_of (tables_of catalog) number text s) b (Err why) built is runs)

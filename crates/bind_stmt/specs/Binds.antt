@@ -1,18 +1,21 @@
 -- How what was bound stands to what the definitions bind.
 use Rattle.std.specs.Prelude.{◌≡◌, ◌⊎◌, ⊤, ℕ, List, [], ◌∷◌, Option, Some, None, Result, Ok, Err}
+use Rattle.std.specs.List.{flat_map}
 use Rattle.eng_value.specs.declared.cause.Cause.{Cause}
 use Rattle.eng_value.specs.declared.cause.Cause.TheVariants.{Mem}
 use Rattle.sql_tree.specs.Sizes.{size_of_statement}
 use Rattle.sql_tree.specs.declared.statement.Statement.{Statement}
-use Rattle.sql_meaning.specs.declared.bound.BoundExpr.{BoundExpr}
+use Rattle.bound_tree.specs.Exprs.{BoundExpr}
 use Rattle.sql_meaning.specs.declared.bound.BoundInsert.{BoundInsert}
 use Rattle.sql_meaning.specs.declared.bound.BoundSelect.{BoundSelect}
 use Rattle.sql_meaning.specs.declared.bound.PutColumn.{PutColumn}
 use Rattle.sql_meaning.specs.declared.column.Column.{Column}
 use Rattle.sql_meaning.specs.declared.column.TableEntry.{TableEntry}
-use Rattle.sql_meaning.specs.BoundStatements.{BoundStatement, Creates, DoesNothing, Drops, FromItem, Put, Puts, Queries, Query, Shows}
+use Rattle.sql_meaning.specs.Runnables.{Runnable, Creates, DoesNothing, Drops, FromItem, Put, Puts, Queries, Query, Shows}
 use Rattle.sql_meaning.specs.Declarations.{columns_created}
-use Rattle.sql_meaning.specs.Statement.{fitting, statement_bound}
+use Rattle.eng_entry.specs.Entries.{Entries}
+use Rattle.bound_tree.specs.Conditions.{conditions_of}
+use Rattle.sql_meaning.specs.Statement.{statement_bound}
 use Rattle.bind_stmt.specs.Small.{IsSmall}
 use Rattle.bind_stmt.specs.declared.statement.Bound.{Bound}
 use Rattle.bind_stmt.specs.declared.statement.Bound.TheVariants as bound
@@ -43,7 +46,7 @@ IsFrom _ _ = ⊥
 
 pub record IsQueryAs (q : Query) (b : BoundSelect) : Type 0 where
   pub from : IsFrom q.from b.table
-  pub conjuncts : b.conjuncts ≡ q.conjuncts
+  pub conjuncts : flat_map conditions_of b.conjuncts ≡ q.conjuncts
   pub results : b.results ≡ q.results
 
 -- what each column takes, where its value stands in a row
@@ -58,14 +61,9 @@ pub record IsPutAs (p : Put) (b : BoundInsert) : Type 0 where
   pub columns : b.columns ≡ put_columns p.table.columns p.places
   pub rows : b.rows ≡ p.rows
 
--- the rows have so many values, or they are refused
-abbrev pub FitsOrNot : TableEntry → ℕ → List (List BoundExpr) → Result (Unit {0}) Cause → Type 0
-FitsOrNot t width rows (Ok u) = fitting t width rows ≡ Ok rows
-FitsOrNot t width rows (Err why) = IsRefusal (fitting t width rows) why
-
 -- ---- statements
 
-abbrev pub IsBound : BoundStatement → Bound → Type 0
+abbrev pub IsBound : Runnable → Bound → Type 0
 IsBound (Creates e) (bound.CreateTable t) = (t.name ≡ e.name) × (columns_created e.text e.def.command ≡ Some t.columns)
 IsBound (Drops t) (bound.DropTable d) = (d.name ≡ t.name) × (d.table ≡ t.number)
 IsBound (Puts p) (bound.Insert b) = IsPutAs p b
@@ -75,10 +73,10 @@ IsBound DoesNothing bound.Nothing = ⊤
 IsBound _ _ = ⊥
 
 -- the statement is bound, and what it is bound to is small beside its tree; or it is refused; and memory may be wanting
-abbrev pub BindsTo : ℕ → Result BoundStatement Cause → Result Bound Cause → Type 0
-BindsTo size meant (Ok b) = (x : BoundStatement) × (meant ≡ Ok x) × IsBound x b × IsSmall size x b
+abbrev pub BindsTo : ℕ → Result Runnable Cause → Result Bound Cause → Type 0
+BindsTo size meant (Ok b) = (x : Runnable) × (meant ≡ Ok x) × IsBound x b × IsSmall size x b
 BindsTo size meant (Err why) = IsRefusal meant why
 
--- over these tables, where a new one gets this number
-unfoldable pub Binds : List TableEntry → ℕ → List ℕ → Statement → Result Bound Cause → Type 0
-Binds tables number text s r = BindsTo (size_of_statement s) (statement_bound tables number text s) r
+-- over this catalog, where a new table gets this number
+unfoldable pub Binds : Entries → ℕ → List ℕ → Statement → Result Bound Cause → Type 0
+Binds catalog number text s r = BindsTo (size_of_statement s) (statement_bound catalog number text s) r

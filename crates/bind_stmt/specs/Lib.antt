@@ -1,3 +1,4 @@
 pub mod Small
 pub mod Binds
 pub mod Steps
+pub mod Plain

@@ -1,16 +1,17 @@
 -- How large what is bound is.
 use Rattle.std.specs.Prelude.{◌≤◌, ℕ, ◌+◌, ◌*◌, List, [], ◌∷◌, length, map}
 use Rattle.sql_tree.specs.Sizes.{total}
-use Rattle.sql_meaning.specs.declared.bound.BoundExpr.{BoundExpr}
+use Rattle.bound_tree.specs.Exprs.{BoundExpr}
 use Rattle.sql_meaning.specs.declared.bound.BoundSelect.{BoundSelect}
-use Rattle.sql_meaning.specs.BoundStatements.{BoundStatement, FromItem, Queries, Query}
-use Rattle.sql_meaning.specs.Sizes.{all_nodes}
+use Rattle.sql_meaning.specs.Runnables.{Runnable, FromItem, Queries, Query}
+use Rattle.bound_size.specs.Counts.{rows_size}
+use Rattle.bound_size.specs.Sizes.{all_nodes}
 use Rattle.bind_stmt.specs.declared.statement.Bound.{Bound}
 use Rattle.bind_stmt.specs.declared.statement.Bound.TheVariants as bound
 
 -- how many columns the tables of a FROM have
 abbrev pub columns_in : List FromItem → ℕ
-columns_in items = total (map (λ (i : FromItem). length i.table.columns) items)
+columns_in items = total (map (λ (i : FromItem). i.width) items)
 
 -- FROM and a name
 abbrev pub from_size : List FromItem → ℕ
@@ -27,19 +28,13 @@ pub record IsSmallQuery (size : ℕ) (q : Query) (b : BoundSelect) : Type 0 wher
   pub of_table : stars ≤ 100 * columns_in q.from
   pub results : all_nodes b.results ≤ 2 * shown + stars
 
-abbrev pub row_size : List BoundExpr → ℕ
-row_size row = 1 + all_nodes row
-
-abbrev pub rows_size : List (List BoundExpr) → ℕ
-rows_size rows = total (map row_size rows)
-
 -- rows that are put: not more of them than the tree is large, and with few nodes
 pub record AreFew (size : ℕ) (rows : List (List BoundExpr)) : Type 0 where
   pub nodes : 3 + rows_size rows ≤ 2 * size
   pub count : length rows ≤ size
 
 -- beside a tree of this size
-abbrev pub IsSmall : ℕ → BoundStatement → Bound → Type 0
+abbrev pub IsSmall : ℕ → Runnable → Bound → Type 0
 IsSmall size (Queries q) (bound.Select b) = IsSmallQuery size q b
 IsSmall size x (bound.Insert b) = AreFew size b.rows
 IsSmall size x (bound.Values rows) = rows_size rows ≤ 2 * size

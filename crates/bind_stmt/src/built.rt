@@ -58,7 +58,8 @@ fn is_built_definition(definition: &Definition) -> bool
     }
 }
 
-fn is_built_table(table: &TableDefinition) -> bool
+/// Whether a table has no constraint, neither at a column nor behind them.
+pub(crate) fn is_built_table(table: &TableDefinition) -> bool
     ensures { result ≡ is_built_table table.now }
 {
     table.constraints.is_empty() && are_built_columns(table.columns.as_slice())
@@ -89,7 +90,7 @@ pub(crate) fn is_table(kind: ObjectKind) -> bool
 // ---- queries
 
 /// Whether a query has no WITH, one part, no ORDER BY and no LIMIT.
-fn stands_alone(query: &Query) -> bool
+pub(crate) fn stands_alone(query: &Query) -> bool
     ensures { result ≡ stands_alone (of_query query.now) }
 {
     query.with.is_empty()

@@ -1,23 +1,18 @@
-//! Statements whose names are bound.
+//! Statements that run: what of them is built, and what runs of what their names are bound to.
 //!
-//! `bind` gives what the definitions of the library sql_meaning bind (specs/Statement.antt there), with tables by their numbers, or
-//! the first refusal in the order of work: the target or the FROM first, then WHERE, then what is shown; in a CREATE the name first,
-//! and then each column in turn. Begin with `bind`.
+//! `bind` gives what the definitions of the library sql_meaning give (`statement_bound` of specs/Statement.antt there), with tables by
+//! their numbers: names are bound by the library binder, and specs/Running.antt says what runs of that. An INSERT of rows of literals into
+//! a table without constraints, the most frequent statement, is bound at once (src/plain_rows.rt), with few allocations. Begin with `bind`.
 #![tactic(auto)]
 
 mod built;
 mod built_expressions;
 mod creating;
-mod dropping;
-mod inserting;
-mod laws;
-mod pragmas;
-mod selecting;
+mod plain_rows;
+mod putting;
+mod querying;
 mod statement;
 mod tables;
-mod values;
 
 pub use creating::NewTable;
-pub use dropping::DroppedTable;
-pub use laws::a_where_repeats_only_by_names;
-pub use statement::{Bound, bind};
+pub use statement::{Bound, DroppedTable, bind};

@@ -1,20 +1,33 @@
 // Any statement.
-ghost use Rattle.std.specs.Prelude.{◌≡◌, ℕ};
+ghost use Rattle.std.specs.Prelude.{◌≡◌, ℕ, []};
 ghost use Rattle.bind_stmt.specs.Binds.{AnswersBy, Binds, IsBound};
-ghost use Rattle.sql_meaning.specs.Statement.{command_bound, rows_bound};
-ghost use Rattle.sql_tree.specs.declared.statement.Statement.{Statement as Tree};
+ghost use Rattle.bound_tree.specs.declared.statements.ThingKind.TheVariants as thing;
+ghost use Rattle.sql_bound.specs.HostFacts.{facts_of};
+ghost use Rattle.sql_meaning.specs.Declarations.{tables_of};
+ghost use Rattle.sql_meaning.specs.Running.{removal_of, runnable_of};
+ghost use Rattle.sql_meaning.specs.Statement.{nobody_tells};
 
 use crate::built::is_built;
-use crate::creating::{NewTable, bind_create};
-use crate::dropping::{DroppedTable, bind_drop};
-use crate::inserting::bind_insert;
-use crate::pragmas::bind_pragma;
-use crate::selecting::bind_query;
-use eng_value::Cause;
-use sql_meaning::{BoundExpr, BoundInsert, BoundSelect, TableEntry};
-use sql_tree::{Command, RowCommand, Statement};
+use crate::creating::{NewTable, created};
+use crate::plain_rows::plain_rows;
+use crate::putting::put;
+use crate::querying::query;
+use crate::tables::found_table;
+use bound_tree::{BoundCommand, BoundExpr, BoundRemoval, BoundStatement, ThingKind};
+use eng_catalog::Catalog;
+use eng_value::{Cause, Text};
+use sql_bound::HostFacts;
+use sql_meaning::{BoundInsert, BoundSelect, TableEntry};
+use sql_tree::Statement;
 use sqlite_items::Items;
 use std::alloc::Global;
+
+/// A table that is dropped: its name, and its number.
+#[derive(Drop)]
+pub struct DroppedTable {
+    pub name: Text,
+    pub table: u32,
+}
 
 /// A statement whose names are bound.
 #[derive(Drop)]
@@ -34,53 +47,90 @@ pub enum Bound {
 /// comes first in the order of work. The statement's tokens are places in the text, and a table is told by its number. Bound
 /// expressions are at most a few times as large as those of the tree, beside the columns that a `*` shows.
 ///
-/// Errors: `NotYet` where a part of the statement is not built; `Unknown`, `Exists` and `Reserved` for names, `Real` for the type of
-/// a column, `Arity`, `Misuse` and `Limit` of columns; and `Mem` where memory is wanting, whatever else there is.
+/// Errors: `NotYet` where a part of the statement is not built; those of binding; and `Mem` where memory is wanting, whatever else
+/// there is.
 pub fn bind(
     alloc: Global,
+    catalog: &Catalog,
     tables: &[TableEntry],
     text: &str,
     statement: &Statement,
 ) -> Result<Bound, Cause>
-    ensures { (number : ℕ) → Binds tables.now number text.now statement.now result }
+    requires tables { tables.now ≡ tables_of catalog.now }
+    requires untriggered { catalog.now.triggers ≡ [] }
+    ensures { (number : ℕ) → Binds catalog.now number text.now statement.now result }
 {
     if !is_built(text, statement) {
         return Err(Cause::NotYet);
     }
-    bind_command(alloc, tables, text, &statement.command)
+    if let Some(insert) = plain_rows(alloc, catalog, tables, text, statement)? {
+        return Ok(Bound::Insert(insert));
+    }
+    let facts = nobody_tells(alloc);
+    let bound = binder::bind(alloc, text, catalog, &facts, statement)?;
+    runnable(alloc, tables, text, statement, bound)
 }
 
-fn bind_command(
-    alloc: Global,
-    tables: &[TableEntry],
-    text: &str,
-    command: &Command,
-) -> Result<Bound, Cause>
-    ensures { (number : ℕ) (s : Tree) → s.command ≡ command.now → AnswersBy IsBound (command_bound tables.now number text.now s command.now) result }
+/// There are no hosts.
+fn nobody_tells(alloc: Global) -> HostFacts
+    ensures { facts_of result ≡ nobody_tells }
 {
-    match command {
-        Command::Rows(rows) => bind_rows(alloc, tables, text, rows),
-        Command::Create(create) => bind_create(alloc, tables, text, create),
-        Command::Remove(remove) => bind_drop(alloc, tables, text, remove),
-        Command::Pragma(pragma) => bind_pragma(alloc, text, pragma),
-        Command::Transaction(_) => Err(Cause::NotYet),
+    HostFacts {
+        functions: Items::new(alloc),
+        aggregates: Items::new(alloc),
+        collations: Items::new(alloc),
+        modules: Items::new(alloc),
+        told: Items::new(alloc),
+        savepoints: Items::new(alloc),
+        recursive_triggers: false,
+        rowids: false,
     }
 }
 
-/// A query or an INSERT.
-fn bind_rows(
+/// What runs of a statement whose names are bound.
+fn runnable(
     alloc: Global,
     tables: &[TableEntry],
     text: &str,
-    command: &RowCommand,
+    statement: &Statement,
+    bound: BoundStatement,
 ) -> Result<Bound, Cause>
-    ensures { AnswersBy IsBound (rows_bound tables.now text.now command.now) result }
+    ensures { (number : ℕ) → AnswersBy IsBound (runnable_of tables.now number text.now statement.now bound) result }
 {
+    let BoundStatement {
+        explain: _,
+        units,
+        triggers,
+        command,
+    } = bound;
+    drop(triggers);
     match command {
-        RowCommand::Query(query) => bind_query(alloc, tables, text, query),
-        RowCommand::Insert(insert) => {
-            Ok(Bound::Insert(bind_insert(alloc, tables, text, insert)?))
-        }
-        RowCommand::Update(_) | RowCommand::Delete(_) => Err(Cause::NotYet),
+        BoundCommand::Asked(place) => query(alloc, tables, units, place),
+        BoundCommand::Written(write) => put(alloc, tables, units, &write),
+        BoundCommand::Created(creation) => created(alloc, text, statement, &creation),
+        BoundCommand::Removed(removal) => removed(tables, &removal),
+        BoundCommand::Transacted(_) => Err(Cause::NotYet),
+        BoundCommand::Pragma(_) | BoundCommand::Nothing(_, _, _) => Ok(Bound::Nothing),
     }
+}
+
+/// A table that is dropped; nothing else can be dropped yet.
+fn removed(tables: &[TableEntry], removal: &BoundRemoval) -> Result<Bound, Cause>
+    ensures { AnswersBy IsBound (removal_of tables.now removal.now.kind removal.now.name) result }
+{
+    match removal.kind {
+        ThingKind::ATable => dropped(tables, removal.name.as_bytes()),
+        ThingKind::AModuleTable | ThingKind::AnIndex | ThingKind::AView | ThingKind::ATrigger =>
+            Err(Cause::NotYet),
+    }
+}
+
+fn dropped(tables: &[TableEntry], name: &[u8]) -> Result<Bound, Cause>
+    ensures { AnswersBy IsBound (removal_of tables.now thing.ATable name.now) result }
+{
+    let table = found_table(tables, name)?;
+    Ok(Bound::DropTable(DroppedTable {
+        name: table.name.clone()?,
+        table: table.number,
+    }))
 }

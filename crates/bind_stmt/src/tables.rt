@@ -1,59 +1,46 @@
-// Tables by their names.
-ghost use Rattle.std.specs.Prelude.{◌≡◌, IfOk, is_some};
+// Tables by the names with which they were bound.
+ghost use Rattle.std.specs.Prelude.{◌≡◌};
 ghost use Rattle.std.specs.Option.{option_copied};
 ghost use Rattle.bind_stmt.specs.Binds.{AnswersBy};
 ghost use Rattle.sql_meaning.specs.Declarations.{table_called};
-ghost use Rattle.sql_words.specs.Spelled.{name_at};
-ghost use Rattle.sql_meaning.specs.Statement.{table_named};
+ghost use Rattle.sql_meaning.specs.Running.{found_table, table_of_source};
 
-use bind_expr::name;
+use bound_tree::BoundSource;
 use eng_entry::is_same_name;
-use eng_value::{Cause, NameKind, Text};
+use eng_value::Cause;
 use sql_meaning::TableEntry;
-use sql_tree::Token;
-use std::alloc::{AllocError, Global};
-
-/// The table that a token names, or that there is none.
-pub(crate) fn table_named<'a>(
-    alloc: Global,
-    tables: &'a [TableEntry],
-    text: &str,
-    token: &Token,
-) -> Result<&'a TableEntry, Cause>
-    ensures { AnswersBy (λ t found. found.now ≡ t) (table_named tables.now (name_at text.now token.now)) result }
-{
-    let name = name(alloc, text, token)?;
-    match table_called(tables, &name) {
-        Some(table) => Ok(table),
-        None => Err(Cause::Unknown(NameKind::Table, name)),
-    }
-}
 
 /// The table of this name.
-pub(crate) fn table_called<'a>(tables: &'a [TableEntry], name: &Text) -> Option<&'a TableEntry>
+pub(crate) fn table_called<'a>(tables: &'a [TableEntry], name: &[u8]) -> Option<&'a TableEntry>
     ensures { option_copied result ≡ table_called tables.now name.now }
 {
     tables
         .iter()
-        .find(|t| is_same_name(t.name.as_bytes(), name.as_bytes()))
+        .find(|t| is_same_name(t.name.as_bytes(), name))
 }
 
-/// Whether there is a table of this name.
-pub(crate) fn has_table(tables: &[TableEntry], name: &Text) -> bool
-    ensures { result ≡ is_some (table_called tables.now name.now) }
+/// The table of this name; without one the statement is not built.
+pub(crate) fn found_table<'a>(
+    tables: &'a [TableEntry],
+    name: &[u8],
+) -> Result<&'a TableEntry, Cause>
+    ensures { AnswersBy (λ t found. found.now ≡ t) (found_table (table_called tables.now name.now)) result }
 {
     match table_called(tables, name) {
-        Some(_) => true,
-        None => false,
+        Some(table) => Ok(table),
+        None => Err(Cause::NotYet),
     }
 }
 
-/// A place as the bytecode counts places. One that is too large is want of memory: no list is so long.
-pub(crate) fn place_number(place: usize) -> Result<u32, AllocError>
-    ensures { IfOk result (λ n. n ≡ place) }
+/// The table from which an item has its rows.
+pub(crate) fn table_of_source<'a>(
+    tables: &'a [TableEntry],
+    source: &BoundSource,
+) -> Result<&'a TableEntry, Cause>
+    ensures { AnswersBy (λ t found. found.now ≡ t) (table_of_source tables.now source.now) result }
 {
-    match u32::try_from(place) {
-        Ok(number) => Ok(number),
-        Err(_) => Err(AllocError),
+    match source {
+        BoundSource::Table(name, _) => found_table(tables, name.as_bytes()),
+        _ => Err(Cause::NotYet),
     }
 }

@@ -34,6 +34,7 @@ impl Scene {
                 told: Items::new(alloc),
                 savepoints: Items::new(alloc),
                 recursive_triggers: false,
+                rowids: true,
             },
             last_number: 0,
         }

@@ -30,7 +30,7 @@ use Rattle.sql_bound.specs.declared.scopes.Standing.{Standing}
 use Rattle.sql_bound.specs.declared.scopes.Work.{Work}
 use Rattle.bound_size.specs.Brought.{AllBringNodes, own_of}
 use Rattle.bound_size.specs.Plain.{is_plain_core, is_plain_filter, is_plain_result}
-use Rattle.bound_size.specs.Counts.{conditions_of}
+use Rattle.bound_tree.specs.Conditions.{conditions_of}
 use Rattle.bound_size.specs.Sizes.{all_nodes}
 use Rattle.bound_size.specs.Small.{AreFewShown, IsSmallCore, columns_in, from_size, is_unnamed, names_none}
 use Rattle.bound_size.proofs.BoundLaws.{both_hold, bound_by, same_answer}

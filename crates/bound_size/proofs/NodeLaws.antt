@@ -7,7 +7,8 @@ use Rattle.eng_value.specs.declared.operators.Sides.{Sides}
 use Rattle.sql_tree.specs.Sizes.{total}
 use Rattle.bound_tree.specs.Exprs as e
 use Rattle.bound_tree.specs.Exprs.{BoundArm, BoundExpr, BoundMatch, arms, exprs, matches}
-use Rattle.bound_size.specs.Counts.{conditions_of, nodes_of_arm, nodes_of_match}
+use Rattle.bound_tree.specs.Conditions.{conditions_of}
+use Rattle.bound_size.specs.Counts.{nodes_of_arm, nodes_of_match}
 use Rattle.bound_size.specs.Sizes.{all_nodes, nodes_in, nodes_in_arms, nodes_in_matches, nodes_of}
 
 -- ---- plain lists

@@ -18,7 +18,8 @@ use Rattle.bound_tree.specs.declared.units.BoundPart.{BoundPart}
 use Rattle.bound_tree.specs.declared.units.BoundQuery.{BoundQuery}
 use Rattle.bound_tree.specs.declared.units.BoundUnit.TheVariants.{Queried, Recursed}
 use Rattle.bound_tree.specs.declared.units.BoundUnit.{BoundUnit}
-use Rattle.bound_size.specs.Counts.{conditions_of, row_size}
+use Rattle.bound_tree.specs.Conditions.{conditions_of}
+use Rattle.bound_size.specs.Counts.{row_size}
 use Rattle.bound_size.specs.Sizes.{all_nodes, nodes_in, nodes_in_arms, nodes_in_matches, nodes_of}
 use Rattle.bound_size.specs.Small.{AreFewRows, AreFewShown, IsSmallCore, IsSmallPart, columns_in, from_size}
 use Rattle.bound_size.proofs.BoundLaws.{both_hold, three_hold}

@@ -29,7 +29,7 @@ use Rattle.sql_bound.specs.declared.scopes.Operand.{Operand}
 use Rattle.sql_bound.specs.declared.scopes.Work.{Work}
 use Rattle.bound_size.specs.Brought.{AllBringNodes, own_of}
 use Rattle.bound_size.specs.Plain.{is_plain}
-use Rattle.bound_size.specs.Counts.{conditions_of}
+use Rattle.bound_tree.specs.Conditions.{conditions_of}
 use Rattle.bound_size.specs.Sizes.{all_nodes, nodes_of}
 use Rattle.bound_size.proofs.NodeLaws.{all_nodes-append, all_nodes-one, tests_nodes}
 use Rattle.bound_size.proofs.SizeLaws.{tree_nodes}

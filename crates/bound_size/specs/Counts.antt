@@ -1,7 +1,5 @@
--- How large arms and rows are, and what a WHERE tests.
-use Rattle.std.specs.Prelude.{ℕ, ◌+◌, List, [], ◌∷◌, map}
-use Rattle.eng_value.specs.declared.compare_op.CompareOp.TheVariants as compare
-use Rattle.eng_value.specs.declared.operators.BinaryOperator.TheVariants as binary
+-- How large arms and rows are.
+use Rattle.std.specs.Prelude.{ℕ, ◌+◌, List, map}
 use Rattle.sql_tree.specs.Sizes.{total}
 use Rattle.bound_tree.specs.Exprs as e
 use Rattle.bound_tree.specs.Exprs.{BoundExpr}
@@ -22,10 +20,3 @@ row_size row = 1 + all_nodes row
 
 abbrev pub rows_size : List (List BoundExpr) → ℕ
 rows_size rows = total (map row_size rows)
-
--- ---- a BETWEEN at the top of a WHERE is two conditions
-
-abbrev pub conditions_of : BoundExpr → List BoundExpr
-conditions_of (e.Between above below a low high) =
-    e.Binary (binary.Compare compare.Ge above) a low ∷ e.Binary (binary.Compare compare.Le below) a high ∷ []
-conditions_of other = other ∷ []

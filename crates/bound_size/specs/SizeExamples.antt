@@ -7,7 +7,8 @@ use Rattle.eng_value.specs.declared.operators.UnaryOperator.TheVariants as unary
 use Rattle.sql_words.specs.Collations.{by_bytes}
 use Rattle.bound_tree.specs.Exprs as e
 use Rattle.bound_tree.specs.Exprs.{BoundExpr}
-use Rattle.bound_size.specs.Counts.{conditions_of, rows_size}
+use Rattle.bound_tree.specs.Conditions.{conditions_of}
+use Rattle.bound_size.specs.Counts.{rows_size}
 use Rattle.bound_size.specs.Sizes.{all_nodes, nodes_of}
 
 abbrev sides : Sides

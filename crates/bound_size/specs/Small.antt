@@ -18,7 +18,8 @@ use Rattle.bound_tree.specs.declared.writes.BoundChange.TheVariants.{Inserted}
 use Rattle.bound_tree.specs.declared.writes.BoundChange.{BoundChange}
 use Rattle.sql_bound.specs.Scopes.{Level}
 use Rattle.sql_bound.specs.declared.scopes.ScopeItem.{ScopeItem}
-use Rattle.bound_size.specs.Counts.{conditions_of, rows_size}
+use Rattle.bound_tree.specs.Conditions.{conditions_of}
+use Rattle.bound_size.specs.Counts.{rows_size}
 use Rattle.bound_size.specs.Sizes.{all_nodes}
 
 -- ---- FROM

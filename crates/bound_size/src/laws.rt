@@ -33,7 +33,7 @@ ghost use Rattle.sql_tree.specs.declared.statement.RowCommand.TheVariants.{Inser
 ghost use Rattle.sql_tree.specs.declared.statement.Statement.{Statement};
 ghost use Rattle.bound_size.specs.Brought.{AllBringNodes, own_of};
 ghost use Rattle.bound_size.specs.Plain.{is_plain, is_plain_query, is_plain_result, is_plain_row};
-ghost use Rattle.bound_size.specs.Counts.{conditions_of};
+ghost use Rattle.bound_tree.specs.Conditions.{conditions_of};
 ghost use Rattle.bound_size.specs.Sizes.{all_nodes, nodes_of};
 ghost use Rattle.bound_size.specs.Small.{AreFewRows, AreFewShown, InsertsSmall, MakesSmall, columns_in, seen_columns};
 

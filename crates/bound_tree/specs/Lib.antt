@@ -4,3 +4,4 @@ pub mod SeenLaws
 pub mod Same
 pub mod SameUnits
 pub mod Halves
+pub mod Conditions

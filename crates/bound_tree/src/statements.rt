@@ -1,4 +1,5 @@
-// Whole statements whose names are bound.
+// Whole statements whose names are bound. Drops are written out, since those that are derived would be proved again in each library
+// above, but for those of what is taken apart there.
 use crate::{BoundTrigger, BoundUnit, BoundWrite, IndexPart};
 use eng_value::Text;
 use sql_tree::Explain;
@@ -15,7 +16,6 @@ pub enum ThingKind {
 
 /// A thing that is created: its kind, its name, the table of an index or a trigger or the module of a table, the parts of an index and
 /// whether it is unique, and the arguments of a module.
-#[derive(Drop)]
 pub struct BoundCreation {
     pub kind: ThingKind,
     pub name: Text,
@@ -25,14 +25,41 @@ pub struct BoundCreation {
     pub arguments: Items<Text>,
 }
 
-#[derive(Drop)]
+impl Drop for BoundCreation {
+    fn drop(self) {
+        let BoundCreation {
+            kind: _,
+            name,
+            owner,
+            unique: _,
+            parts,
+            arguments,
+        } = self;
+        drop(name);
+        drop(owner);
+        drop(parts);
+        drop(arguments);
+    }
+}
+
 pub struct BoundRemoval {
     pub kind: ThingKind,
     pub name: Text,
     pub owner: Text,
 }
 
-#[derive(Drop)]
+impl Drop for BoundRemoval {
+    fn drop(self) {
+        let BoundRemoval {
+            kind: _,
+            name,
+            owner,
+        } = self;
+        drop(name);
+        drop(owner);
+    }
+}
+
 pub enum BoundTransaction {
     Begins,
     Commits,
@@ -40,6 +67,19 @@ pub enum BoundTransaction {
     RollsBackTo(Text),
     Saves(Text),
     Releases(Text),
+}
+
+impl Drop for BoundTransaction {
+    fn drop(self) {
+        match self {
+            BoundTransaction::Begins => {}
+            BoundTransaction::Commits => {}
+            BoundTransaction::RollsBack => {}
+            BoundTransaction::RollsBackTo(a) => drop(a),
+            BoundTransaction::Saves(a) => drop(a),
+            BoundTransaction::Releases(a) => drop(a),
+        }
+    }
 }
 
 #[derive(Drop)]

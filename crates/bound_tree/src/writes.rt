@@ -1,4 +1,5 @@
 // Statements that change rows, and triggers, whose names are bound.
+// Drops are written out, since those that are derived would be proved again in each library above.
 use crate::{BoundColumn, BoundExpr, BoundItem};
 use eng_value::Text;
 use sql_tree::{ConflictChoice, TriggerTime};
@@ -6,7 +7,6 @@ use sqlite_items::Items;
 
 /// What a write writes. Its keys are the unique indexes of the item. A DELETE puts no row, so that its target has neither defaults nor
 /// tests.
-#[derive(Drop)]
 pub struct BoundTarget {
     pub item: BoundItem,
     /// For each column its default.
@@ -17,21 +17,58 @@ pub struct BoundTarget {
     pub checks: Items<BoundExpr>,
 }
 
+impl Drop for BoundTarget {
+    fn drop(self) {
+        let BoundTarget {
+            item,
+            defaults,
+            not_nulls,
+            checks,
+        } = self;
+        drop(item);
+        drop(defaults);
+        drop(not_nulls);
+        drop(checks);
+    }
+}
+
 /// Without a column it sets the rowid.
-#[derive(Drop)]
 pub struct BoundSet {
     pub column: Option<u32>,
     pub value: BoundExpr,
 }
 
+impl Drop for BoundSet {
+    fn drop(self) {
+        let BoundSet { column: _, value } = self;
+        drop(value);
+    }
+}
+
 /// What a write does. SET and WHERE are over the target as item 0.
-#[derive(Drop)]
 pub enum BoundChange {
     /// For each column, and for the rowid, the place of its value in a row of the source, which is asked with what is handed over.
     Inserted(Items<Option<u32>>, Option<u32>, u32, Items<BoundExpr>),
     Defaulted,
     Updated(Items<BoundSet>, Items<BoundExpr>),
     Deleted(Items<BoundExpr>),
+}
+
+impl Drop for BoundChange {
+    fn drop(self) {
+        match self {
+            BoundChange::Inserted(a, _, _, b) => {
+                drop(a);
+                drop(b);
+            }
+            BoundChange::Defaulted => {}
+            BoundChange::Updated(a, b) => {
+                drop(a);
+                drop(b);
+            }
+            BoundChange::Deleted(a) => drop(a),
+        }
+    }
 }
 
 /// The test that ON CONFLICT is for, by the place of an index, or the rowid's, or any where none is written.
@@ -43,22 +80,39 @@ pub enum ConflictTest {
 }
 
 /// What DO UPDATE sets and asks, where DO NOTHING is not written, over the row in the way as item 0 and the row to be put as item 1.
-#[derive(Drop)]
 pub struct BoundUpsert {
     pub test: ConflictTest,
     pub sets: Option<Items<BoundSet>>,
     pub conjuncts: Items<BoundExpr>,
 }
 
+impl Drop for BoundUpsert {
+    fn drop(self) {
+        let BoundUpsert {
+            test: _,
+            sets,
+            conjuncts,
+        } = self;
+        drop(sets);
+        drop(conjuncts);
+    }
+}
+
 /// What RETURNING gives of each row, over the row as item 0.
-#[derive(Drop)]
 pub struct BoundReturning {
     pub results: Items<BoundExpr>,
     pub columns: Items<BoundColumn>,
 }
 
+impl Drop for BoundReturning {
+    fn drop(self) {
+        let BoundReturning { results, columns } = self;
+        drop(results);
+        drop(columns);
+    }
+}
+
 /// A write.
-#[derive(Drop)]
 pub struct BoundWrite {
     pub target: BoundTarget,
     pub choice: ConflictChoice,
@@ -75,10 +129,41 @@ pub struct BoundWrite {
     pub counts: bool,
 }
 
-#[derive(Drop)]
+impl Drop for BoundWrite {
+    fn drop(self) {
+        let BoundWrite {
+            target,
+            choice: _,
+            captures,
+            change,
+            fires,
+            replaces,
+            upsert,
+            returning,
+            counts: _,
+        } = self;
+        drop(target);
+        drop(captures);
+        drop(change);
+        drop(fires);
+        drop(replaces);
+        drop(upsert);
+        drop(returning);
+    }
+}
+
 pub enum BoundStep {
     Asks(u32, Items<BoundExpr>),
     Writes(BoundWrite),
+}
+
+impl Drop for BoundStep {
+    fn drop(self) {
+        match self {
+            BoundStep::Asks(_, a) => drop(a),
+            BoundStep::Writes(a) => drop(a),
+        }
+    }
 }
 
 #[derive(Clone, Copy, PartialEq, Eq)]
@@ -89,7 +174,6 @@ pub enum FiringEvent {
 }
 
 /// A trigger: its rows are OLD and NEW, the items 0 and 1 of WHEN and of what its body is handed.
-#[derive(Drop)]
 pub struct BoundTrigger {
     pub name: Text,
     pub time: TriggerTime,
@@ -97,4 +181,21 @@ pub struct BoundTrigger {
     pub rows: Items<BoundItem>,
     pub condition: Option<BoundExpr>,
     pub body: Items<BoundStep>,
+}
+
+impl Drop for BoundTrigger {
+    fn drop(self) {
+        let BoundTrigger {
+            name,
+            time: _,
+            event: _,
+            rows,
+            condition,
+            body,
+        } = self;
+        drop(name);
+        drop(rows);
+        drop(condition);
+        drop(body);
+    }
 }

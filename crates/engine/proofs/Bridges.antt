@@ -12,16 +12,16 @@ use Rattle.eng_value.specs.declared.cause.Cause.{Cause}
 use Rattle.eng_value.specs.declared.value.Value.{Value}
 use Rattle.gen_query.specs.Queries.{rows_in}
 use Rattle.gen_write.specs.Writes.{Course, rows_run, run_by, source_run, source_of, untouched}
-use Rattle.sql_meaning.specs.declared.bound.BoundExpr.{BoundExpr}
+use Rattle.bound_tree.specs.Exprs.{BoundExpr}
 use Rattle.sql_meaning.specs.declared.bound.BoundInsert.{BoundInsert}
 use Rattle.sql_meaning.specs.declared.bound.BoundSelect.{BoundSelect}
 use Rattle.sql_meaning.specs.declared.column.TableEntry.{TableEntry}
-use Rattle.sql_meaning.specs.BoundStatements.{FromItem, Put, Query}
+use Rattle.sql_meaning.specs.Runnables.{FromItem, Put, Query}
 use Rattle.sql_meaning.specs.Statement.{Item, Row, Failed as Bad, IsNamed, causes_of, with_others, drop_outcome, Outcome, query_outcome, items_of, items_at, product, put_outcome, put_source, all_put, source_of as source_meant, shown, refusal_of, given_of, rows_put}
 use Rattle.sql_meaning.specs.World.{Context, State, context, environment_at, rows_at}
 use Rattle.vm_code.specs.Machine.{ending_by, World as Lists, IsSound, Shared}
 use Rattle.bind_stmt.specs.Binds.{IsFrom, IsQueryAs, IsPutAs}
-use Rattle.bind_stmt.specs.declared.dropping.DroppedTable.{DroppedTable}
+use Rattle.bind_stmt.specs.declared.statement.DroppedTable.{DroppedTable}
 use Rattle.eng_entry.specs.Entries.{Entries}
 use Rattle.engine.specs.Held.{state_of}
 use Rattle.engine.specs.Outcomes.{drop_outcome_in, query_outcome_in, put_outcome_in, left_by, surroundings_in}

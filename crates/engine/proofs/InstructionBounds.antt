@@ -1,10 +1,16 @@
 -- The programs of statements run within the bound that size and work give.
-use Rattle.std.proofs.Common.{◌≡◌, ℕ, ◌+◌, ◌*◌, ◌-◌, ◌≤◌, List, [], ◌∷◌, ℤ, length, sum_by, Option, Some, None, Ok, refl, ap, subst, arith}
+use Rattle.std.proofs.Common.{◌≡◌, ℕ, ◌+◌, ◌*◌, ◌-◌, ◌≤◌, List, [], ◌∷◌, ℤ, length, flat_map, sum_by, Option, Some, None, Ok, refl, ap, subst, arith}
 use Rattle.std.proofs.Math.Nat.{mul-le-mul_left}
 use Rattle.std.proofs.lemmas.List.{length-map}
+use Rattle.std.proofs.lemmas.List.Concat.{flat_map-cons}
 use Rattle.std.proofs.lemmas.List.Sums.{sum_by-cons}
 use Rattle.bind_stmt.specs.Binds.{IsBound, IsFrom, IsPutAs, put_columns}
-use Rattle.bind_stmt.specs.Small.{AreFew, IsSmall, IsSmallQuery, columns_in, from_size as table_tokens, rows_size}
+use Rattle.bind_stmt.specs.Small.{AreFew, IsSmall, IsSmallQuery, columns_in, from_size as table_tokens}
+use Rattle.bound_size.proofs.NodeLaws.{all_nodes-append}
+use Rattle.bound_size.specs.Counts.{rows_size}
+use Rattle.bound_size.specs.Sizes.{all_nodes, nodes_of}
+use Rattle.bound_tree.specs.Conditions.{conditions_of}
+use Rattle.bound_tree.specs.Exprs as e
 use Rattle.eng_entry.specs.Entries.{Entries}
 use Rattle.eng_value.specs.Environments.{Surroundings, ignoring, table_row}
 use Rattle.eng_value.specs.HostMeanings.{HostMeanings}
@@ -15,7 +21,7 @@ use Rattle.gen_query.specs.Queries.{query_steps, rows_seen, values_steps}
 use Rattle.gen_write.proofs.Sizing.{steps-few as puts_few}
 use Rattle.gen_write.specs.Writes.{put_steps}
 use Rattle.sql_lex.specs.Tokens.{tokens_of}
-use Rattle.sql_meaning.specs.declared.bound.BoundExpr.{BoundExpr}
+use Rattle.bound_tree.specs.Exprs.{BoundExpr}
 use Rattle.sql_meaning.specs.declared.bound.BoundInsert.{BoundInsert}
 use Rattle.sql_meaning.specs.declared.bound.BoundSelect.{BoundSelect}
 use Rattle.sql_meaning.specs.declared.column.Column.{Column}
@@ -23,8 +29,7 @@ use Rattle.sql_meaning.proofs.TableLaws.{found-all}
 use Rattle.sql_meaning.proofs.ValidLaws.{FitsIn, text-fits}
 use Rattle.sql_meaning.specs.Declarations.{tables_of}
 use Rattle.sql_meaning.specs.Valid.{IsWorld}
-use Rattle.sql_meaning.specs.BoundStatements.{BoundStatement, Creates, DoesNothing, Drops, FromItem, Put, Puts, Queries, Query, Shows}
-use Rattle.sql_meaning.specs.Sizes.{all_nodes}
+use Rattle.sql_meaning.specs.Runnables.{Runnable, Creates, DoesNothing, Drops, FromItem, Put, Puts, Queries, Query, Shows}
 use Rattle.sql_meaning.specs.Statement.{causes_of, given_of, source_of, text_bound}
 use Rattle.sql_meaning.specs.Work.{bound_within, from_size, from_work, instruction_bound, opened_size, repeated_size, source_work, work_of}
 use Rattle.sql_meaning.specs.World.{Context, context, rows_at}
@@ -47,7 +52,7 @@ within_size a n opens more work le =
     omega (arith, le, all)
 
 -- so much for each row of a table
-within_rows : (each n opens more rows work : ℕ) → work ≡ 1 + rows → each + 16 ≤ 256 * (n + more) → 16 + (1 + rows) * each ≤ 256 * (n + opens + more) * (work + 1)
+within_rows : (each n opens more rows work : ℕ) → work ≡ 1 + rows → each + 16 ≤ 256 * (n + opens + more) → 16 + (1 + rows) * each ≤ 256 * (n + opens + more) * (work + 1)
 within_rows each n opens more rows work is le =
     let m = 256 * (n + opens + more) in
     let few : each ≤ m = omega (arith, le) in
@@ -65,6 +70,15 @@ within_put a n opens work le =
 -- what there is beyond so much
 within_beyond : (a n : ℕ) → a ≤ n + (a - n)
 within_beyond a n = omega arith
+
+-- a BETWEEN is no larger than its two conditions
+unsplit_one : (x : BoundExpr) → nodes_of x ≤ all_nodes (conditions_of x)
+unsplit_one (e.Between above below a low high) = omega arith
+unsplit_one x = omega arith
+
+unsplit_few : (es : List BoundExpr) → all_nodes es ≤ all_nodes (flat_map conditions_of es)
+unsplit_few [] = omega arith
+unsplit_few (x ∷ es) = omega (arith, unsplit_one x, unsplit_few es, all_nodes-append (conditions_of x) (flat_map conditions_of es), ap all_nodes (flat_map-cons conditions_of x es))
 
 rows_nodes : (rows : List (List BoundExpr)) → rows_size rows ≡ length rows + sum_by all_nodes rows
 rows_nodes [] = omega arith
@@ -94,23 +108,26 @@ module _ (hosts : HostMeanings) (entries : Entries) (lists : Lists) (changes : �
       let rows = ap (λ k. length (rows_at lists k)) at.0 in
       omega (arith, many, rows)
 
-  query_few : (q : Query) (b : BoundSelect) (from : List FromItem) (number : Option ℕ) → q.from ≡ from → b.table ≡ number → b.conjuncts ≡ q.conjuncts → IsFrom from number → IsSmallQuery tokens q b
+  query_few : (q : Query) (b : BoundSelect) (from : List FromItem) (number : Option ℕ) → q.from ≡ from → b.table ≡ number → flat_map conditions_of b.conjuncts ≡ q.conjuncts → IsFrom from number → IsSmallQuery tokens q b
       → query_steps b around ≤ 256 * (tokens + from_size from + repeated_size tokens (Queries q)) * (from_work ctx from + 1)
   query_few q b [] None none bare tests at small =
       let more = repeated_size tokens (Queries q) in
-      let conjuncts : all_nodes b.conjuncts ≤ 16 * tokens + more = rw tests (within_beyond (all_nodes q.conjuncts) (16 * tokens)) in
+      let split : all_nodes (flat_map conditions_of b.conjuncts) ≡ all_nodes q.conjuncts = ap all_nodes tests in
+      let conjuncts : all_nodes b.conjuncts ≤ 16 * tokens + more = omega (arith, unsplit_few b.conjuncts, split, within_beyond (all_nodes q.conjuncts) (16 * tokens)) in
       let stars : small.stars ≤ 0 = subst (λ items. small.stars ≤ 100 * columns_in items) none small.of_table in
       let within : 1 + small.shown + 0 + small.filter ≤ tokens = subst (λ items. 1 + small.shown + table_tokens items + small.filter ≤ tokens) none small.within in
       let rows : rows_seen b.table lists ≡ 0 = ap (λ t. rows_seen t lists) bare in
-      let few : query_steps b around ≤ 16 + (1 + 0) * (4 * (all_nodes b.conjuncts + all_nodes b.results) + 6) = subst (λ r. query_steps b around ≤ 16 + (1 + r) * (4 * (all_nodes b.conjuncts + all_nodes b.results) + 6)) rows (steps-few b around) in
+      let few : query_steps b around ≤ 16 + (1 + 0) * (6 * (all_nodes b.conjuncts + all_nodes b.results) + 6) = subst (λ r. query_steps b around ≤ 16 + (1 + r) * (6 * (all_nodes b.conjuncts + all_nodes b.results) + 6)) rows (steps-few b around) in
       within_size (query_steps b around) tokens (from_size []) more (from_work ctx []) (omega (arith, few, stars, within, conjuncts, small.results))
   query_few q b (i ∷ []) (Some number) one some tests at small =
       let more = repeated_size tokens (Queries q) in
-      let conjuncts : all_nodes b.conjuncts ≤ 16 * tokens + more = rw tests (within_beyond (all_nodes q.conjuncts) (16 * tokens)) in
-      let each = 4 * (all_nodes b.conjuncts + all_nodes b.results) + 6 in
+      let split : all_nodes (flat_map conditions_of b.conjuncts) ≡ all_nodes q.conjuncts = ap all_nodes tests in
+      let conjuncts : all_nodes b.conjuncts ≤ 16 * tokens + more = omega (arith, unsplit_few b.conjuncts, split, within_beyond (all_nodes q.conjuncts) (16 * tokens)) in
+      let each = 6 * (all_nodes b.conjuncts + all_nodes b.results) + 6 in
+      let narrow : small.stars ≤ 100 * i.width = omega (arith, subst (λ items. small.stars ≤ 100 * columns_in items) one small.of_table) in
       let within : 1 + small.shown + 2 + small.filter ≤ tokens = subst (λ items. 1 + small.shown + table_tokens items + small.filter ≤ tokens) one small.within in
       let few : query_steps b around ≤ 16 + (1 + rows_seen (Some number) lists) * each = subst (λ t. query_steps b around ≤ 16 + (1 + rows_seen t lists) * each) some (steps-few b around) in
-      let enough = within_rows each tokens (from_size (i ∷ [])) more (rows_seen (Some number) lists) (from_work ctx (i ∷ [])) (rows_same i number at) (omega (arith, within, small.hundred, conjuncts, small.results)) in
+      let enough = within_rows each tokens (from_size (i ∷ [])) more (rows_seen (Some number) lists) (from_work ctx (i ∷ [])) (rows_same i number at) (omega (arith, within, small.hundred, narrow, conjuncts, small.results)) in
       omega (arith, few, enough)
   query_few q b [] (Some number) none some tests at small = absurd at
   query_few q b (i ∷ []) None one none tests at small = absurd at
@@ -127,7 +144,7 @@ module _ (hosts : HostMeanings) (entries : Entries) (lists : Lists) (changes : �
 
   -- ---- any statement
 
-  few_for : (x : BoundStatement) (r : Ready) → 1 ≤ tokens → FitsIn (tables_of entries) (length lists) x → IsBound x (bound_in r) → IsSmall tokens x (bound_in r) → steps_in around r ≤ 256 * (tokens + opened_size x + repeated_size tokens x) * (work_of ctx x + 1)
+  few_for : (x : Runnable) (r : Ready) → 1 ≤ tokens → FitsIn (tables_of entries) (length lists) x → IsBound x (bound_in r) → IsSmall tokens x (bound_in r) → steps_in around r ≤ 256 * (tokens + opened_size x + repeated_size tokens x) * (work_of ctx x + 1)
   few_for (Creates e) (ready.Create n) some fits at small = within_size 2 tokens 0 0 0 (omega (arith, small))
   few_for (Creates e) (ready.Drop d) some fits at small = absurd at
   few_for (Creates e) (ready.Insert b) some fits at small = absurd at
@@ -168,5 +185,5 @@ module _ (hosts : HostMeanings) (entries : Entries) (lists : Lists) (changes : �
   few_for DoesNothing ready.Nothing some fits at small = within_size 1 tokens 0 0 0 (omega (arith, small))
 
   -- what is ready runs within what its text may run
-  pub runs_within : (x : BoundStatement) (r : Ready) → text_bound (world_in entries lists) text ≡ Ok x → IsBound x (bound_in r) → IsSmall tokens x (bound_in r) → steps_in around r ≤ instruction_bound ctx text
+  pub runs_within : (x : Runnable) (r : Ready) → text_bound (world_in entries lists) text ≡ Ok x → IsBound x (bound_in r) → IsSmall tokens x (bound_in r) → steps_in around r ≤ instruction_bound ctx text
   runs_within x r is at small = rw (ap (bound_within ctx tokens) is) (few_for x r (has_tokens (world_in entries lists) text x is) (text-fits (world_in entries lists) text x is) at small)

@@ -7,7 +7,7 @@ use Rattle.eng_value.specs.declared.value.Value.{Value}
 use Rattle.gen_query.specs.Queries.{items_in}
 use Rattle.sql_meaning.specs.Statement.{shown_rows}
 use Rattle.sql_meaning.specs.World.{State, context}
-use Rattle.vm_code.specs.Machine.{World as Lists, Run, Ending, Finished, Failed, world_of}
+use Rattle.vm_code.specs.Machine.{World as Lists, Run, Finished, Failed, world_of}
 use Rattle.engine.specs.Held.{state_of}
 use Rattle.engine.specs.Outcomes.{IsOther, changed_by, outcome_in, run_in, state_after, surroundings_in}
 use Rattle.engine.specs.declared.preparing.Ready.{Ready}

@@ -1,5 +1,5 @@
 -- The entry of a table that is created is the one that the definition creates, and declares the table.
-use Rattle.std.proofs.Common.{◌≡◌, ℕ, List, Bool, true, false, if◌then◌else◌, ◌&&◌, length, Option, Some, None, is_some, Result, Ok, Err, sym, ap, ◌∙◌}
+use Rattle.std.proofs.Common.{◌≡◌, ℕ, List, length, Some, is_some, Result, Ok, Err, sym, ap, ◌∙◌}
 use Rattle.std.specs.Option.{option_map}
 use Rattle.bind_stmt.specs.Binds.{BindsTo, IsBound}
 use Rattle.bind_stmt.specs.Small.{IsSmall}
@@ -8,121 +8,113 @@ use Rattle.bind_stmt.specs.declared.statement.Bound.TheVariants as bound
 use Rattle.eng_entry.specs.declared.entry.Entry.{Entry}
 use Rattle.eng_value.specs.declared.cause.Cause.{Cause}
 use Rattle.eng_value.specs.declared.cause.Cause.TheVariants as cause
-use Rattle.eng_value.specs.declared.cause.NameKind.TheVariants as name_kind
 use Rattle.sql_lex.specs.Tokens.{tokens_of}
-use Rattle.sql_meaning.proofs.ValidLaws.{then-ok}
 use Rattle.sql_words.specs.Refusals.{◌>>=◌}
-use Rattle.sql_meaning.specs.BoundStatements.{BoundStatement, Creates, DoesNothing, Drops, Puts, Queries, Shows}
-use Rattle.sql_meaning.specs.Built.{is_built, is_table}
-use Rattle.sql_meaning.specs.Declarations.{columns_created, columns_of_definition, table_called, table_with}
-use Rattle.sql_words.specs.Spelled.{name_at}
-use Rattle.sql_meaning.specs.Statement.{command_bound, create_bound, created, drop_bound, dropped, entry_with, is_free_name, part_bound, put_bound, rows_bound, rows_in, select_bound, statement_bound, where_built}
 use Rattle.sql_meaning.specs.declared.column.TableEntry.{TableEntry}
-use Rattle.sql_tree.specs.Layers.{PartLayer, of_part, of_query, of_select}
-use Rattle.sql_tree.specs.declared.expr.Expr.TheOpen.{QueryPart-F}
-use Rattle.sql_tree.specs.declared.statement.Command.{Command}
-use Rattle.sql_tree.specs.declared.statement.Command.TheVariants as command
-use Rattle.sql_tree.specs.declared.statement.Create.{Create}
-use Rattle.sql_tree.specs.declared.statement.Remove.{Remove}
-use Rattle.sql_tree.specs.declared.statement.RowCommand.{RowCommand}
-use Rattle.sql_tree.specs.declared.statement.RowCommand.TheVariants as rows_by
 use Rattle.sql_tree.specs.declared.statement.Statement.{Statement}
 use Rattle.engine.specs.Prepared.{Readies}
 use Rattle.engine.specs.declared.preparing.NewEntry.{NewEntry}
 use Rattle.engine.specs.declared.preparing.Ready.TheVariants as ready
+use Rattle.std.specs.Prelude.{slice_get}
+use Rattle.std.specs.List.{flat_map}
+use Rattle.eng_entry.specs.Entries.{Entries}
+use Rattle.bound_tree.specs.Conditions.{conditions_of}
+use Rattle.bound_tree.specs.declared.statements.BoundCommand.{BoundCommand}
+use Rattle.bound_tree.specs.declared.statements.BoundCommand.TheVariants as made
+use Rattle.bound_tree.specs.declared.statements.BoundCreation.{BoundCreation}
+use Rattle.bound_tree.specs.declared.statements.ThingKind.{ThingKind}
+use Rattle.bound_tree.specs.declared.statements.ThingKind.TheVariants as thing
+use Rattle.bound_tree.specs.declared.units.BoundPart.{BoundPart}
+use Rattle.bound_tree.specs.declared.units.BoundPart.TheVariants as part
+use Rattle.bound_tree.specs.declared.units.BoundUnit.{BoundUnit}
+use Rattle.bound_tree.specs.declared.writes.BoundWrite.{BoundWrite}
+use Rattle.sql_bound.specs.Statements.{bound_of}
+use Rattle.sql_meaning.proofs.ValidLaws.{if_built-ok, same-ok, then-ok}
+use Rattle.sql_meaning.specs.Built.{is_built}
+use Rattle.sql_meaning.specs.Declarations.{columns_created, table_called, table_with, tables_of}
+use Rattle.sql_meaning.specs.Runnables.{Creates, DoesNothing, Drops, FromItem, Put, Puts, Queries, Runnable, Shows}
+use Rattle.sql_meaning.specs.Running.{command_of, creation_of, entry_with, first_part, found_table, from_of, is_plain_core, part_of, put_into, put_of, query_of, removal_of, runnable_of, table_of_source}
+use Rattle.sql_meaning.specs.Statement.{around, statement_bound}
 
--- ---- what creates an entry is a CREATE
+not_nothing : (e : Entry) → let r : Result Runnable Cause = Ok DoesNothing in r ≡ Ok (Creates e) → ⊥
+not_nothing e h = let bad : DoesNothing ≡ Creates e = same-ok DoesNothing (Creates e) h in absurd (cc)
 
-not_nothing : (e : Entry) → let r : Result BoundStatement Cause = Ok DoesNothing in r ≡ Ok (Creates e) → ⊥
-not_nothing e h = let bad : DoesNothing ≡ Creates e = cc in absurd (cc)
+not_refused : (e : Entry) → let r : Result Runnable Cause = Err cause.NotYet in r ≡ Ok (Creates e) → ⊥
+not_refused e h = absurd (let bad : Err cause.NotYet ≡ Ok (Creates e) = h in cc)
 
-not_refused : (why : Cause) (e : Entry) → let r : Result BoundStatement Cause = Err why in r ≡ Ok (Creates e) → ⊥
-not_refused why e h = absurd (cc)
+-- ---- what is made of other commands is no entry
 
-part-creates : (tables : List TableEntry) (text : List ℕ) (part : PartLayer) (e : Entry) → part_bound tables text part ≡ Ok (Creates e) → ⊥
-part-creates tables text (QueryPart-F.Select s) e h =
-    let made = then-ok (select_bound tables text (of_select s)) (λ q. Ok (Queries q)) (Creates e) h in
-    let bad : Queries made.0 ≡ Creates e = (let both : Ok (Queries made.0) ≡ Ok (Creates e) = made.2 in cc) in
+part-creates : (tables : List TableEntry) (p : BoundPart) (e : Entry) → part_of tables p ≡ Ok (Creates e) → ⊥
+part-creates tables (part.Values rows) e h = let bad : Shows rows ≡ Creates e = same-ok (Shows rows) (Creates e) h in absurd (cc)
+part-creates tables (part.Select c) e h =
+    let shown : List FromItem → Result Runnable Cause = λ from. Ok (Queries (record { from = from; conjuncts = flat_map conditions_of c.conjuncts; results = c.results })) in
+    let made = then-ok (from_of tables c.items) shown (Creates e) (if_built-ok (is_plain_core c) (from_of tables c.items >>= shown) (Creates e) h).1 in
+    let bad : Queries (record { from = made.0; conjuncts = flat_map conditions_of c.conjuncts; results = c.results }) ≡ Creates e = same-ok _ (Creates e) made.2 in
     absurd (cc)
-part-creates tables text (QueryPart-F.Values rows) e h =
-    let made = then-ok (rows_in text rows) (λ rows. Ok (Shows rows)) (Creates e) h in
-    let bad : Shows made.0 ≡ Creates e = (let both : Ok (Shows made.0) ≡ Ok (Creates e) = made.2 in cc) in
-    absurd (cc)
 
-rows-create : (tables : List TableEntry) (text : List ℕ) (r : RowCommand) (e : Entry) → rows_bound tables text r ≡ Ok (Creates e) → ⊥
-rows-create tables text (rows_by.Query q) e h = part-creates tables text (of_part (of_query q).first) e h
-rows-create tables text (rows_by.Insert i) e h =
-    let made = then-ok (put_bound tables text i) (λ put. Ok (Puts put)) (Creates e) h in
-    let bad : Puts made.0 ≡ Creates e = (let both : Ok (Puts made.0) ≡ Ok (Creates e) = made.2 in cc) in
-    absurd (cc)
-rows-create tables text (rows_by.Update u) e h = not_refused cause.NotYet e h
-rows-create tables text (rows_by.Delete d) e h = not_refused cause.NotYet e h
+query-creates : (tables : List TableEntry) (units : List BoundUnit) (place : ℕ) (e : Entry) → query_of tables units place ≡ Ok (Creates e) → ⊥
+query-creates tables units place e h =
+    let made = then-ok (first_part (slice_get units place)) (part_of tables) (Creates e) h in part-creates tables made.0 e made.2
 
-drop-creates : (tables : List TableEntry) (text : List ℕ) (r : Remove) (e : Entry) → drop_bound tables text r ≡ Ok (Creates e) → ⊥
-drop-creates tables text r e h = by (is_table r.kind) h
-  where
-    found : (if_exists : Bool) (t : Option TableEntry) → dropped if_exists (name_at text r.name) t ≡ Ok (Creates e) → ⊥
-    found if_exists (Some t) f = let bad : Drops t ≡ Creates e = cc in absurd (cc)
-    found true None f = not_nothing e f
-    found false None f = not_refused (cause.Unknown name_kind.Table (name_at text r.name)) e f
+put-creates : (tables : List TableEntry) (units : List BoundUnit) (w : BoundWrite) (e : Entry) → put_of tables units w ≡ Ok (Creates e) → ⊥
+put-creates tables units w e h =
+    let puts : Put → Result Runnable Cause = λ put. Ok (Puts put) in
+    let table = then-ok (table_of_source tables w.target.item.source) (λ t. put_into t units w.change >>= puts) (Creates e) h in
+    let put = then-ok (put_into table.0 units w.change) puts (Creates e) table.2 in
+    let bad : Puts put.0 ≡ Creates e = same-ok (Puts put.0) (Creates e) put.2 in absurd (cc)
 
-    by : (table : Bool) → (if table then dropped r.if_exists (name_at text r.name) (table_called tables (name_at text r.name)) else Err cause.NotYet) ≡ Ok (Creates e) → ⊥
-    by true f = found r.if_exists (table_called tables (name_at text r.name)) f
-    by false f = not_refused cause.NotYet e f
-
-pragma-creates : (known : Bool) (name : List ℕ) (e : Entry) → (if known then Ok DoesNothing else Err (cause.Unknown name_kind.Pragma name)) ≡ Ok (Creates e) → ⊥
-pragma-creates true name e h = not_nothing e h
-pragma-creates false name e h = not_refused (cause.Unknown name_kind.Pragma name) e h
+removal-creates : (tables : List TableEntry) (k : ThingKind) (name : List ℕ) (e : Entry) → removal_of tables k name ≡ Ok (Creates e) → ⊥
+removal-creates tables thing.ATable name e h =
+    let drops : TableEntry → Result Runnable Cause = λ t. Ok (Drops t) in
+    let table = then-ok (found_table (table_called tables name)) drops (Creates e) h in
+    let bad : Drops table.0 ≡ Creates e = same-ok (Drops table.0) (Creates e) table.2 in absurd (cc)
+removal-creates tables thing.AModuleTable name e h = not_refused e h
+removal-creates tables thing.AnIndex name e h = not_refused e h
+removal-creates tables thing.AView name e h = not_refused e h
+removal-creates tables thing.ATrigger name e h = not_refused e h
 
 -- ---- its entry
 
 abbrev IsEntryFor : ℕ → List ℕ → Statement → Entry → Type 0
 IsEntryFor number text s e = e ≡ entry_with number text e.name s
 
-created-entry : (tables : List TableEntry) (number : ℕ) (text : List ℕ) (s : Statement) (c : Create) (e : Entry) → created tables number text s c ≡ Ok (Creates e) → IsEntryFor number text s e
-created-entry tables number text s c e h =
-    let entry = entry_with number text (name_at text c.name) s in
-    let free = then-ok (is_free_name tables (name_at text c.name)) (λ u. columns_of_definition text c.definition >>= λ columns. Ok (Creates entry)) (Creates e) h in
-    let made = then-ok (columns_of_definition text c.definition) (λ columns. Ok (Creates entry)) (Creates e) free.2 in
-    let one : Creates entry ≡ Creates e = (let both : Ok (Creates entry) ≡ Ok (Creates e) = made.2 in cc) in
+creation-entry : (number : ℕ) (text : List ℕ) (s : Statement) (c : BoundCreation) (e : Entry) → creation_of number text s c ≡ Ok (Creates e) → IsEntryFor number text s e
+creation-entry number text s c e h =
+    let entry = entry_with number text c.name s in
+    let made = if_built-ok (is_some (columns_created text s.command)) (Ok (Creates entry)) (Creates e) h in
+    let one : Creates entry ≡ Creates e = same-ok (Creates entry) (Creates e) made.1 in
     let same : entry ≡ e = cc in
     sym same ∙ ap (λ (x : Entry). entry_with number text x.name s) same
 
-create-entry : (tables : List TableEntry) (number : ℕ) (text : List ℕ) (s : Statement) (c : Create) (e : Entry) → create_bound tables number text s c ≡ Ok (Creates e) → IsEntryFor number text s e
-create-entry tables number text s c e h = by (c.if_not_exists && is_some (table_called tables (name_at text c.name))) h
-  where
-    by : (there : Bool) → (if there then Ok DoesNothing else created tables number text s c) ≡ Ok (Creates e) → IsEntryFor number text s e
-    by true f = absurd (not_nothing e f)
-    by false f = created-entry tables number text s c e f
+command-entry : (tables : List TableEntry) (number : ℕ) (text : List ℕ) (s : Statement) (units : List BoundUnit) (k : BoundCommand) (e : Entry) → command_of tables number text s units k ≡ Ok (Creates e) → IsEntryFor number text s e
+command-entry tables number text s units (made.Asked place) e h = absurd (query-creates tables units place e h)
+command-entry tables number text s units (made.Written w) e h = absurd (put-creates tables units w e h)
+command-entry tables number text s units (made.Created c) e h = creation-entry number text s c e h
+command-entry tables number text s units (made.Removed r) e h = absurd (removal-creates tables r.kind r.name e h)
+command-entry tables number text s units (made.Transacted t) e h = absurd (not_refused e h)
+command-entry tables number text s units (made.Pragma name) e h = absurd (not_nothing e h)
+command-entry tables number text s units (made.Nothing kind name owner) e h = absurd (not_nothing e h)
 
-command-entry : (tables : List TableEntry) (number : ℕ) (text : List ℕ) (s : Statement) (c : Command) (e : Entry) → command_bound tables number text s c ≡ Ok (Creates e) → IsEntryFor number text s e
-command-entry tables number text s (command.Rows r) e h = absurd (rows-create tables text r e h)
-command-entry tables number text s (command.Create c) e h = create-entry tables number text s c e h
-command-entry tables number text s (command.Remove r) e h = absurd (drop-creates tables text r e h)
-command-entry tables number text s (command.Transaction t) e h = absurd (not_refused cause.NotYet e h)
-command-entry tables number text s (command.Pragma p) e h = absurd (pragma-creates _ (name_at text p.name) e h)
-
-statement-entry : (tables : List TableEntry) (number : ℕ) (text : List ℕ) (s : Statement) (e : Entry) → statement_bound tables number text s ≡ Ok (Creates e) → IsEntryFor number text s e
-statement-entry tables number text s e h = by (is_built text s) h
-  where
-    by : (built : Bool) → where_built built (command_bound tables number text s s.command) ≡ Ok (Creates e) → IsEntryFor number text s e
-    by true f = command-entry tables number text s s.command e f
-    by false f = absurd (not_refused cause.NotYet e f)
+statement-entry : (catalog : Entries) (number : ℕ) (text : List ℕ) (s : Statement) (e : Entry) → statement_bound catalog number text s ≡ Ok (Creates e) → IsEntryFor number text s e
+statement-entry catalog number text s e h =
+    let built = if_built-ok (is_built text s) (bound_of (around catalog) text s >>= runnable_of (tables_of catalog) number text s) (Creates e) h in
+    let one = then-ok (bound_of (around catalog) text s) (runnable_of (tables_of catalog) number text s) (Creates e) built.1 in
+    command-entry (tables_of catalog) number text s one.0.units one.0.command e one.2
 
 -- ---- what is ready
 
-module _ (size : ℕ) (tables : List TableEntry) (number : ℕ) (text : List ℕ) (s : Statement) where
-  abbrev meant : Result BoundStatement Cause
-  meant = statement_bound tables number text s
+module _ (size : ℕ) (catalog : Entries) (number : ℕ) (text : List ℕ) (s : Statement) where
+  abbrev meant : Result Runnable Cause
+  meant = statement_bound catalog number text s
 
   -- the table with its entry
   pub create-readies : (new : NewTable) (n : NewEntry) → BindsTo size meant (Ok (bound.CreateTable new)) → n.entry ≡ entry_with number text new.name s
       → n.table ≡ record { name = new.name; columns = new.columns; number = number; tokens = length (tokens_of text) } → Readies size meant (Ok (ready.Create n))
   create-readies new n binds entry table = by binds.0 binds.1 binds.2 binds.3
     where
-      by : (x : BoundStatement) → meant ≡ Ok x → IsBound x (bound.CreateTable new) → IsSmall size x (bound.CreateTable new) → Readies size meant (Ok (ready.Create n))
+      by : (x : Runnable) → meant ≡ Ok x → IsBound x (bound.CreateTable new) → IsSmall size x (bound.CreateTable new) → Readies size meant (Ok (ready.Create n))
       by (Creates e) is at small =
-          let own = statement-entry tables number text s e is in
+          let own = statement-entry catalog number text s e is in
           let same : n.entry ≡ e = entry ∙ ap (λ name. entry_with number text name s) at.0 ∙ sym own in
           let declared : table_with e new.columns ≡ n.table = ap (λ (x : Entry). table_with x new.columns) own ∙ ap (λ name. table_with (entry_with number text name s) new.columns) (sym at.0) ∙ sym table in
           let named : n.table.name ≡ e.name = ap (λ (t : TableEntry). t.name) table ∙ at.0 in

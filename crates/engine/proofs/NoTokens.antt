@@ -7,7 +7,7 @@ use Rattle.sql_grammar.specs.Statements.{command, explain, pragma, statement}
 use Rattle.sql_grammar.specs.StatementTexts.{read_statement}
 use Rattle.sql_lex.specs.Cutting.{start_of}
 use Rattle.sql_lex.specs.Tokens.{tokens_of}
-use Rattle.sql_meaning.specs.BoundStatements.{BoundStatement}
+use Rattle.sql_meaning.specs.Runnables.{Runnable}
 use Rattle.sql_words.specs.Bodies.{answer_of}
 use Rattle.sql_meaning.specs.Statement.{answer_bound, limit_kind, text_bound, text_bound_from}
 use Rattle.sql_meaning.specs.World.{World}
@@ -21,12 +21,12 @@ none_read tree e =
     let bad : Syntax [] ≡ Tree tree = sym is ∙ e in
     absurd (cc)
 
-none_bound : (w : World) (text : List ℕ) (a : Answer Statement) (x : BoundStatement) → whole (read_statement start []) ≡ a → answer_bound w 0 text a ≡ Ok x → ⊥
+none_bound : (w : World) (text : List ℕ) (a : Answer Statement) (x : Runnable) → whole (read_statement start []) ≡ a → answer_bound w 0 text a ≡ Ok x → ⊥
 none_bound w text (Tree tree) x is e = none_read tree is
 none_bound w text (Syntax rest) x is e = absurd (let bad : Err (cause.Syntax (0 + place (length text) rest)) ≡ Ok x = e in cc)
 none_bound w text (TooMuch l rest) x is e = absurd (let bad : Err (cause.Limit (limit_kind l)) ≡ Ok x = e in cc)
 
-pub has_tokens : (w : World) (text : List ℕ) (x : BoundStatement) → text_bound w text ≡ Ok x → 1 ≤ length (tokens_of text)
+pub has_tokens : (w : World) (text : List ℕ) (x : Runnable) → text_bound w text ≡ Ok x → 1 ≤ length (tokens_of text)
 has_tokens w text x e = by (tokens_of text) refl
   where
     by : (ts : List Token) → tokens_of text ≡ ts → 1 ≤ length ts

@@ -16,12 +16,10 @@ use Rattle.sql_grammar.specs.Answers.{Answer, Tree, Syntax, TooMuch}
 use Rattle.sql_grammar.specs.StatementTexts.{AnswersAs}
 use Rattle.sql_lex.specs.Cutting.{start_of}
 use Rattle.sql_lex.specs.Tokens.{tokens_of}
-use Rattle.sql_meaning.specs.BoundStatements.{BoundStatement, Creates, DoesNothing, Drops, Puts, Queries, Shows as ShowsRows}
-use Rattle.sql_meaning.specs.Declarations.{tables_of}
+use Rattle.sql_meaning.specs.Runnables.{Runnable, Creates, DoesNothing, Drops, Puts, Queries, Shows as ShowsRows}
 use Rattle.sql_words.specs.Bodies.{answer_of, body_of}
 use Rattle.sql_meaning.specs.Statement.{answer_bound, limit_kind, statement_bound, text_bound, text_bound_from}
 use Rattle.sql_meaning.specs.World.{World}
-use Rattle.sql_meaning.specs.declared.column.TableEntry.{TableEntry}
 use Rattle.sql_tree.specs.declared.statement.Statement.{Statement}
 use Rattle.sql_tree.specs.Sizes.{size_of_statement}
 use Rattle.vm_code.specs.Machine.{World as Lists}
@@ -31,7 +29,7 @@ use Rattle.engine.specs.Prepared.{Readies, bound_in, cause_of}
 use Rattle.engine.proofs.Bodies.{tokens_kept}
 
 -- what is small beside a tree is small beside one that is no smaller
-small_more : (size more : ℕ) (x : BoundStatement) (b : Bound) → size ≤ more → IsSmall size x b → IsSmall more x b
+small_more : (size more : ℕ) (x : Runnable) (b : Bound) → size ≤ more → IsSmall size x b → IsSmall more x b
 small_more size more (Creates e) (bound.CreateTable t) le small = omega (arith, small)
 small_more size more (Creates e) (bound.DropTable d) le small = omega (arith, small)
 small_more size more (Creates e) (bound.Insert b) le small = record { nodes = omega (arith, small.nodes); count = omega (arith, small.count) }
@@ -77,19 +75,19 @@ small_more size more DoesNothing (bound.Select q') le small = omega (arith, smal
 small_more size more DoesNothing (bound.Values vs) le small = omega (arith, small)
 small_more size more DoesNothing bound.Nothing le small = omega (arith, small)
 
-pub readies_more : (size more : ℕ) (meant : Result BoundStatement Cause) (r : Result Ready Cause) → size ≤ more → Readies size meant r → Readies more meant r
+pub readies_more : (size more : ℕ) (meant : Result Runnable Cause) (r : Result Ready Cause) → size ≤ more → Readies size meant r → Readies more meant r
 readies_more size more meant (Ok r) le p = (p.0, p.1, p.2, small_more size more p.0 (bound_in r) le p.3, p.4)
 readies_more size more meant (Err why) le p = p
 
 -- ---- how a statement was bound
 
-pub bound_to : (tables : List TableEntry) (number : ℕ) (text : List ℕ) (s : Statement) (b : Bound) → Binds tables number text s (Ok b) → BindsTo (size_of_statement s) (statement_bound tables number text s) (Ok b)
+pub bound_to : (catalog : Entries) (number : ℕ) (text : List ℕ) (s : Statement) (b : Bound) → Binds catalog number text s (Ok b) → BindsTo (size_of_statement s) (statement_bound catalog number text s) (Ok b)
 unfolding Binds
-bound_to tables number text s b binds = binds
+bound_to catalog number text s b binds = binds
 
-pub refused_to : (tables : List TableEntry) (number : ℕ) (text : List ℕ) (s : Statement) (why : Cause) → Binds tables number text s (Err why) → IsRefusal (statement_bound tables number text s) why
+pub refused_to : (catalog : Entries) (number : ℕ) (text : List ℕ) (s : Statement) (why : Cause) → Binds catalog number text s (Err why) → IsRefusal (statement_bound catalog number text s) why
 unfolding Binds
-refused_to tables number text s why binds = binds
+refused_to catalog number text s why binds = binds
 
 -- ---- texts
 
@@ -100,7 +98,7 @@ from_first w text first many r at is p =
     readies_more many (length (tokens_of text)) (text_bound w text) r (omega (arith, is, kept)) (subst (λ k. Readies many (text_bound_from w k text) r) at p)
 
 module _ (entries : Entries) (lists : Lists) (before : ℕ) (text : List ℕ) where
-  abbrev Bounds : Answer Statement → Result BoundStatement Cause
+  abbrev Bounds : Answer Statement → Result Runnable Cause
   Bounds = answer_bound (world_in entries lists) before text
 
   -- the tree of a text, which is no larger than it
@@ -117,7 +115,7 @@ module _ (entries : Entries) (lists : Lists) (before : ℕ) (text : List ℕ) wh
   found s shows = let a = an_answer (tokens_of text) in found_in a.0 a.1 s (shows a.0 a.1)
 
   -- where the grammar answers so, the text is bound so
-  answered : (x : Answer Statement) (r : Result BoundStatement Cause) → AnswersAs (tokens_of text) x → Bounds x ≡ r → Bounds (answer_of text) ≡ r
+  answered : (x : Answer Statement) (r : Result Runnable Cause) → AnswersAs (tokens_of text) x → Bounds x ≡ r → Bounds (answer_of text) ≡ r
   answered x r answers is = ap Bounds (read_as_answered (tokens_of text) x answers) ∙ is
 
   failed_in : (x : Answer Statement) → AnswersAs (tokens_of text) x → (f : Failure) → Shows (length text) x (Err f) → IsRefusal (Bounds (answer_of text)) (cause_of before f)
@@ -135,12 +133,12 @@ module _ (entries : Entries) (lists : Lists) (before : ℕ) (text : List ℕ) wh
   failed f why is shows = let a = an_answer (tokens_of text) in rw is (failed_in a.0 a.1 f (shows a.0 a.1))
 
   -- a statement that is refused
-  pub prepared_refusal : (s : Statement) (why : Cause) → IsTreeOf s → IsRefusal (statement_bound (tables_of entries) (length lists) (body_of text) s) why → IsRefusal (Bounds (answer_of text)) why
+  pub prepared_refusal : (s : Statement) (why : Cause) → IsTreeOf s → IsRefusal (statement_bound entries (length lists) (body_of text) s) why → IsRefusal (Bounds (answer_of text)) why
   prepared_refusal s why is (inl memory) = inl memory
   prepared_refusal s why is (inr refused) = inr (ap Bounds is.0 ∙ refused)
 
   -- a statement that is ready or was refused
-  pub prepared : (s : Statement) (r : Result Ready Cause) → IsTreeOf s → Readies (size_of_statement s) (statement_bound (tables_of entries) (length lists) (body_of text) s) r → Readies (length (tokens_of text)) (Bounds (answer_of text)) r
+  pub prepared : (s : Statement) (r : Result Ready Cause) → IsTreeOf s → Readies (size_of_statement s) (statement_bound entries (length lists) (body_of text) s) r → Readies (length (tokens_of text)) (Bounds (answer_of text)) r
   prepared s (Ok r) is p =
       (p.0, ap Bounds is.0 ∙ p.1, p.2, small_more (size_of_statement s) (length (tokens_of text)) p.0 (bound_in r) is.1 p.3, p.4)
   prepared s (Err why) is p = prepared_refusal s why is p

@@ -13,7 +13,7 @@ use Rattle.eng_value.specs.declared.value.Value.{Value}
 use Rattle.gen_write.specs.Writes.{Course, stored_as, row_under, row_put, rows_run}
 use Rattle.sql_meaning.specs.declared.bound.BoundInsert.{BoundInsert}
 use Rattle.sql_meaning.specs.declared.column.Column.{Column}
-use Rattle.sql_meaning.specs.BoundStatements.{Put}
+use Rattle.sql_meaning.specs.Runnables.{Put}
 use Rattle.sql_meaning.specs.Statement.{Item, Row, Failed as Bad, item_of, stored, item_put, rows_put, value_at, values_placed, row_under as row_meant, with_row as with_row_meant}
 use Rattle.sql_words.specs.Refusals.{◌>>=◌}
 use Rattle.bind_stmt.specs.Binds.{IsPutAs, put_columns}

@@ -15,3 +15,6 @@ tables_with tables c e t are kind declared =
 
 pub tables_without : (tables : List TableEntry) (c : Entries) (name : List ℕ) → tables ≡ tables_of c → filter (is_other name) tables ≡ tables_of (without_name space.Names name c)
 tables_without tables c name are = ap (filter (is_other name)) are ∙ sym (among-others name c.names)
+
+pub triggers_with : (c : Entries) (e : Entry) → e.kind ≡ entry_kind.Table → c.triggers ≡ [] → (with_entry e c).triggers ≡ []
+triggers_with c e kind none = ap (λ (k : Entries). k.triggers) (with_entry-names e c kind) ∙ none

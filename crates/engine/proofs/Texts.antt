@@ -8,7 +8,7 @@ use Rattle.eng_value.specs.declared.cause.Cause.{Cause}
 use Rattle.eng_value.specs.declared.value.Value.{Value}
 use Rattle.sql_meaning.proofs.TableLaws.{IsElse, found-all, none-named}
 use Rattle.sql_meaning.proofs.ValidLaws.{FitsIn, text-fits}
-use Rattle.sql_meaning.specs.BoundStatements.{BoundStatement, Creates, DoesNothing, Drops, Puts, Queries, Shows}
+use Rattle.sql_meaning.specs.Runnables.{Runnable, Creates, DoesNothing, Drops, Puts, Queries, Shows}
 use Rattle.sql_meaning.specs.Declarations.{table_of, tables_of}
 use Rattle.sql_meaning.specs.Statement.{Outcome, bound_outcome, create_outcome, outcome_of, text_bound, text_outcome}
 use Rattle.sql_meaning.specs.Valid.{IsTable, IsWorld}
@@ -39,7 +39,7 @@ module _ (hosts : HostMeanings) (entries : Entries) (lists : Lists) (changes : �
   abbrev ctx : Context
   ctx = context hosts state params
 
-  abbrev Fits : BoundStatement → Type 0
+  abbrev Fits : Runnable → Type 0
   Fits x = FitsIn (tables_of entries) (length lists) x
 
   -- ---- what was bound
@@ -51,7 +51,7 @@ module _ (hosts : HostMeanings) (entries : Entries) (lists : Lists) (changes : �
     declared = ap table_of has.0 ∙ has.1;
   }
 
-  by_ready : (x : BoundStatement) (r : Ready) → Fits x → IsBound x (bound_in r) → HasEntry x r → MayRun entries r
+  by_ready : (x : Runnable) (r : Ready) → Fits x → IsBound x (bound_in r) → HasEntry x r → MayRun entries r
   by_ready (Creates e) (ready.Create n) fits at has = is_new e n fits has
   by_ready (Drops t) (ready.Create n) fits at has = absurd at
   by_ready (Puts p) (ready.Create n) fits at has = absurd at
@@ -64,10 +64,10 @@ module _ (hosts : HostMeanings) (entries : Entries) (lists : Lists) (changes : �
   by_ready x (ready.Values b) fits at has = tt
   by_ready x ready.Nothing fits at has = tt
 
-  pub may_run : (x : BoundStatement) (r : Ready) → text_bound (world_in entries lists) text ≡ Ok x → IsBound x (bound_in r) → HasEntry x r → MayRun entries r
+  pub may_run : (x : Runnable) (r : Ready) → text_bound (world_in entries lists) text ≡ Ok x → IsBound x (bound_in r) → HasEntry x r → MayRun entries r
   may_run x r is at has = by_ready x r (text-fits (world_in entries lists) text x is) at has
 
-  bound_stands : (x : BoundStatement) (r : Ready) → IsSound lists → Fits x → IsBound x (bound_in r) → HasEntry x r → StandsFor (outcome_of ctx x) (outcome_in hosts entries lists changes last params r)
+  bound_stands : (x : Runnable) (r : Ready) → IsSound lists → Fits x → IsBound x (bound_in r) → HasEntry x r → StandsFor (outcome_of ctx x) (outcome_in hosts entries lists changes last params r)
   bound_stands (Creates e) (ready.Create n) sound fits at has = stands_same _ _ (ap (create_outcome state) (sym has.0))
   bound_stands (Creates e) (ready.Drop d) sound fits at has = absurd at
   bound_stands (Creates e) (ready.Insert b) sound fits at has = absurd at
@@ -105,7 +105,7 @@ module _ (hosts : HostMeanings) (entries : Entries) (lists : Lists) (changes : �
   bound_stands DoesNothing (ready.Values b) sound fits at has = absurd at
   bound_stands DoesNothing ready.Nothing sound fits at has = stands_same _ _ refl
 
-  pub text_stands : (x : BoundStatement) (r : Ready) → IsSound lists → text_bound (world_in entries lists) text ≡ Ok x → IsBound x (bound_in r) → HasEntry x r → StandsFor (text_outcome ctx text) (outcome_in hosts entries lists changes last params r)
+  pub text_stands : (x : Runnable) (r : Ready) → IsSound lists → text_bound (world_in entries lists) text ≡ Ok x → IsBound x (bound_in r) → HasEntry x r → StandsFor (text_outcome ctx text) (outcome_in hosts entries lists changes last params r)
   text_stands x r sound is at has =
       subst (λ (o : Outcome). StandsFor o (outcome_in hosts entries lists changes last params r)) (sym (ap (bound_outcome ctx) is)) (bound_stands x r sound (text-fits (world_in entries lists) text x is) at has)
 

@@ -7,12 +7,12 @@ use Rattle.eng_value.specs.HostMeanings.{HostMeanings, nobody}
 use Rattle.eng_value.specs.declared.value.Value.{Value}
 use Rattle.gen_query.specs.Queries.{items_in, query_run, query_steps, values_run, values_steps}
 use Rattle.gen_write.specs.Writes.{create_run, create_steps, drop_run, drop_steps, nothing_run, nothing_steps, put_run, put_steps}
-use Rattle.sql_meaning.specs.declared.bound.BoundExpr.{BoundExpr}
+use Rattle.bound_tree.specs.Exprs.{BoundExpr}
 use Rattle.sql_meaning.specs.declared.bound.BoundInsert.{BoundInsert}
 use Rattle.sql_meaning.specs.declared.bound.BoundSelect.{BoundSelect}
 use Rattle.sql_meaning.specs.Statement.{Outcome, create_outcome, done, nothing, query_outcome, refused, shown_rows}
 use Rattle.sql_meaning.specs.World.{State, context}
-use Rattle.bind_stmt.specs.declared.dropping.DroppedTable.{DroppedTable}
+use Rattle.bind_stmt.specs.declared.statement.DroppedTable.{DroppedTable}
 use Rattle.vm_code.specs.Machine.{World as Lists, Run, Shared, Ending, Finished, Failed, world_of}
 use Rattle.engine.specs.declared.preparing.Ready.{Ready}
 use Rattle.engine.specs.declared.preparing.Ready.TheVariants as ready

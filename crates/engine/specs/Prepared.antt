@@ -10,7 +10,7 @@ use Rattle.eng_value.specs.declared.cause.Cause.{Cause}
 use Rattle.eng_value.specs.declared.cause.Cause.TheVariants as cause
 use Rattle.parse_cursor.specs.declared.texts.Failure.{Failure}
 use Rattle.parse_cursor.specs.declared.texts.Failure.TheVariants as failure
-use Rattle.sql_meaning.specs.BoundStatements.{BoundStatement, Creates}
+use Rattle.sql_meaning.specs.Runnables.{Runnable, Creates}
 use Rattle.sql_meaning.specs.Declarations.{table_of}
 use Rattle.sql_meaning.specs.Statement.{limit_kind}
 use Rattle.engine.specs.declared.preparing.NewEntry.{NewEntry}
@@ -44,18 +44,18 @@ CreatesNone (bound.CreateTable n) = ⊥
 CreatesNone b = ⊤
 
 -- the entry is that of the statement, and declares the table
-abbrev pub IsEntryOf : BoundStatement → NewEntry → Type 0
+abbrev pub IsEntryOf : Runnable → NewEntry → Type 0
 IsEntryOf (Creates e) n = (n.entry ≡ e) × (table_of e ≡ Some n.table)
 IsEntryOf x n = ⊥
 
 -- a table that is created has its entry
-abbrev pub HasEntry : BoundStatement → Ready → Type 0
+abbrev pub HasEntry : Runnable → Ready → Type 0
 HasEntry x (ready.Create n) = IsEntryOf x n
 HasEntry x r = ⊤
 
 -- the statement is bound and ready, and small beside its tokens; or it is refused; and memory may be wanting
-abbrev pub Readies : ℕ → Result BoundStatement Cause → Result Ready Cause → Type 0
-Readies size meant (Ok r) = (x : BoundStatement) × (meant ≡ Ok x) × IsBound x (bound_in r) × IsSmall size x (bound_in r) × HasEntry x r
+abbrev pub Readies : ℕ → Result Runnable Cause → Result Ready Cause → Type 0
+Readies size meant (Ok r) = (x : Runnable) × (meant ≡ Ok x) × IsBound x (bound_in r) × IsSmall size x (bound_in r) × HasEntry x r
 Readies size meant (Err why) = IsRefusal meant why
 
 -- ---- what may run

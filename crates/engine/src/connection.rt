@@ -37,11 +37,11 @@ impl Model for Connection {
     ghost Value = { Held };
 
     ghost use Rattle.std.specs.Coded.{codes};
-    ghost use Rattle.sql_meaning.specs.contracts.bound.BoundExpr as expression;
+    ghost use Rattle.bound_tree.specs.declared.expr.BoundExpr.{the_code};
     ghost use Rattle.sql_tree.specs.contracts.expr.Expr as expr;
     ghost use Rattle.sql_tree.specs.contracts.query.Query as query;
 
-    ghost coded = { Prim.hlevel (codes, expression.the_row.coded, expr.the_row.coded, query.the_row.coded) };
+    ghost coded = { Prim.hlevel (codes, the_code, expr.the_row.coded, query.the_row.coded) };
 
     ghost view = { λ c.
         record {

@@ -10,21 +10,23 @@ ghost use Rattle.engine.specs.Held.{world_in};
 ghost use Rattle.engine.specs.Prepared.{CreatesNone, Readies, StandsIn, cause_of};
 ghost use Rattle.sql_lex.specs.Cutting.{start_of};
 ghost use Rattle.sql_lex.specs.Tokens.{InOrder, slice_of, tokens_of};
-ghost use Rattle.sql_meaning.specs.BoundStatements.{BoundStatement};
+ghost use Rattle.sql_meaning.specs.Runnables.{Runnable};
 ghost use Rattle.sql_meaning.specs.Declarations.{tables_of};
 ghost use Rattle.sql_words.specs.Bodies.{end_of, without_end};
-ghost use Rattle.sql_meaning.specs.Statement.{entry_with, limit_kind, statement_bound, text_bound, text_bound_from};
+ghost use Rattle.sql_meaning.specs.Running.{entry_with};
+ghost use Rattle.sql_meaning.specs.Statement.{limit_kind, statement_bound, text_bound, text_bound_from};
 ghost use Rattle.sql_tree.specs.Sizes.{size_of_statement};
 ghost use Rattle.vm_code.specs.Machine.{World as Lists};
 
 use crate::schema::Schema;
 use bind_stmt::{Bound, DroppedTable, NewTable, bind};
+use bound_tree::BoundExpr;
 use eng_catalog::{Entry, EntryKind};
 use eng_value::{Cause, LimitKind, Text};
 use parse_stmt::{Failure, parse};
 use sql_grammar::Limit;
 use sql_lex::tokens;
-use sql_meaning::{BoundExpr, BoundInsert, BoundSelect, TableEntry};
+use sql_meaning::{BoundInsert, BoundSelect, TableEntry};
 use sql_tree::{Statement, Token, TokenKind};
 use sqlite_items::{Boxed, Items};
 use std::alloc::Global;
@@ -87,7 +89,7 @@ fn prepare_from(
         Err(failure) => return Err(cause_of(text, start, failure)),
     };
     let body = &from[..end_of(without_end(tokens))];
-    let bound = bind(alloc, schema.tables(), body, &statement)?;
+    let bound = bind(alloc, schema.catalog(), schema.tables(), body, &statement)?;
     readied(alloc, bound, number, body, statement)
 }
 
@@ -99,8 +101,8 @@ fn readied(
     body: &str,
     statement: Statement,
 ) -> Result<Ready, Cause>
-    ensures { (lists : Lists) (entries : Entries) → length lists ≡ number → BindsTo (size_of_statement statement) (statement_bound (tables_of entries) number body.now statement) (Ok bound)
-        → Readies (size_of_statement statement) (statement_bound (tables_of entries) number body.now statement) result }
+    ensures { (lists : Lists) (entries : Entries) → length lists ≡ number → BindsTo (size_of_statement statement) (statement_bound entries number body.now statement) (Ok bound)
+        → Readies (size_of_statement statement) (statement_bound entries number body.now statement) result }
 {
     match bound {
         Bound::CreateTable(new) => created(alloc, new, number, body, statement),
@@ -111,7 +113,7 @@ fn readied(
 /// Any but a CREATE TABLE is ready as it is bound.
 fn as_bound(bound: Bound) -> Ready
     requires { CreatesNone bound }
-    ensures { (size : ℕ) (meant : Result BoundStatement Cause) → BindsTo size meant (Ok bound) → Readies size meant (Ok result) }
+    ensures { (size : ℕ) (meant : Result Runnable Cause) → BindsTo size meant (Ok bound) → Readies size meant (Ok result) }
 {
     match bound {
         Bound::CreateTable(_) => unreachable!(),
@@ -132,8 +134,8 @@ fn created(
     body: &str,
     statement: Statement,
 ) -> Result<Ready, Cause>
-    ensures { (lists : Lists) (entries : Entries) → length lists ≡ number → BindsTo (size_of_statement statement) (statement_bound (tables_of entries) number body.now statement) (Ok (bound.CreateTable new))
-        → Readies (size_of_statement statement) (statement_bound (tables_of entries) number body.now statement) result }
+    ensures { (lists : Lists) (entries : Entries) → length lists ≡ number → BindsTo (size_of_statement statement) (statement_bound entries number body.now statement) (Ok (bound.CreateTable new))
+        → Readies (size_of_statement statement) (statement_bound entries number body.now statement) result }
 {
     let entry = new_entry(alloc, new, number, body, statement)?;
     Ok(Ready::Create(Boxed::new(alloc, entry)?))

@@ -1,5 +1,5 @@
 // What is declared of the tables.
-ghost use Rattle.std.specs.Prelude.{◌≡◌, OnErr, OnOk, None, Some};
+ghost use Rattle.std.specs.Prelude.{◌≡◌, [], OnErr, OnOk, None, Some};
 ghost use Rattle.eng_entry.specs.Entries.{entry_named, no_entries, with_entry, without_name};
 ghost use Rattle.eng_entry.specs.declared.entry.EntryKind.TheVariants as entry_kind;
 ghost use Rattle.eng_entry.specs.declared.entry.Space.TheVariants as space;
@@ -20,7 +20,7 @@ pub(crate) struct Schema {
 }
 
 impl Model for Schema {
-    ghost use Rattle.std.specs.Prelude.{◌≡◌};
+    ghost use Rattle.std.specs.Prelude.{◌≡◌, []};
     ghost use Rattle.std.specs.Coded.{codes};
     ghost use Rattle.sql_tree.specs.contracts.expr.Expr as expr;
     ghost use Rattle.sql_tree.specs.contracts.query.Query as query;
@@ -33,7 +33,7 @@ impl Model for Schema {
 
     ghost view = { λ s. s.catalog };
 
-    ghost invariant = { λ s. s.tables.items ≡ tables_declared s.catalog };
+    ghost invariant = { λ s. (s.tables.items ≡ tables_declared s.catalog) × (s.catalog.triggers ≡ []) };
 }
 
 impl Schema {
@@ -45,6 +45,14 @@ impl Schema {
             catalog: Catalog::new(alloc),
             tables: Vec::new(alloc),
         }
+    }
+
+    /// The catalog, which has no trigger yet.
+    pub(crate) fn catalog(&self) -> &Catalog
+        ensures catalog { result.now ≡ self.now }
+        ensures untriggered { result.now.triggers ≡ [] }
+    {
+        &self.catalog
     }
 
     /// The tables, oldest first.

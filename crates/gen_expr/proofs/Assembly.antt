@@ -1,19 +1,23 @@
 -- The parts of the code as the generator puts them together: drafts by what made them.
-use Rattle.std.proofs.Common.{rules, ◌≡◌, ◌≢◌, ◌∙◌, ℕ, ◌+◌, ◌≤◌, ◌<◌, List, length, map, take, Option, Some, None, sym, ap, subst, arith}
+use Rattle.std.proofs.Common.{rules, ◌≡◌, ◌≢◌, ◌∙◌, ℕ, ◌+◌, ◌≤◌, ◌<◌, List, length, map, take, get_or, Option, Some, None, sym, ap, subst, arith}
 use Rattle.std.specs.Prelude.{slice_get, sum_by}
-use Rattle.std.proofs.lemmas.List.{take_all}
+use Rattle.std.proofs.Math.ListN.{get_or-map}
+use Rattle.std.proofs.lemmas.List.{length-map, take_all}
+use Rattle.bound_tree.specs.Exprs as e
+use Rattle.bound_tree.specs.Exprs.{BoundArm, BoundExpr, BoundMatch}
+use Rattle.bound_tree.specs.Seen.{seen, seen_arm, seen_match}
+use Rattle.bound_tree.specs.declared.tree.ArmTree.{ArmTree, out-ArmTree}
+use Rattle.bound_tree.specs.declared.tree.ExprTree.{the_lemmas}
+use Rattle.bound_tree.specs.declared.tree.MatchTree.{MatchTree, out-MatchTree}
 use Rattle.eng_value.specs.Applied.{member_of}
 use Rattle.eng_value.specs.Collations.{keys_of}
 use Rattle.eng_value.specs.Environments.{Environment}
 use Rattle.eng_value.specs.declared.operators.Sides.{Sides}
 use Rattle.eng_value.specs.declared.out.Out.{Out}
-use Rattle.gen_expr.specs.Parts.{Turns, Decides, decided_arm, decided_known, decided_match, first_in, with_arm_tested, with_member_begun}
+use Rattle.gen_expr.specs.Parts.{Turns, Decides, decided_arm, decided_known, decided_match, first_in, with_arm_left, with_arm_tested, with_member_begun}
 use Rattle.gen_expr.specs.Steps.{steps_of, arm_steps_of, match_steps_of}
-use Rattle.gen_expr.proofs.Expressions.{Emits, OffersAll, equal_among, member_leaves, known_leaves, choice_leaves, match_leaves}
+use Rattle.gen_expr.proofs.Codes.{Emits, OffersAll, equal_among, member_leaves, known_leaves, choice_leaves, iif_decides, iif_leaves, match_leaves, one_arm, EmitsTruth}
 use Rattle.sql_meaning.specs.Expression.{value_of, arm_of, match_of, first_known, chosen_in, matched_in, in_all}
-use Rattle.sql_meaning.specs.declared.bound.BoundArm.{BoundArm, out-BoundArm}
-use Rattle.sql_meaning.specs.declared.bound.BoundExpr.{BoundExpr, the_lemmas}
-use Rattle.sql_meaning.specs.declared.bound.BoundMatch.{BoundMatch, out-BoundMatch}
 use Rattle.vm_code.specs.declared.op.Op.TheVariants as op
 use Rattle.vm_code.specs.Draft.{Draft, with_op, with_label, bound, taken, given_back}
 use Rattle.vm_code.specs.Frames.{Leaves, no_calls}
@@ -63,6 +67,16 @@ all_of xs i le = take_all i xs le
 pub all_offered : (a b : Draft) (os : List Operand) (es : List BoundExpr) (i : ℕ) → length es ≤ i → OffersAll a b os (take i es) → OffersAll a b os es
 all_offered a b os es i le l = subst (λ (xs : List BoundExpr). OffersAll a b os xs) (all_of es i le) l
 
+-- what stands in a list that is mapped
+pub map_below : {A B : Type 0} (f : A → B) (xs : List A) (i : ℕ) → i < length xs → i < length (map f xs)
+map_below f xs i lt = omega (arith, lt, length-map xs f)
+
+pub map_past : {A B : Type 0} (f : A → B) (xs : List A) (i : ℕ) → length xs ≤ i → length (map f xs) ≤ i
+map_past f xs i le = omega (arith, le, length-map xs f)
+
+pub map_item : {A B : Type 0} (f : A → B) (xs : List A) (i : ℕ) (x : A) → x ≡ get_or xs i x → f x ≡ get_or (map f xs) i (f x)
+map_item f xs i x is = ap f is ∙ sym (get_or-map f xs i x)
+
 -- ---- labels
 
 pub label_open : (d l : Draft) (label : ℕ) → label ≡ length d.labels → l ≡ with_label d → slice_get l.labels label ≡ Some None
@@ -73,17 +87,11 @@ tested_open d t to end next next_is t_is = ap (λ (x : Draft). slice_get x.label
 
 -- ---- the parts of an arm
 
-pub arm_parts : (arm : BoundArm) → arm_of arm ≡ record { condition = value_of (out-BoundArm arm).condition; value = value_of (out-BoundArm arm).value }
+pub arm_parts : (arm : ArmTree) → seen_arm arm ≡ record { condition = seen (out-ArmTree arm).condition; value = seen (out-ArmTree arm).value }
 arm_parts arm = search (rules, the_lemmas)
 
-pub arm_steps : (arm : BoundArm) → arm_steps_of arm ≡ steps_of (out-BoundArm arm).condition + steps_of (out-BoundArm arm).value + 4
-arm_steps arm = search (rules, the_lemmas)
-
-pub match_parts : (arm : BoundMatch) → match_of arm ≡ record { sides = (out-BoundMatch arm).sides; operand = value_of (out-BoundMatch arm).operand; value = value_of (out-BoundMatch arm).value }
+pub match_parts : (arm : MatchTree) → seen_match arm ≡ record { sides = (out-MatchTree arm).sides; operand = seen (out-MatchTree arm).operand; value = seen (out-MatchTree arm).value }
 match_parts arm = search (rules, the_lemmas)
-
-pub match_steps : (arm : BoundMatch) → match_steps_of arm ≡ steps_of (out-BoundMatch arm).operand + steps_of (out-BoundMatch arm).value + 5
-match_steps arm = search (rules, the_lemmas)
 
 -- ---- behind all of a list
 
@@ -104,6 +112,16 @@ choice_all a l b c z to end i arms otherwise end_is l_is le decides lo z_is =
     let whole : Decides l b to to end (λ env y. first_in (λ o. decided_arm env (arm_of o)) arms) (sum_by arm_steps_of arms) = subst (λ (xs : List BoundArm). Decides l b to to end (λ env y. first_in (λ o. decided_arm env (arm_of o)) xs) (sum_by arm_steps_of xs)) (all_of arms i le) decides in
     subst (λ (d : Draft). Leaves no_calls a d to (λ env. chosen_in env (map arm_of arms) (value_of otherwise env)) (λ env. sum_by arm_steps_of arms + steps_of otherwise)) (sym z_is)
     (choice_leaves a b c to end arms otherwise end_is (decides_from (with_label a) l_is whole) lo)
+
+pub iif_decided : (a l b t v c : Draft) (to next end : ℕ) (x y : BoundExpr) → l ≡ with_label a → EmitsTruth l b to x → next ≡ length b.labels → t ≡ with_arm_tested b to end → Emits t v to y → c ≡ with_arm_left v end next → to < a.next → a.next ≤ a.most → Decides l c to to end (λ env w. first_in (λ o. decided_arm env (arm_of o)) (one_arm x y)) (sum_by arm_steps_of (one_arm x y))
+iif_decided a l b t v c to next end x y l_is lb next_is t_is lv c_is lt counted =
+    let next_same : l.next ≡ a.next = ap (λ (d : Draft). d.next) l_is in
+    let most_same : l.most ≡ a.most = ap (λ (d : Draft). d.most) l_is in
+    decides_at c c_is (iif_decides l b v to next end x y lb next_is (emits_from y (with_arm_tested b to end) t_is lv) (omega (arith, next_same)) (omega (arith, next_same, most_same)))
+
+pub iif_all : (a l c d z : Draft) (to end : ℕ) (x y otherwise : BoundExpr) → end ≡ length a.labels → l ≡ with_label a → Decides l c to to end (λ env w. first_in (λ o. decided_arm env (arm_of o)) (one_arm x y)) (sum_by arm_steps_of (one_arm x y)) → Emits c d to otherwise → z ≡ bound d end → Emits a z to (e.Iif x y otherwise)
+iif_all a l c d z to end x y otherwise end_is l_is decides lo z_is =
+    subst (λ (k : Draft). Emits a k to (e.Iif x y otherwise)) (sym z_is) (iif_leaves a c d to end x y otherwise end_is (decides_from (with_label a) l_is decides) lo)
 
 pub match_all : (a t b l d c m z : Draft) (held to end i : ℕ) (arms : List BoundMatch) (x otherwise : BoundExpr) → held ≡ a.next → t ≡ taken a → Emits t b held x → end ≡ length b.labels → l ≡ with_label b → length arms ≤ i → Decides l d held to end (λ env y. first_in (λ o. decided_match env y (match_of o)) (take i arms)) (sum_by match_steps_of (take i arms)) → Emits d c to otherwise → m ≡ bound c end → z ≡ given_back m → to < a.next → Leaves no_calls a z to (λ env. matched_in env (value_of x env) (map match_of arms) (value_of otherwise env)) (λ env. steps_of x + sum_by match_steps_of arms + steps_of otherwise)
 match_all a t b l d c m z held to end i arms x otherwise held_is t_is lx end_is l_is le decides lo m_is z_is lt =

@@ -1,67 +1,16 @@
 -- How many instructions an expression takes at most, by how many nodes it has.
-use Rattle.std.proofs.Common.{arith, subst, ◌≡◌, ℕ, ◌+◌, ◌*◌, ◌≤◌, List, [], ◌∷◌, map, length}
-use Rattle.std.specs.Prelude.{sum, sum_by}
+use Rattle.std.proofs.Common.{arith, ℕ, ◌+◌, ◌*◌, ◌≤◌, List, [], ◌∷◌, length}
+use Rattle.std.specs.Prelude.{sum_by}
 use Rattle.std.proofs.Math.Nat.{mul-le-mul_left}
 use Rattle.std.proofs.lemmas.List.Sums.{sum_by-cons}
 use Rattle.eng_value.specs.declared.operators.BinaryOperator.{BinaryOperator}
 use Rattle.eng_value.specs.declared.operators.BinaryOperator.TheVariants as binary
-use Rattle.sql_meaning.specs.declared.bound.BoundArm.{BoundArm}
-use Rattle.sql_meaning.specs.declared.bound.BoundExpr.{BoundExpr}
-use Rattle.sql_meaning.specs.declared.bound.BoundExpr.TheFolds.{fold-roll-BoundExpr, fold-roll-BoundArm, fold-roll-BoundMatch, ind-BoundExpr, map-BoundExpr}
-use Rattle.sql_meaning.specs.declared.bound.BoundExpr.TheOpen.{BoundExpr-F, BoundArm-F, BoundMatch-F}
-use Rattle.sql_meaning.specs.declared.bound.BoundMatch.{BoundMatch}
-use Rattle.sql_meaning.specs.Sizes.{nodes_of, nodes_of_arm, nodes_of_match, nodes_step, arm_nodes_step, match_nodes_step, all_nodes}
-use Rattle.gen_expr.specs.Steps.{steps_of, arm_steps_of, match_steps_of, steps_step, arm_step, match_step, and_two, test_steps}
+use Rattle.bound_size.specs.Sizes.{all_nodes, nodes_in, nodes_in_arms, nodes_in_matches, nodes_of}
+use Rattle.bound_tree.specs.Exprs as e
+use Rattle.bound_tree.specs.Exprs.{BoundArms, BoundExpr, BoundExprs, BoundMatches, NoExprs, AnExpr, NoArms, AnArm, NoMatches, AMatch}
+use Rattle.gen_expr.specs.Steps.{steps_of, steps_of_all, steps_of_others, steps_of_arms, steps_of_matches, test_steps}
 
 -- ---- every expression
-
--- two instructions fewer than three for each node
-abbrev ExprWithin : BoundExpr → Type 0
-ExprWithin x = steps_of x + 2 ≤ 3 * nodes_of x
-
-abbrev ArmWithin : BoundArm → Type 0
-ArmWithin x = arm_steps_of x ≤ 3 * nodes_of_arm x
-
-abbrev MatchWithin : BoundMatch → Type 0
-MatchWithin x = match_steps_of x ≤ 3 * nodes_of_match x
-
--- an expression, an arm or a match with a proof that it is within
-abbrev Expr' : Type 0
-Expr' = (x : BoundExpr) × ExprWithin x
-
-abbrev Arm' : Type 0
-Arm' = (x : BoundArm) × ArmWithin x
-
-abbrev Match' : Type 0
-Match' = (x : BoundMatch) × MatchWithin x
-
-sum-cons : (n : ℕ) (ns : List ℕ) → sum (n ∷ ns) ≡ n + sum ns
-sum-cons n ns = sum_by-cons (λ k. k) n ns
-
-twos-within : (xs : List Expr') → sum_by and_two (map steps_of (map (λ e. e.0) xs)) ≤ 3 * all_nodes (map (λ e. e.0) xs)
-twos-within [] = omega arith
-twos-within (x ∷ xs) = omega (arith, x.1, twos-within xs, sum_by-cons and_two (steps_of x.0) (map steps_of (map (λ e. e.0) xs)))
-
-all-within : (xs : List Expr') → sum (map steps_of (map (λ e. e.0) xs)) ≤ 3 * all_nodes (map (λ e. e.0) xs)
-all-within [] = omega arith
-all-within (x ∷ xs) = omega (arith, x.1, all-within xs, sum-cons (steps_of x.0) (map steps_of (map (λ e. e.0) xs)))
-
-abbrev plain : BoundExpr-F Expr' Arm' Match' → BoundExpr-F BoundExpr BoundArm BoundMatch
-plain = map-BoundExpr Expr' Arm' Match' BoundExpr BoundArm BoundMatch (λ e. e.0) (λ e. e.0) (λ e. e.0)
-
-abbrev stepped : BoundExpr-F BoundExpr BoundArm BoundMatch → ℕ
-stepped y = steps_step (map-BoundExpr BoundExpr BoundArm BoundMatch ℕ ℕ ℕ steps_of arm_steps_of match_steps_of y)
-
-abbrev noded : BoundExpr-F BoundExpr BoundArm BoundMatch → ℕ
-noded y = nodes_step (map-BoundExpr BoundExpr BoundArm BoundMatch ℕ ℕ ℕ nodes_of nodes_of_arm nodes_of_match y)
-
-choose-within : (arms : List Arm') (otherwise : Expr') → stepped (plain (BoundExpr-F.Choose arms otherwise)) + 2 ≤ 3 * noded (plain (BoundExpr-F.Choose arms otherwise))
-choose-within [] otherwise = omega (arith, otherwise.1)
-choose-within (x ∷ arms) otherwise = omega (arith, x.1, choose-within arms otherwise, sum-cons (arm_steps_of x.0) (map arm_steps_of (map (λ e. e.0) arms)))
-
-match-within : (a : Expr') (arms : List Match') (otherwise : Expr') → stepped (plain (BoundExpr-F.Match a arms otherwise)) + 2 ≤ 3 * noded (plain (BoundExpr-F.Match a arms otherwise))
-match-within a [] otherwise = omega (arith, a.1, otherwise.1)
-match-within a (x ∷ arms) otherwise = omega (arith, x.1, match-within a arms otherwise, sum-cons (match_steps_of x.0) (map match_steps_of (map (λ e. e.0) arms)))
 
 -- a test has at most two
 test_few : (op : BinaryOperator) → test_steps op ≤ 2
@@ -75,32 +24,47 @@ test_few (binary.Is sides) = omega arith
 test_few binary.Like = omega arith
 test_few binary.Glob = omega arith
 
-step-within : (y : BoundExpr-F Expr' Arm' Match') → stepped (plain y) + 2 ≤ 3 * noded (plain y)
-step-within (BoundExpr-F.Literal l) = omega arith
-step-within (BoundExpr-F.Column item place) = omega arith
-step-within (BoundExpr-F.Parameter number) = omega arith
-step-within (BoundExpr-F.Unary op a) = omega (arith, a.1)
-step-within (BoundExpr-F.Binary op a b) = omega (arith, a.1, b.1, test_few op)
-step-within (BoundExpr-F.LikeEscaped a b c) = omega (arith, a.1, b.1, c.1)
-step-within (BoundExpr-F.Between above below a low high) = omega (arith, a.1, low.1, high.1)
-step-within (BoundExpr-F.In sides a others) = omega (arith, a.1, twos-within others)
-step-within (BoundExpr-F.Coalesce es) = omega (arith, twos-within es)
-step-within (BoundExpr-F.Choose arms otherwise) = choose-within arms otherwise
-step-within (BoundExpr-F.Match a arms otherwise) = match-within a arms otherwise
-step-within (BoundExpr-F.Call f collation args) = omega (arith, all-within args)
+mutual
+  -- an expression takes at most three instructions for each node, less two
+  pub steps_and_two_within : (x : BoundExpr) → steps_of x + 2 ≤ 3 * nodes_of x
+  steps_and_two_within (e.Literal l) = omega arith
+  steps_and_two_within (e.Parameter number) = omega arith
+  steps_and_two_within (e.Column item place) = omega arith
+  steps_and_two_within (e.Rowid item) = omega arith
+  steps_and_two_within (e.Argument place) = omega arith
+  steps_and_two_within (e.Aggregate slot) = omega arith
+  steps_and_two_within (e.Unary op a) = omega (arith, steps_and_two_within a)
+  steps_and_two_within (e.Binary op a b) = omega (arith, steps_and_two_within a, steps_and_two_within b, test_few op)
+  steps_and_two_within (e.LikeEscaped a b c) = omega (arith, steps_and_two_within a, steps_and_two_within b, steps_and_two_within c)
+  steps_and_two_within (e.Between above below a low high) = omega (arith, steps_and_two_within a, steps_and_two_within low, steps_and_two_within high)
+  steps_and_two_within (e.InList sides a others) = omega (arith, steps_and_two_within a, others-within others)
+  steps_and_two_within (e.ChooseArm arms otherwise) = omega (arith, arms-within arms, steps_and_two_within otherwise)
+  steps_and_two_within (e.MatchArm a arms otherwise) = omega (arith, steps_and_two_within a, matches-within arms, steps_and_two_within otherwise)
+  steps_and_two_within (e.Iif a b c) = omega (arith, steps_and_two_within a, steps_and_two_within b, steps_and_two_within c)
+  steps_and_two_within (e.CoalesceList f es) = omega (arith, others-within es)
+  steps_and_two_within (e.CallBuiltin f collation args) = omega (arith, all-within args)
+  steps_and_two_within (e.CallHost name args) = omega arith
+  steps_and_two_within (e.ScalarOf unit args) = omega arith
+  steps_and_two_within (e.ExistsIn unit args) = omega arith
+  steps_and_two_within (e.InUnit sides a unit args) = omega arith
+  steps_and_two_within e.RaiseIgnore = omega arith
+  steps_and_two_within (e.RaiseAbort text) = omega arith
 
-arm_step-within : (y : BoundArm-F Expr' Arm' Match') → steps_of y.condition.0 + steps_of y.value.0 + 4 ≤ 3 * (1 + nodes_of y.condition.0 + nodes_of y.value.0)
-arm_step-within y = omega (arith, y.condition.1, y.value.1)
+  all-within : (xs : BoundExprs) → steps_of_all xs ≤ 3 * nodes_in xs
+  all-within NoExprs = omega arith
+  all-within (AnExpr a rest) = omega (arith, steps_and_two_within a, all-within rest)
 
-match_step-within : (y : BoundMatch-F Expr' Arm' Match') → steps_of y.operand.0 + steps_of y.value.0 + 5 ≤ 3 * (1 + nodes_of y.operand.0 + nodes_of y.value.0)
-match_step-within y = omega (arith, y.operand.1, y.value.1)
+  others-within : (xs : BoundExprs) → steps_of_others xs ≤ 3 * nodes_in xs
+  others-within NoExprs = omega arith
+  others-within (AnExpr a rest) = omega (arith, steps_and_two_within a, others-within rest)
 
--- an expression takes at most three instructions for each node, less two
-pub steps_and_two_within : (x : BoundExpr) → steps_of x + 2 ≤ 3 * nodes_of x
-steps_and_two_within = ind-BoundExpr ExprWithin ArmWithin MatchWithin
-    (λ x y is. rw (fold-roll-BoundExpr ℕ ℕ ℕ steps_step arm_step match_step x, fold-roll-BoundExpr ℕ ℕ ℕ nodes_step arm_nodes_step match_nodes_step x) (subst (λ z. stepped z + 2 ≤ 3 * noded z) is (step-within y)))
-    (λ x y is. rw (fold-roll-BoundArm ℕ ℕ ℕ steps_step arm_step match_step x, fold-roll-BoundArm ℕ ℕ ℕ nodes_step arm_nodes_step match_nodes_step x) (subst (λ (z : BoundArm-F BoundExpr BoundArm BoundMatch). steps_of z.condition + steps_of z.value + 4 ≤ 3 * (1 + nodes_of z.condition + nodes_of z.value)) is (arm_step-within y)))
-    (λ x y is. rw (fold-roll-BoundMatch ℕ ℕ ℕ steps_step arm_step match_step x, fold-roll-BoundMatch ℕ ℕ ℕ nodes_step arm_nodes_step match_nodes_step x) (subst (λ (z : BoundMatch-F BoundExpr BoundArm BoundMatch). steps_of z.operand + steps_of z.value + 5 ≤ 3 * (1 + nodes_of z.operand + nodes_of z.value)) is (match_step-within y)))
+  arms-within : (xs : BoundArms) → steps_of_arms xs ≤ 3 * nodes_in_arms xs
+  arms-within NoArms = omega arith
+  arms-within (AnArm a b rest) = omega (arith, steps_and_two_within a, steps_and_two_within b, arms-within rest)
+
+  matches-within : (xs : BoundMatches) → steps_of_matches xs ≤ 3 * nodes_in_matches xs
+  matches-within NoMatches = omega arith
+  matches-within (AMatch sides a b rest) = omega (arith, steps_and_two_within a, steps_and_two_within b, matches-within rest)
 
 -- an expression has a node
 pub some_nodes : (x : BoundExpr) → 1 ≤ nodes_of x

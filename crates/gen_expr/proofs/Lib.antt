@@ -3,6 +3,6 @@ pub mod Deciding
 pub mod Forms
 pub mod Stretches
 pub mod StepLaws
-pub mod Expressions
+pub mod Codes
 pub mod Assembly
 pub mod Bounds

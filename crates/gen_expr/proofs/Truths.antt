@@ -1,5 +1,5 @@
 -- Operators that give truths.
-use Rattle.std.proofs.Common.{◌≡◌, Bool, true, false, not, pos, List, [], ◌∷◌, fold, map, refl}
+use Rattle.std.proofs.Common.{◌≡◌, Bool, true, false, not, pos, List, [], ◌∷◌, fold, refl}
 use Rattle.std.specs.Ordering.{int_eq, is_eq}
 use Rattle.eng_value.specs.Applied.{is_null_of, not_null_of, falsehood_of, member_of, or_equal}
 use Rattle.eng_value.specs.Casts.{to_number, to_text}
@@ -18,10 +18,9 @@ use Rattle.eng_value.specs.declared.truth.Truth.TheVariants.{True, False, Unknow
 use Rattle.eng_value.specs.declared.value.Value.{Value}
 use Rattle.eng_value.specs.declared.value.Value.TheVariants.{Null, Integer, Text, Blob}
 use Rattle.gen_expr.specs.Truths.{GivesTruth, IsTruth}
-use Rattle.sql_meaning.specs.Clauses.{value_of-Between, value_of-In, value_of-LikeEscaped}
-use Rattle.sql_meaning.specs.Expression.{in_all, value_of}
-use Rattle.sql_meaning.specs.declared.bound.BoundExpr.{BoundExpr}
-use Rattle.sql_meaning.specs.declared.bound.BoundExpr.TheVariants as e
+use Rattle.bound_tree.specs.Exprs as e
+use Rattle.bound_tree.specs.Exprs.{BoundExpr, BoundExprs}
+use Rattle.sql_meaning.specs.Expression.{value_of, values_of}
 
 -- ---- what a truth is
 
@@ -174,10 +173,10 @@ member_truth keys sides a others = found_truth keys sides a (falsehood_of a) oth
 -- ---- the expressions of these operators
 
 pub like_escaped_gives : (x y z : BoundExpr) → GivesTruth (e.LikeEscaped x y z)
-like_escaped_gives x y z env = rw (value_of-LikeEscaped x y z env) (like_escaped_truth _ _ _)
+like_escaped_gives x y z env = like_escaped_truth _ _ _
 
 pub between_gives : (above below : Sides) (x y z : BoundExpr) → GivesTruth (e.Between above below x y z)
-between_gives above below x y z env = rw (value_of-Between above below x y z env) (and_truth _ _)
+between_gives above below x y z env = and_truth _ _
 
-pub in_gives : (sides : Sides) (x : BoundExpr) (es : List BoundExpr) → GivesTruth (e.In sides x es)
-in_gives sides x es env = rw (value_of-In sides x es env) (member_truth (keys_of env.hosts) sides (value_of x env) (in_all (map value_of es) env))
+pub in_gives : (sides : Sides) (x : BoundExpr) (es : BoundExprs) → GivesTruth (e.InList sides x es)
+in_gives sides x es env = member_truth (keys_of env.hosts) sides (value_of x env) (values_of es env)

@@ -1,14 +1,9 @@
 -- How many instructions an expression takes at most.
-use Rattle.std.specs.Prelude.{ℕ, ◌+◌, sum, sum_by}
+use Rattle.std.specs.Prelude.{ℕ, ◌+◌}
 use Rattle.eng_value.specs.declared.operators.BinaryOperator.{BinaryOperator}
 use Rattle.eng_value.specs.declared.operators.BinaryOperator.TheVariants as binary
-use Rattle.sql_meaning.specs.declared.bound.BoundArm.{BoundArm, fold-BoundArm}
-use Rattle.sql_meaning.specs.declared.bound.BoundExpr.{BoundExpr, fold-BoundExpr}
-use Rattle.sql_meaning.specs.declared.bound.BoundMatch.{BoundMatch, fold-BoundMatch}
-use Rattle.sql_meaning.specs.declared.bound.BoundExpr.TheOpen.{BoundExpr-F, BoundArm-F, BoundMatch-F}
-
-abbrev pub and_two : ℕ → ℕ
-and_two n = n + 2
+use Rattle.bound_tree.specs.Exprs as e
+use Rattle.bound_tree.specs.Exprs.{BoundArm, BoundArms, BoundExpr, BoundExprs, BoundMatch, BoundMatches, NoExprs, AnExpr, NoArms, AnArm, NoMatches, AMatch}
 
 -- those of a test whether the left side decides alone
 abbrev pub test_steps : BinaryOperator → ℕ
@@ -16,31 +11,50 @@ test_steps binary.And = 2
 test_steps binary.Or = 2
 test_steps other = 0
 
-abbrev pub steps_step : BoundExpr-F ℕ ℕ ℕ → ℕ
-steps_step (BoundExpr-F.Literal l) = 1
-steps_step (BoundExpr-F.Column item place) = 1
-steps_step (BoundExpr-F.Parameter number) = 1
-steps_step (BoundExpr-F.Unary op a) = a + 1
-steps_step (BoundExpr-F.Binary op a b) = a + b + 1 + test_steps op
-steps_step (BoundExpr-F.LikeEscaped a b c) = a + b + c + 1
-steps_step (BoundExpr-F.Between above below a low high) = a + low + high + 3
-steps_step (BoundExpr-F.In sides a others) = a + 2 + sum_by and_two others
-steps_step (BoundExpr-F.Coalesce es) = sum_by and_two es + 1
-steps_step (BoundExpr-F.Choose arms otherwise) = sum arms + otherwise
-steps_step (BoundExpr-F.Match a arms otherwise) = a + sum arms + otherwise
-steps_step (BoundExpr-F.Call f collation args) = sum args + 1
+abbrev mutual
+  pub steps_of : BoundExpr → ℕ
+  steps_of (e.Literal l) = 1
+  steps_of (e.Parameter number) = 1
+  steps_of (e.Column item place) = 1
+  steps_of (e.Rowid item) = 1
+  steps_of (e.Argument place) = 1
+  steps_of (e.Aggregate slot) = 1
+  steps_of (e.Unary op a) = steps_of a + 1
+  steps_of (e.Binary op a b) = steps_of a + steps_of b + 1 + test_steps op
+  steps_of (e.LikeEscaped a b c) = steps_of a + steps_of b + steps_of c + 1
+  steps_of (e.Between above below a low high) = steps_of a + steps_of low + steps_of high + 3
+  steps_of (e.InList sides a others) = steps_of a + 2 + steps_of_others others
+  steps_of (e.ChooseArm arms otherwise) = steps_of_arms arms + steps_of otherwise
+  steps_of (e.MatchArm a arms otherwise) = steps_of a + steps_of_matches arms + steps_of otherwise
+  steps_of (e.Iif a b c) = steps_of a + steps_of b + 4 + steps_of c
+  steps_of (e.CoalesceList f es) = steps_of_others es + 1
+  steps_of (e.CallBuiltin f collation args) = steps_of_all args + 1
+  steps_of (e.CallHost name args) = 1
+  steps_of (e.ScalarOf unit args) = 1
+  steps_of (e.ExistsIn unit args) = 1
+  steps_of (e.InUnit sides a unit args) = 1
+  steps_of e.RaiseIgnore = 1
+  steps_of (e.RaiseAbort text) = 1
 
-abbrev pub arm_step : BoundArm-F ℕ ℕ ℕ → ℕ
-arm_step arm = arm.condition + arm.value + 4
+  pub steps_of_all : BoundExprs → ℕ
+  steps_of_all NoExprs = 0
+  steps_of_all (AnExpr a rest) = steps_of a + steps_of_all rest
 
-abbrev pub match_step : BoundMatch-F ℕ ℕ ℕ → ℕ
-match_step arm = arm.operand + arm.value + 5
+  -- each with a test behind it
+  pub steps_of_others : BoundExprs → ℕ
+  steps_of_others NoExprs = 0
+  steps_of_others (AnExpr a rest) = steps_of a + 2 + steps_of_others rest
 
-abbrev pub steps_of : BoundExpr → ℕ
-steps_of = fold-BoundExpr ℕ ℕ ℕ steps_step arm_step match_step
+  pub steps_of_arms : BoundArms → ℕ
+  steps_of_arms NoArms = 0
+  steps_of_arms (AnArm a b rest) = steps_of a + steps_of b + 4 + steps_of_arms rest
+
+  pub steps_of_matches : BoundMatches → ℕ
+  steps_of_matches NoMatches = 0
+  steps_of_matches (AMatch sides a b rest) = steps_of a + steps_of b + 5 + steps_of_matches rest
 
 abbrev pub arm_steps_of : BoundArm → ℕ
-arm_steps_of = fold-BoundArm ℕ ℕ ℕ steps_step arm_step match_step
+arm_steps_of arm = steps_of arm.condition + steps_of arm.value + 4
 
 abbrev pub match_steps_of : BoundMatch → ℕ
-match_steps_of = fold-BoundMatch ℕ ℕ ℕ steps_step arm_step match_step
+match_steps_of arm = steps_of arm.operand + steps_of arm.value + 5

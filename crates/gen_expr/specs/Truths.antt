@@ -4,7 +4,7 @@ use Rattle.eng_value.specs.Environments.{Environment}
 use Rattle.eng_value.specs.Truths.{truth_of}
 use Rattle.eng_value.specs.declared.out.Out.{Out}
 use Rattle.sql_meaning.specs.Expression.{value_of}
-use Rattle.sql_meaning.specs.declared.bound.BoundExpr.{BoundExpr}
+use Rattle.bound_tree.specs.Exprs.{BoundExpr}
 
 -- it is its own truth: 1, 0, NULL or bad
 abbrev pub IsTruth : Out → Type 0

@@ -2,79 +2,96 @@
 ghost use Rattle.std.specs.Prelude.{◌≡◌, ◌+◌, ◌<◌, ◌≤◌, [], ◌∷◌, OnOk, IfOk, map, sum_by};
 ghost use Rattle.eng_value.specs.Applied.{binary_of, member_of};
 ghost use Rattle.eng_value.specs.Collations.{keys_of};
-ghost use Rattle.eng_value.specs.Truths.{truth_of};
+ghost use Rattle.bound_tree.specs.Exprs as e;
+ghost use Rattle.bound_tree.specs.Seen.{seen, seen_arm, seen_match};
+ghost use Rattle.eng_value.specs.Truths.{choice_of, truth_of};
 ghost use Rattle.gen_expr.specs.Parts.{IsDecidedBy};
 ghost use Rattle.gen_expr.specs.Steps.{arm_steps_of, match_steps_of, steps_of, test_steps};
 ghost use Rattle.sql_meaning.specs.Expression.{arm_of, chosen_in, first_known, in_all, match_of, matched_in, value_of};
 ghost use Rattle.vm_code.specs.Frames.{Leaves, Offers, no_calls};
 
 use crate::giving::gives_truth;
-use crate::literals::{constant, emit_literal};
+use crate::literals::{constant, emit_literal, emit_unbuilt};
 use crate::parts::{
     Operands, begin_member, between, binary, call, deciding, leave_arm, like_escaped, or_equal,
-    read_column, read_parameter, test_arm, test_left, unary, unless_null,
+    read_column, read_parameter, read_rowid, test_arm, test_left, unary, unless_null,
 };
+use bound_tree::{ArmTree, ExprTree, MatchTree};
 use eng_value::{BinaryOperator, CompareOp, Sides, UnaryOperator};
-use sql_meaning::{BoundArm, BoundExpr, BoundMatch};
 use sqlite_items::Items;
 use std::alloc::{AllocError, Global};
 use vm_code::{Builder, Op, Operand};
 
-/// Writes code that leaves what an expression comes to in the register `to` and keeps the other registers that are taken. An
-/// item of the FROM is read through the cursor of the same number. Only memory, registers among it, can fail.
+/// Writes the code of a stored tree.
 #[cycle(emitting)]
-pub fn emit(alloc: Global, b: &mut Builder, e: &BoundExpr, to: u32) -> Result<(), AllocError>
+pub(crate) fn emit(alloc: Global, b: &mut Builder, e: &ExprTree, to: u32) -> Result<(), AllocError>
     requires taken { to < b.old.next }
     requires counted { b.old.next ≤ b.old.most }
-    ensures leaves { OnOk result (Leaves no_calls b.old b.new to (λ env. value_of e.now env) (λ _. steps_of e.now)) }
+    ensures leaves { OnOk result (Leaves no_calls b.old b.new to (λ env. value_of (seen e.now) env) (λ _. steps_of (seen e.now))) }
     ensures units { OnOk result (b.new.units ≡ b.old.units) }
     ensures cursors { OnOk result (b.new.cursors ≡ b.old.cursors) }
 {
     let first = b.next_register();
     match e {
-        BoundExpr::Literal(literal) => emit_literal(b, literal, to)?,
-        BoundExpr::Column { item, column } => read_column(b, *item, *column, to)?,
-        BoundExpr::Parameter(number) => read_parameter(b, *number, to)?,
-        BoundExpr::Unary(operator, inner) => {
+        ExprTree::Literal(literal) => emit_literal(b, literal, to)?,
+        ExprTree::Column { item, column } => read_column(b, *item, *column, to)?,
+        ExprTree::Rowid { item } => read_rowid(b, *item, to)?,
+        ExprTree::Parameter(number) => read_parameter(b, *number, to)?,
+        ExprTree::Unary(operator, inner) => {
             let inner = operand(alloc, b, inner.get())?;
             unary(b, *operator, inner, first, to)?;
         }
-        BoundExpr::Binary(operator, left, right) => {
+        ExprTree::Binary(operator, left, right) => {
             emit_binary(alloc, b, *operator, left.get(), right.get(), to)?;
         }
-        BoundExpr::LikeEscaped(text, pattern, escape) => {
+        ExprTree::LikeEscaped(text, pattern, escape) => {
             let operands = three_operands(alloc, b, text.get(), pattern.get(), escape.get())?;
             like_escaped(b, operands, first, to)?;
         }
-        BoundExpr::Between(above, below, tested, low, high) => {
+        ExprTree::Between(above, below, tested, low, high) => {
             let operands = three_operands(alloc, b, tested.get(), low.get(), high.get())?;
             between(b, *above, *below, operands, first, to)?;
         }
-        BoundExpr::In(sides, tested, others) => {
+        ExprTree::In(sides, tested, others) => {
             emit_member(alloc, b, *sides, tested.get(), others.as_slice(), to)?;
         }
-        BoundExpr::Coalesce(operands) => emit_known(alloc, b, operands.as_slice(), to)?,
-        BoundExpr::Choose(arms, otherwise) => {
+        ExprTree::Coalesce(_, operands) => emit_known(alloc, b, operands.as_slice(), to)?,
+        ExprTree::Iif(condition, value, otherwise) => {
+            emit_iif(alloc, b, condition.get(), value.get(), otherwise.get(), to)?;
+        }
+        ExprTree::Choose(arms, otherwise) => {
             emit_choice(alloc, b, arms.as_slice(), otherwise.get(), to)?;
         }
-        BoundExpr::Match(tested, arms, otherwise) => {
+        ExprTree::Match(tested, arms, otherwise) => {
             emit_match(alloc, b, tested.get(), arms.as_slice(), otherwise.get(), to)?;
         }
-        BoundExpr::Call(function, collation, args) => {
+        ExprTree::Call(function, collation, args) => {
             let args = all_operands(alloc, b, args.as_slice())?;
             call(b, *function, *collation, args, first, to)?;
         }
+        ExprTree::Argument(_)
+        | ExprTree::Aggregate(_)
+        | ExprTree::HostCall(_, _)
+        | ExprTree::Scalar(_, _)
+        | ExprTree::Exists(_, _)
+        | ExprTree::InQuery(_, _, _, _)
+        | ExprTree::RaiseIgnore
+        | ExprTree::RaiseAbort(_) => emit_unbuilt(b, to)?,
     }
     Ok(())
 }
 
-/// Writes code that leaves the truth of an expression in the register `to`, as `emit` leaves its value. What gives truths already needs
-/// no instruction more.
+/// Writes code that leaves the truth of a stored tree. What gives truths already needs no instruction more.
 #[cycle(emitting)]
-pub fn emit_truth(alloc: Global, b: &mut Builder, e: &BoundExpr, to: u32) -> Result<(), AllocError>
+pub(crate) fn emit_truth(
+    alloc: Global,
+    b: &mut Builder,
+    e: &ExprTree,
+    to: u32,
+) -> Result<(), AllocError>
     requires taken { to < b.old.next }
     requires counted { b.old.next ≤ b.old.most }
-    ensures leaves { OnOk result (Leaves no_calls b.old b.new to (λ env. truth_of (value_of e.now env)) (λ _. steps_of e.now + 1)) }
+    ensures leaves { OnOk result (Leaves no_calls b.old b.new to (λ env. truth_of (value_of (seen e.now) env)) (λ _. steps_of (seen e.now) + 1)) }
     ensures units { OnOk result (b.new.units ≡ b.old.units) }
     ensures cursors { OnOk result (b.new.cursors ≡ b.old.cursors) }
 {
@@ -91,17 +108,17 @@ pub fn emit_truth(alloc: Global, b: &mut Builder, e: &BoundExpr, to: u32) -> Res
 
 // What an operator makes of two expressions.
 #[cycle(emitting)]
-fn emit_binary(
+pub(crate) fn emit_binary(
     alloc: Global,
     b: &mut Builder,
     operator: BinaryOperator,
-    left: &BoundExpr,
-    right: &BoundExpr,
+    left: &ExprTree,
+    right: &ExprTree,
     to: u32,
 ) -> Result<(), AllocError>
     requires taken { to < b.old.next }
     requires counted { b.old.next ≤ b.old.most }
-    ensures leaves { OnOk result (Leaves no_calls b.old b.new to (λ env. binary_of (keys_of env.hosts) operator (value_of left.now env) (value_of right.now env)) (λ _. steps_of left.now + steps_of right.now + 1 + test_steps operator)) }
+    ensures leaves { OnOk result (Leaves no_calls b.old b.new to (λ env. binary_of (keys_of env.hosts) operator (value_of (seen left.now) env) (value_of (seen right.now) env)) (λ _. steps_of (seen left.now) + steps_of (seen right.now) + 1 + test_steps operator)) }
     ensures units { OnOk result (b.new.units ≡ b.old.units) }
     ensures cursors { OnOk result (b.new.cursors ≡ b.old.cursors) }
 {
@@ -121,14 +138,14 @@ fn emit_decided(
     b: &mut Builder,
     operator: BinaryOperator,
     wanted: bool,
-    left: &BoundExpr,
-    right: &BoundExpr,
+    left: &ExprTree,
+    right: &ExprTree,
     to: u32,
 ) -> Result<(), AllocError>
     requires decided { IsDecidedBy operator wanted }
     requires taken { to < b.old.next }
     requires counted { b.old.next ≤ b.old.most }
-    ensures leaves { OnOk result (Leaves no_calls b.old b.new to (λ env. binary_of (keys_of env.hosts) operator (value_of left.now env) (value_of right.now env)) (λ _. steps_of left.now + steps_of right.now + 3)) }
+    ensures leaves { OnOk result (Leaves no_calls b.old b.new to (λ env. binary_of (keys_of env.hosts) operator (value_of (seen left.now) env) (value_of (seen right.now) env)) (λ _. steps_of (seen left.now) + steps_of (seen right.now) + 3)) }
     ensures units { OnOk result (b.new.units ≡ b.old.units) }
     ensures cursors { OnOk result (b.new.cursors ≡ b.old.cursors) }
 {
@@ -143,19 +160,19 @@ fn emit_decided(
 // An operand that reads what an expression comes to. What is always the same, a parameter and a column take no code; anything
 // else is left in a register that it takes.
 #[cycle(emitting)]
-fn operand(alloc: Global, b: &mut Builder, e: &BoundExpr) -> Result<Operand, AllocError>
+fn operand(alloc: Global, b: &mut Builder, e: &ExprTree) -> Result<Operand, AllocError>
     requires counted { b.old.next ≤ b.old.most }
-    ensures offers { IfOk result (λ o. Offers no_calls b.old b.new (o ∷ []) (λ env. value_of e.now env ∷ []) (λ _. steps_of e.now)) }
+    ensures offers { IfOk result (λ o. Offers no_calls b.old b.new (o ∷ []) (λ env. value_of (seen e.now) env ∷ []) (λ _. steps_of (seen e.now))) }
     ensures units { OnOk result (b.new.units ≡ b.old.units) }
     ensures cursors { OnOk result (b.new.cursors ≡ b.old.cursors) }
 {
     match e {
-        BoundExpr::Literal(literal) => Ok(Operand::Constant(constant(alloc, literal)?)),
-        BoundExpr::Column { item, column } => Ok(Operand::Column {
+        ExprTree::Literal(literal) => Ok(Operand::Constant(constant(alloc, literal)?)),
+        ExprTree::Column { item, column } => Ok(Operand::Column {
             cursor: *item,
             column: *column,
         }),
-        BoundExpr::Parameter(number) => Ok(Operand::Parameter(*number)),
+        ExprTree::Parameter(number) => Ok(Operand::Parameter(*number)),
         _ => {
             let register = b.take()?;
             emit(alloc, b, e, register)?;
@@ -169,12 +186,12 @@ fn operand(alloc: Global, b: &mut Builder, e: &BoundExpr) -> Result<Operand, All
 fn three_operands(
     alloc: Global,
     b: &mut Builder,
-    x: &BoundExpr,
-    y: &BoundExpr,
-    z: &BoundExpr,
+    x: &ExprTree,
+    y: &ExprTree,
+    z: &ExprTree,
 ) -> Result<Operands, AllocError>
     requires counted { b.old.next ≤ b.old.most }
-    ensures offers { IfOk result (λ o. Offers no_calls b.old b.new (o.first ∷ o.second ∷ o.third ∷ []) (λ env. value_of x.now env ∷ value_of y.now env ∷ value_of z.now env ∷ []) (λ _. steps_of x.now + steps_of y.now + steps_of z.now)) }
+    ensures offers { IfOk result (λ o. Offers no_calls b.old b.new (o.first ∷ o.second ∷ o.third ∷ []) (λ env. value_of (seen x.now) env ∷ value_of (seen y.now) env ∷ value_of (seen z.now) env ∷ []) (λ _. steps_of (seen x.now) + steps_of (seen y.now) + steps_of (seen z.now))) }
     ensures units { OnOk result (b.new.units ≡ b.old.units) }
     ensures cursors { OnOk result (b.new.cursors ≡ b.old.cursors) }
 {
@@ -193,10 +210,10 @@ fn three_operands(
 fn all_operands(
     alloc: Global,
     b: &mut Builder,
-    all: &[BoundExpr],
+    all: &[ExprTree],
 ) -> Result<Items<Operand>, AllocError>
     requires counted { b.old.next ≤ b.old.most }
-    ensures offers { IfOk result (λ os. Offers no_calls b.old b.new os (λ env. in_all (map value_of all.now) env) (λ _. sum_by steps_of all.now)) }
+    ensures offers { IfOk result (λ os. Offers no_calls b.old b.new os (λ env. in_all (map value_of (map seen all.now)) env) (λ _. sum_by steps_of (map seen all.now))) }
     ensures units { OnOk result (b.new.units ≡ b.old.units) }
     ensures cursors { OnOk result (b.new.cursors ≡ b.old.cursors) }
 {
@@ -213,13 +230,13 @@ fn emit_member(
     alloc: Global,
     b: &mut Builder,
     sides: Sides,
-    tested: &BoundExpr,
-    others: &[BoundExpr],
+    tested: &ExprTree,
+    others: &[ExprTree],
     to: u32,
 ) -> Result<(), AllocError>
     requires taken { to < b.old.next }
     requires counted { b.old.next ≤ b.old.most }
-    ensures leaves { OnOk result (Leaves no_calls b.old b.new to (λ env. member_of (keys_of env.hosts) sides (value_of tested.now env) (in_all (map value_of others.now) env)) (λ _. steps_of tested.now + 2 + sum_by (λ e. steps_of e + 2) others.now)) }
+    ensures leaves { OnOk result (Leaves no_calls b.old b.new to (λ env. member_of (keys_of env.hosts) sides (value_of (seen tested.now) env) (in_all (map value_of (map seen others.now)) env)) (λ _. steps_of (seen tested.now) + 2 + sum_by (λ e. steps_of e + 2) (map seen others.now))) }
     ensures units { OnOk result (b.new.units ≡ b.old.units) }
     ensures cursors { OnOk result (b.new.cursors ≡ b.old.cursors) }
 {
@@ -240,12 +257,12 @@ fn emit_member(
 fn emit_known(
     alloc: Global,
     b: &mut Builder,
-    operands: &[BoundExpr],
+    operands: &[ExprTree],
     to: u32,
 ) -> Result<(), AllocError>
     requires taken { to < b.old.next }
     requires counted { b.old.next ≤ b.old.most }
-    ensures leaves { OnOk result (Leaves no_calls b.old b.new to (λ env. first_known (in_all (map value_of operands.now) env)) (λ _. sum_by (λ e. steps_of e + 2) operands.now + 1)) }
+    ensures leaves { OnOk result (Leaves no_calls b.old b.new to (λ env. first_known (in_all (map value_of (map seen operands.now)) env)) (λ _. sum_by (λ e. steps_of e + 2) (map seen operands.now) + 1)) }
     ensures units { OnOk result (b.new.units ≡ b.old.units) }
     ensures cursors { OnOk result (b.new.cursors ≡ b.old.cursors) }
 {
@@ -264,13 +281,13 @@ fn emit_known(
 fn emit_choice(
     alloc: Global,
     b: &mut Builder,
-    arms: &[BoundArm],
-    otherwise: &BoundExpr,
+    arms: &[ArmTree],
+    otherwise: &ExprTree,
     to: u32,
 ) -> Result<(), AllocError>
     requires taken { to < b.old.next }
     requires counted { b.old.next ≤ b.old.most }
-    ensures leaves { OnOk result (Leaves no_calls b.old b.new to (λ env. chosen_in env (map arm_of arms.now) (value_of otherwise.now env)) (λ _. sum_by arm_steps_of arms.now + steps_of otherwise.now)) }
+    ensures leaves { OnOk result (Leaves no_calls b.old b.new to (λ env. chosen_in env (map arm_of (map seen_arm arms.now)) (value_of (seen otherwise.now) env)) (λ _. sum_by arm_steps_of (map seen_arm arms.now) + steps_of (seen otherwise.now))) }
     ensures units { OnOk result (b.new.units ≡ b.old.units) }
     ensures cursors { OnOk result (b.new.cursors ≡ b.old.cursors) }
 {
@@ -286,20 +303,46 @@ fn emit_choice(
     Ok(())
 }
 
+// The one value where the condition is true, else the other; only one of them is evaluated.
+#[cycle(emitting)]
+fn emit_iif(
+    alloc: Global,
+    b: &mut Builder,
+    condition: &ExprTree,
+    value: &ExprTree,
+    otherwise: &ExprTree,
+    to: u32,
+) -> Result<(), AllocError>
+    requires taken { to < b.old.next }
+    requires counted { b.old.next ≤ b.old.most }
+    ensures leaves { OnOk result (Leaves no_calls b.old b.new to (λ env. choice_of (value_of (seen condition.now) env) (value_of (seen value.now) env) (value_of (seen otherwise.now) env)) (λ _. steps_of (e.Iif (seen condition.now) (seen value.now) (seen otherwise.now)))) }
+    ensures units { OnOk result (b.new.units ≡ b.old.units) }
+    ensures cursors { OnOk result (b.new.cursors ≡ b.old.cursors) }
+{
+    let end = b.label()?;
+    emit_truth(alloc, b, condition, to)?;
+    let next = test_arm(b, to, end)?;
+    emit(alloc, b, value, to)?;
+    leave_arm(b, end, next)?;
+    emit(alloc, b, otherwise, to)?;
+    b.bind(end)?;
+    Ok(())
+}
+
 // The value of the first arm whose operand is equal to a value, else the last one. The value is compared with each operand, and
 // stands in a register meanwhile; behind the arm nothing more is evaluated.
 #[cycle(emitting)]
 fn emit_match(
     alloc: Global,
     b: &mut Builder,
-    tested: &BoundExpr,
-    arms: &[BoundMatch],
-    otherwise: &BoundExpr,
+    tested: &ExprTree,
+    arms: &[MatchTree],
+    otherwise: &ExprTree,
     to: u32,
 ) -> Result<(), AllocError>
     requires taken { to < b.old.next }
     requires counted { b.old.next ≤ b.old.most }
-    ensures leaves { OnOk result (Leaves no_calls b.old b.new to (λ env. matched_in env (value_of tested.now env) (map match_of arms.now) (value_of otherwise.now env)) (λ _. steps_of tested.now + sum_by match_steps_of arms.now + steps_of otherwise.now)) }
+    ensures leaves { OnOk result (Leaves no_calls b.old b.new to (λ env. matched_in env (value_of (seen tested.now) env) (map match_of (map seen_match arms.now)) (value_of (seen otherwise.now) env)) (λ _. steps_of (seen tested.now) + sum_by match_steps_of (map seen_match arms.now) + steps_of (seen otherwise.now))) }
     ensures units { OnOk result (b.new.units ≡ b.old.units) }
     ensures cursors { OnOk result (b.new.cursors ≡ b.old.cursors) }
 {

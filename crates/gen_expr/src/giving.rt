@@ -1,24 +1,25 @@
 // Which expressions come to truths.
 ghost use Rattle.std.specs.Prelude.{◌≡◌, true};
+ghost use Rattle.bound_tree.specs.Seen.{seen};
 ghost use Rattle.eng_value.specs.Applied.{binary_of, unary_of};
 ghost use Rattle.eng_value.specs.Collations.{Keys};
 ghost use Rattle.eng_value.specs.declared.out.Out.{Out};
 ghost use Rattle.gen_expr.specs.Truths.{GivesTruth, IsTruth};
 
+use bound_tree::ExprTree;
 use eng_value::{BinaryOperator, UnaryOperator};
-use sql_meaning::BoundExpr;
 
 /// Whether an expression is known by its form to give truths.
 #[tactic(auto, using(crate::proofs::Truths::and_truth, crate::proofs::Truths::like_escaped_truth, crate::proofs::Truths::member_truth))]
-pub(crate) fn gives_truth(e: &BoundExpr) -> bool
-    ensures { result ≡ true → GivesTruth e.now }
+pub(crate) fn gives_truth(e: &ExprTree) -> bool
+    ensures { result ≡ true → GivesTruth (seen e.now) }
 {
     match e {
-        BoundExpr::Unary(operator, _) => unary_gives_truth(*operator),
-        BoundExpr::Binary(operator, _, _) => binary_gives_truth(*operator),
-        BoundExpr::LikeEscaped(_, _, _) => true,
-        BoundExpr::Between(_, _, _, _, _) => true,
-        BoundExpr::In(_, _, _) => true,
+        ExprTree::Unary(operator, _) => unary_gives_truth(*operator),
+        ExprTree::Binary(operator, _, _) => binary_gives_truth(*operator),
+        ExprTree::LikeEscaped(_, _, _) => true,
+        ExprTree::Between(_, _, _, _, _) => true,
+        ExprTree::In(_, _, _) => true,
         _ => false,
     }
 }

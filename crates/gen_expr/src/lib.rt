@@ -10,9 +10,10 @@
 #![tactic(auto)]
 
 mod emitting;
+mod expressions;
 mod giving;
 mod literals;
 mod parts;
 
-pub use emitting::{emit, emit_truth};
+pub use expressions::{emit, emit_comparison, emit_truth};
 pub use literals::emit_literal;

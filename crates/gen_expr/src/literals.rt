@@ -1,10 +1,10 @@
 // What literals stand for, and their code.
 ghost use Rattle.std.specs.Prelude.{◌≡◌, ◌<◌, ◌≤◌, IfOk, OnOk};
 ghost use Rattle.eng_value.specs.declared.out.Out.TheVariants.{Good};
-ghost use Rattle.sql_meaning.specs.Expression.{literal_out};
+ghost use Rattle.sql_meaning.specs.Expression.{literal_out, unbuilt};
 ghost use Rattle.vm_code.specs.Frames.{Leaves, no_calls};
 
-use eng_value::{Out, Value};
+use eng_value::{Cause, Out, Value};
 use sql_words::Literal;
 use std::alloc::{AllocError, Global};
 use vm_code::{Builder, Constant, Op};
@@ -35,6 +35,17 @@ pub fn emit_literal(b: &mut Builder, literal: &Literal, to: u32) -> Result<(), A
         })?,
     }
     Ok(())
+}
+
+/// Writes code that leaves the cause of what does not run yet.
+pub(crate) fn emit_unbuilt(b: &mut Builder, to: u32) -> Result<(), AllocError>
+    requires taken { to < b.old.next }
+    requires counted { b.old.next ≤ b.old.most }
+    ensures leaves { OnOk result (Leaves no_calls b.old b.new to (λ _. unbuilt) (λ _. 1)) }
+    ensures units { OnOk result (b.new.units ≡ b.old.units) }
+    ensures cursors { OnOk result (b.new.cursors ≡ b.old.cursors) }
+{
+    emit_literal(b, &Literal::Bad(Cause::NotYet), to)
 }
 
 fn emit_value(b: &mut Builder, value: &Value, to: u32) -> Result<(), AllocError>

@@ -1,12 +1,13 @@
 // What stands behind the codes of operands: instructions that read their values.
 ghost use Rattle.std.specs.Prelude.{◌≡◌, ◌≤◌, true, OnOk, IfOk, IfSome, None, Some, length, slice_get};
+ghost use Rattle.bound_tree.specs.Seen.{seen};
 ghost use Rattle.gen_expr.specs.Parts.{IsDecidedBy, jump_on, with_arm_left, with_arm_tested, with_between, with_known_left, with_left_tested, with_like_escaped, with_member_begun, with_or_equal};
 ghost use Rattle.gen_expr.specs.Steps.{steps_of, test_steps};
 ghost use Rattle.vm_code.specs.Draft.{released, with_op};
 ghost use Rattle.vm_code.specs.declared.op.Op.TheVariants as op;
 
+use bound_tree::ExprTree;
 use eng_value::{BinaryOperator, Builtin, Collation, CompareOp, Sides, UnaryOperator};
-use sql_meaning::BoundExpr;
 use sqlite_items::Items;
 use std::alloc::AllocError;
 use vm_code::{Builder, Op, Operand};
@@ -29,6 +30,13 @@ pub(crate) fn read_column(
     ensures { OnOk result (b.new ≡ with_op b.old (op.Column cursor column to)) }
 {
     b.op(Op::Column { cursor, column, to })
+}
+
+/// The rowid of the row of the item of the cursor with this number.
+pub(crate) fn read_rowid(b: &mut Builder, cursor: u32, to: u32) -> Result<(), AllocError>
+    ensures { OnOk result (b.new ≡ with_op b.old (op.Rowid cursor to)) }
+{
+    b.op(Op::Rowid { cursor, to })
 }
 
 /// The parameter of this number.
@@ -82,7 +90,7 @@ pub(crate) fn binary(
 
 /// The truth of the left side that decides an operator alone, where it has one, so that the right side need not be evaluated. There
 /// is none, either, where the right side is so short that a test of the left one gains nothing.
-pub(crate) fn deciding(operator: BinaryOperator, right: &BoundExpr) -> Option<bool>
+pub(crate) fn deciding(operator: BinaryOperator, right: &ExprTree) -> Option<bool>
     ensures decided { IfSome result (λ wanted. IsDecidedBy operator wanted) }
     ensures steps { IfSome result (λ _. test_steps operator ≡ 2) }
 {
@@ -97,14 +105,14 @@ pub(crate) fn deciding(operator: BinaryOperator, right: &BoundExpr) -> Option<bo
 }
 
 /// Whether an expression is a leaf or a comparison of two leaves.
-fn is_short(e: &BoundExpr) -> bool
-    ensures { result ≡ true → steps_of e.now ≤ 3 }
+fn is_short(e: &ExprTree) -> bool
+    ensures { result ≡ true → steps_of (seen e.now) ≤ 3 }
 {
     match e {
-        BoundExpr::Binary(BinaryOperator::Compare(_, _), left, right) => {
+        ExprTree::Binary(BinaryOperator::Compare(_, _), left, right) => {
             is_leaf(left.get()) && is_leaf(right.get())
         }
-        BoundExpr::Binary(BinaryOperator::Is(_), left, right) => {
+        ExprTree::Binary(BinaryOperator::Is(_), left, right) => {
             is_leaf(left.get()) && is_leaf(right.get())
         }
         _ => is_leaf(e),
@@ -112,13 +120,13 @@ fn is_short(e: &BoundExpr) -> bool
 }
 
 /// Whether an expression has no code as an operand.
-fn is_leaf(e: &BoundExpr) -> bool
-    ensures { result ≡ true → steps_of e.now ≡ 1 }
+fn is_leaf(e: &ExprTree) -> bool
+    ensures { result ≡ true → steps_of (seen e.now) ≡ 1 }
 {
     match e {
-        BoundExpr::Literal(_) => true,
-        BoundExpr::Column { item: _, column: _ } => true,
-        BoundExpr::Parameter(_) => true,
+        ExprTree::Literal(_) => true,
+        ExprTree::Column { item: _, column: _ } => true,
+        ExprTree::Parameter(_) => true,
         _ => false,
     }
 }

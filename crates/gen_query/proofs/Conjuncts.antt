@@ -19,7 +19,7 @@ use Rattle.gen_expr.specs.Steps.{steps_of}
 use Rattle.gen_query.specs.Queries.{conjuncts_steps}
 use Rattle.sql_meaning.specs.Expression.{value_of}
 use Rattle.sql_meaning.specs.Statement.{after_conjunct, if_some, sifted}
-use Rattle.sql_meaning.specs.declared.bound.BoundExpr.{BoundExpr}
+use Rattle.bound_tree.specs.Exprs.{BoundExpr}
 use Rattle.vm_code.specs.declared.op.Op.TheVariants as op
 use Rattle.vm_code.specs.Draft.{Draft, with_op, taken, given_back}
 use Rattle.vm_code.specs.Tracked.{Steady}

@@ -6,7 +6,7 @@ use Rattle.eng_value.specs.Environments.{no_causes}
 use Rattle.gen_query.specs.Queries.{by_world, gives, items_seen, row_effect, row_steps, rows_in_turn_steps, values_effect}
 use Rattle.gen_query.proofs.Listing.{gives_done, gives_quit, gives-more, gives-no_more, with_given-nil}
 use Rattle.sql_meaning.specs.Statement.{Item, shown}
-use Rattle.sql_meaning.specs.declared.bound.BoundExpr.{BoundExpr}
+use Rattle.bound_tree.specs.Exprs.{BoundExpr}
 use Rattle.vm_code.specs.Draft.{Draft}
 use Rattle.vm_code.specs.Machine.{Scene, Setting, cursor_at, read}
 use Rattle.vm_code.specs.Frames.{Here, environment_of, sight_of, Memory, memory_of, Effect, effect_at, Done, Does, Shut, no_calls}

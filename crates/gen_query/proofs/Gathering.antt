@@ -8,7 +8,7 @@ use Rattle.eng_value.specs.declared.out.Out.{Out}
 use Rattle.gen_expr.specs.Steps.{steps_of}
 use Rattle.gen_query.specs.Stretches.{Gathers}
 use Rattle.sql_meaning.specs.Expression.{value_of}
-use Rattle.sql_meaning.specs.declared.bound.BoundExpr.{BoundExpr}
+use Rattle.bound_tree.specs.Exprs.{BoundExpr}
 use Rattle.vm_code.specs.declared.op.Op.TheVariants as op
 use Rattle.vm_code.specs.Draft.{Draft, with_op, taken}
 use Rattle.vm_code.specs.Machine.{Setting, State, outs_from, read, Reaches}

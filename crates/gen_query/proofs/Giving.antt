@@ -15,7 +15,7 @@ use Rattle.gen_query.proofs.Gathering.{t_gathers, values_in}
 use Rattle.gen_query.proofs.Listing.{good_or_null-same, with_given-nil}
 use Rattle.sql_meaning.specs.Statement as meaning
 use Rattle.sql_meaning.specs.Statement.{item_by, item_of, shown, sifted}
-use Rattle.sql_meaning.specs.declared.bound.BoundExpr.{BoundExpr}
+use Rattle.bound_tree.specs.Exprs.{BoundExpr}
 use Rattle.vm_code.specs.declared.op.Op.TheVariants as op
 use Rattle.vm_code.specs.Draft.{Draft, with_op, with_label, bound, taken, released}
 use Rattle.vm_code.specs.Tracked.{Steady}

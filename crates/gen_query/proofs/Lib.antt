@@ -1,3 +1,4 @@
+mod Conditions
 mod Conjuncts
 mod Gathering
 mod Listing

@@ -12,7 +12,7 @@ use Rattle.eng_value.specs.declared.out.Out.{Out}
 use Rattle.gen_query.specs.Queries.{by_world, gives, items_seen, row_effect, row_steps, scan_effect, scan_steps, with_row}
 use Rattle.gen_query.proofs.Listing.{gives_done, gives_quit, gives-more, gives-no_more, with_given-nil}
 use Rattle.sql_meaning.specs.Statement.{Item}
-use Rattle.sql_meaning.specs.declared.bound.BoundExpr.{BoundExpr}
+use Rattle.bound_tree.specs.Exprs.{BoundExpr}
 use Rattle.vm_code.specs.declared.op.Op.TheVariants as op
 use Rattle.vm_code.specs.Draft.{Draft, with_op, with_label, with_cursor, bound}
 use Rattle.vm_code.specs.Tracked.{Steady}

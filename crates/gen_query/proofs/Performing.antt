@@ -4,10 +4,10 @@ use Rattle.std.specs.declared.option.Option.{Option}
 use Rattle.std.proofs.lemmas.List.Folds.{flat_map-map}
 use Rattle.eng_value.specs.Environments.{Surroundings, environment, null_row, table_row}
 use Rattle.eng_value.specs.StoredRows.{StoredRow}
-use Rattle.gen_query.specs.Queries.{by_world, cursors_of, effect_over, gives, items_in, items_seen, query_run, query_steps, rows_effect, rows_in, rows_in_turn_steps, rows_steps, run_by, values_effect, values_items, values_run, values_steps, with_given, with_row}
+use Rattle.gen_query.specs.Queries.{by_world, conjuncts_of, cursors_of, effect_over, gives, items_in, items_seen, query_run, query_steps, rows_effect, rows_in, rows_in_turn_steps, rows_steps, run_by, values_effect, values_items, values_run, values_steps, with_given, with_row}
 use Rattle.gen_query.proofs.Listing.{gives_done, gives_fails, gives_quit}
 use Rattle.sql_meaning.specs.Statement.{Item, given_of, items_at}
-use Rattle.sql_meaning.specs.declared.bound.BoundExpr.{BoundExpr}
+use Rattle.bound_tree.specs.Exprs.{BoundExpr}
 use Rattle.sql_meaning.specs.declared.bound.BoundSelect.{BoundSelect}
 use Rattle.vm_code.specs.declared.op.Op.TheVariants as op
 use Rattle.vm_code.specs.declared.program.Program.{Program}
@@ -113,7 +113,7 @@ module _ (z : Draft) (f : Effect) (items_by : Surroundings → List Item) (n : W
 
 module _ (z : Draft) (q : BoundSelect) (x : Does no_calls (begun []) z 0 0 None (rows_effect 0 q) (by_world (rows_steps q))) (wide : z.cursors ≡ cursors_of q.table) where
   gives_query : (m : Setting) (h : Here) → Begins z.cursors h → effect_at m (rows_effect 0 q) 0 0 h ≡ gives (items_in q (surroundings_of m h.shared)) (memory_of 0 h)
-  gives_query m h b = gives_all m q.table q.conjuncts q.results h (subst (λ n. Begins n h) wide b)
+  gives_query m h b = gives_all m q.table (conjuncts_of q) q.results h (subst (λ n. Begins n h) wide b)
 
   pub query-performs : (p : Program) → IsProgramOf (with_op z op.Halt) p → Performs p (query_run q) (query_steps q)
   query-performs p is = items-performed z (rows_effect 0 q) (items_in q) (rows_steps q) x gives_query p is

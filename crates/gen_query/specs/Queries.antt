@@ -2,15 +2,16 @@
 use Rattle.std.specs.Prelude.{ℕ, ◌+◌, ◌*◌, ◌≤◌, ℤ, List, [], ◌∷◌, ◌++◌, length, map, sum_by, slice_set, Option, Some, None}
 use Rattle.std.specs.List.{flat_map}
 use Rattle.std.specs.Option.{option_map, option_to_list}
+use Rattle.bound_size.specs.Sizes.{all_nodes}
+use Rattle.bound_tree.specs.Exprs.{BoundExpr}
 use Rattle.eng_value.specs.Causes.{CauseSet}
 use Rattle.eng_value.specs.Environments.{ItemRow, Surroundings, environment, no_causes, table_row}
 use Rattle.eng_value.specs.StoredRows.{StoredRow}
 use Rattle.eng_value.specs.Written.{unwritten}
 use Rattle.eng_value.specs.declared.value.Value.{Value}
 use Rattle.gen_expr.specs.Steps.{steps_of}
-use Rattle.sql_meaning.specs.Sizes.{all_nodes}
+use Rattle.bound_tree.specs.Conditions.{conditions_of}
 use Rattle.sql_meaning.specs.Statement.{Item, given_of, items_at, refusal_of, shown, sifted}
-use Rattle.sql_meaning.specs.declared.bound.BoundExpr.{BoundExpr}
 use Rattle.sql_meaning.specs.declared.bound.BoundSelect.{BoundSelect}
 use Rattle.vm_code.specs.Frames.{Cost, Effect, Memory, Outcome, Done, Fails, Sight}
 use Rattle.vm_code.specs.Machine.{World, Run, ending_by, rows_of, world_of}
@@ -22,9 +23,13 @@ abbrev pub rows_in : Option ℕ → World → List (List ItemRow)
 rows_in None w = [] ∷ []
 rows_in (Some table) w = map (λ r. table_row r ∷ []) (rows_of w table)
 
+-- what a row has to pass: a BETWEEN among the conjuncts is two conditions
+abbrev pub conjuncts_of : BoundSelect → List BoundExpr
+conjuncts_of q = flat_map conditions_of q.conjuncts
+
 abbrev pub items_in : BoundSelect → Surroundings → List Item
 items_in q x =
-    flat_map (λ rows. items_at q.conjuncts q.results (environment x [] [] rows)) (rows_in q.table x.world)
+    flat_map (λ rows. items_at (conjuncts_of q) q.results (environment x [] [] rows)) (rows_in q.table x.world)
 
 -- the good items in front of the first bad one are given, and nothing is written
 abbrev pub run_by : World → ℤ → List Item → Run
@@ -77,7 +82,7 @@ effect_over item (Some table) conjuncts results = scan_effect item table conjunc
 
 -- the items of a query, whose table, if it has one, is read through the cursor of the item's number
 abbrev pub rows_effect : ℕ → BoundSelect → Effect
-rows_effect item q = effect_over item q.table q.conjuncts q.results
+rows_effect item q = effect_over item q.table (conjuncts_of q) q.results
 
 -- the items of rows of VALUES
 abbrev pub values_effect : List (List BoundExpr) → Effect
@@ -106,7 +111,7 @@ steps_over None conjuncts results w = row_steps conjuncts results
 steps_over (Some table) conjuncts results w = scan_steps table conjuncts results w
 
 abbrev pub rows_steps : BoundSelect → World → ℕ
-rows_steps q w = steps_over q.table q.conjuncts q.results w
+rows_steps q w = steps_over q.table (conjuncts_of q) q.results w
 
 -- what code costs that depends on the tables alone
 abbrev pub by_world : (World → ℕ) → Cost
@@ -131,7 +136,7 @@ rows_seen (Some table) w = length (rows_of w table)
 -- the instructions by how many rows are read and by how large the query is
 abbrev pub StepsAreFew : BoundSelect → Type 0
 StepsAreFew q =
-    (x : Surroundings) → query_steps q x ≤ 16 + (1 + rows_seen q.table x.world) * (4 * (all_nodes q.conjuncts + all_nodes q.results) + 6)
+    (x : Surroundings) → query_steps q x ≤ 16 + (1 + rows_seen q.table x.world) * (6 * (all_nodes q.conjuncts + all_nodes q.results) + 6)
 
 -- those of VALUES by how many nodes its rows have, and how many rows there are
 abbrev pub ValuesStepsAreFew : List (List BoundExpr) → Type 0

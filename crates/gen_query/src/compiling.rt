@@ -6,7 +6,8 @@ ghost use Rattle.vm_code.specs.Machine.{Performs};
 
 use crate::scanning::emit_rows;
 use crate::values::emit_values;
-use sql_meaning::{BoundExpr, BoundSelect};
+use bound_tree::BoundExpr;
+use sql_meaning::BoundSelect;
 use sqlite_items::Items;
 use std::alloc::{AllocError, Global};
 use vm_code::{Builder, Op, Program};

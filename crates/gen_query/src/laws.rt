@@ -1,7 +1,7 @@
 // What is known of the instructions of queries. Nothing here runs: each contract is a law.
 ghost use Rattle.gen_query.specs.Queries.{StepsAreFew, ValuesStepsAreFew};
 ghost use Rattle.std.specs.Prelude.{List};
-ghost use Rattle.sql_meaning.specs.declared.bound.BoundExpr.{BoundExpr};
+ghost use Rattle.bound_tree.specs.Exprs.{BoundExpr};
 ghost use Rattle.sql_meaning.specs.declared.bound.BoundSelect.{BoundSelect};
 
 /// The instructions are at most so many for each row that is read and each node of an expression, and a few for the whole.

@@ -9,8 +9,10 @@ ghost use Rattle.vm_code.specs.declared.op.Op.TheVariants as op;
 ghost use Rattle.vm_code.specs.Frames.{Does, Fills, no_calls};
 
 use crate::sifting::emit_conjuncts;
+use crate::splitting::{Conjunct, split};
+use bound_tree::BoundExpr;
 use gen_expr::emit;
-use sql_meaning::{BoundExpr, BoundSelect};
+use sql_meaning::BoundSelect;
 use std::alloc::{AllocError, Global};
 use vm_code::{Builder, Op};
 
@@ -25,11 +27,11 @@ pub(crate) fn emit_rows(
     ensures does { OnOk result (Does no_calls b.old b.new 0 0 None (rows_effect b.old.cursors query.now) (by_world (rows_steps query.now))) }
     ensures cursors { OnOk result (b.new.cursors ≡ b.old.cursors + cursors_of query.now.table) }
 {
-    let conjuncts = query.conjuncts.as_slice();
+    let conjuncts = split(alloc, query.conjuncts.as_slice())?;
     let results = query.results.as_slice();
     match query.table {
-        None => emit_row(alloc, b, conjuncts, results),
-        Some(table) => emit_scan(alloc, b, table, conjuncts, results),
+        None => emit_row(alloc, b, conjuncts.as_slice(), results),
+        Some(table) => emit_scan(alloc, b, table, conjuncts.as_slice(), results),
     }
 }
 
@@ -46,7 +48,7 @@ fn emit_scan(
     alloc: Global,
     b: &mut Builder,
     table: u32,
-    conjuncts: &[BoundExpr],
+    conjuncts: &[Conjunct],
     results: &[BoundExpr],
 ) -> Result<(), AllocError>
     requires counted { b.old.next ≤ b.old.most }
@@ -88,7 +90,7 @@ fn open_loop(b: &mut Builder, table: u32) -> Result<Loop, AllocError>
 pub(crate) fn emit_row(
     alloc: Global,
     b: &mut Builder,
-    conjuncts: &[BoundExpr],
+    conjuncts: &[Conjunct],
     results: &[BoundExpr],
 ) -> Result<(), AllocError>
     requires counted { b.old.next ≤ b.old.most }

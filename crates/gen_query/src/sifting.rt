@@ -10,8 +10,7 @@ ghost use Rattle.vm_code.specs.Draft.{given_back, with_op};
 ghost use Rattle.vm_code.specs.Frames.{Leaves, Sifts, no_calls};
 ghost use Rattle.vm_code.specs.declared.op.Op.TheVariants as op;
 
-use gen_expr::emit_truth;
-use sql_meaning::BoundExpr;
+use crate::splitting::{Conjunct, emit_test};
 use std::alloc::{AllocError, Global};
 use vm_code::{Builder, Op, Operand};
 
@@ -21,7 +20,7 @@ use vm_code::{Builder, Op, Operand};
 pub(crate) fn emit_conjuncts(
     alloc: Global,
     b: &mut Builder,
-    conjuncts: &[BoundExpr],
+    conjuncts: &[Conjunct],
     causes: u32,
     next: usize,
 ) -> Result<(), AllocError>
@@ -44,7 +43,7 @@ pub(crate) fn emit_conjuncts(
 fn emit_first(
     alloc: Global,
     b: &mut Builder,
-    conjunct: &BoundExpr,
+    conjunct: &Conjunct,
     causes: u32,
     next: usize,
 ) -> Result<(), AllocError>
@@ -54,7 +53,7 @@ fn emit_first(
     ensures cursors { OnOk result (b.new.cursors ≡ b.old.cursors) }
 {
     let value = b.take()?;
-    emit_truth(alloc, b, conjunct, value)?;
+    emit_test(alloc, b, conjunct, value)?;
     reject(b, value, next)?;
     b.op(Op::Null { to: causes })?;
     add_causes(b, value, causes)
@@ -64,7 +63,7 @@ fn emit_first(
 fn emit_conjunct(
     alloc: Global,
     b: &mut Builder,
-    conjunct: &BoundExpr,
+    conjunct: &Conjunct,
     causes: u32,
     next: usize,
 ) -> Result<(), AllocError>
@@ -74,7 +73,7 @@ fn emit_conjunct(
     ensures cursors { OnOk result (b.new.cursors ≡ b.old.cursors) }
 {
     let value = b.take()?;
-    emit_truth(alloc, b, conjunct, value)?;
+    emit_test(alloc, b, conjunct, value)?;
     reject(b, value, next)?;
     add_causes(b, value, causes)
 }

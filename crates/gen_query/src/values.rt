@@ -4,7 +4,7 @@ ghost use Rattle.gen_query.specs.Queries.{by_world, rows_in_turn_steps, values_e
 ghost use Rattle.vm_code.specs.Frames.{Does, no_calls};
 
 use crate::scanning::emit_row;
-use sql_meaning::BoundExpr;
+use bound_tree::BoundExpr;
 use sqlite_items::Items;
 use std::alloc::{AllocError, Global};
 use vm_code::Builder;

@@ -1,11 +1,13 @@
 -- The source is evaluated and kept.
-use Rattle.std.proofs.Common.{◌≡◌, ℕ, ◌+◌, ◌≤◌, ◌<◌, List, [], ◌∷◌, ◌++◌, true, false, length, map, fold, sum_by, Some, None, refl, sym, ap, ◌∙◌, subst, arith, rules, ⊎_elim, length-append}
+use Rattle.std.proofs.Common.{◌≡◌, ℕ, ◌+◌, ◌≤◌, ◌<◌, List, [], ◌∷◌, ◌++◌, true, false, length, map, fold, sum_by, Some, None, refl, sym, ap, ◌∙◌, subst, arith, ⊎_elim, length-append}
 use Rattle.std.specs.Prelude.{slice_set}
 use Rattle.std.specs.declared.option.Option.{Option}
 use Rattle.std.proofs.Math.ListN.{length-set}
 use Rattle.std.proofs.lemmas.Bool.{cases_lt}
 use Rattle.std.proofs.lemmas.List.{get_or-set_same, get_or-set_other, map-append}
 use Rattle.std.proofs.lemmas.List.Sums.{fold-append, sum_by_push}
+use Rattle.bound_tree.specs.Exprs as e
+use Rattle.bound_tree.specs.Exprs.{BoundExpr}
 use Rattle.eng_value.specs.Applied.{merged}
 use Rattle.eng_value.specs.Causes.{CauseSet}
 use Rattle.eng_value.specs.Environments.{Environment, no_causes, with_causes}
@@ -14,20 +16,15 @@ use Rattle.eng_value.specs.declared.out.Out.TheVariants.{Good}
 use Rattle.eng_value.specs.declared.value.Value.{Value}
 use Rattle.gen_expr.specs.Steps.{steps_of}
 use Rattle.gen_write.specs.Stretches.{AreAllKept, Held, KeepsRows, KeepsValues, SameBut, Sourced, SourcedBy, items_for, kept_out, values_in, with_bad_refused}
-use Rattle.gen_write.specs.Writes.{plain_in, plain_literal, plain_of, read_steps, steps_unless, value_steps}
+use Rattle.gen_write.specs.Writes.{plain_literal, plain_of, read_steps, steps_unless, value_steps}
 use Rattle.gen_write.specs.declared.source.Kept.{Kept}
 use Rattle.gen_write.specs.declared.source.Kept.TheVariants as kept
 use Rattle.gen_write.proofs.Causing.{calm-good, given_of-append, item-bad, item-good, refusal_of-append, refusal_of-bad}
 use Rattle.gen_write.proofs.Sizing.{refused-busy, refused-more}
 use Rattle.gen_write.proofs.Refusals.{grows_refused, steady_refused, t_refused}
-use Rattle.sql_meaning.specs.Expression.{Arm, MatchArm, Meaning, arm_of, literal_out, match_of, value_of, value_step}
+use Rattle.sql_meaning.specs.Expression.{literal_out, value_of}
 use Rattle.sql_meaning.specs.Statement as meaning
 use Rattle.sql_meaning.specs.Statement.{Item, Row, Failed, given_of, item_of, refusal_of, shown}
-use Rattle.sql_meaning.specs.declared.bound.BoundArm.{BoundArm}
-use Rattle.sql_meaning.specs.declared.bound.BoundExpr.{BoundExpr, out-BoundExpr, the_lemmas}
-use Rattle.sql_meaning.specs.declared.bound.BoundExpr.TheFolds.{map-BoundExpr}
-use Rattle.sql_meaning.specs.declared.bound.BoundExpr.TheOpen.{BoundExpr-F}
-use Rattle.sql_meaning.specs.declared.bound.BoundMatch.{BoundMatch}
 use Rattle.sql_words.specs.declared.literal.Literal.{Literal}
 use Rattle.sql_words.specs.declared.literal.Literal.TheVariants as literal
 use Rattle.vm_code.specs.declared.op.Op.TheVariants as op
@@ -99,20 +96,9 @@ plain_is : (l k : Literal) → plain_of l ≡ Some k → (v : Value) × (literal
 plain_is (literal.Value v) k e = let same : literal.Value v ≡ k = cc in (v, refl, ap literal_out (sym same))
 plain_is (literal.Bad why) k e = cc
 
-abbrev meant : BoundExpr-F BoundExpr BoundArm BoundMatch → Meaning
-meant y = value_step (map-BoundExpr BoundExpr BoundArm BoundMatch Meaning Arm MatchArm value_of arm_of match_of y)
-
-plain_meant : (y : BoundExpr-F BoundExpr BoundArm BoundMatch) (k : Literal) → plain_in y ≡ Some k → (v : Value) × ((env : Environment) → meant y env ≡ Good v) × (literal_out k ≡ Good v)
-plain_meant (BoundExpr-F.Literal l) k e = let known = plain_is l k e in (known.0, (λ env. known.1), known.2)
-plain_meant other k e = cc
-
-value_layer : (e : BoundExpr) → value_of e ≡ meant (out-BoundExpr e)
-value_layer e = search (rules, the_lemmas)
-
-plain_value : (e : BoundExpr) (k : Literal) → plain_literal e ≡ Some k → (v : Value) × ((env : Environment) → value_of e env ≡ Good v) × (literal_out k ≡ Good v)
-plain_value e k is =
-    let known = plain_meant (out-BoundExpr e) k is in
-    (known.0, (λ env. ap (λ (f : Meaning). f env) (value_layer e) ∙ known.1 env), known.2)
+plain_value : (x : BoundExpr) (k : Literal) → plain_literal x ≡ Some k → (v : Value) × ((env : Environment) → value_of x env ≡ Good v) × (literal_out k ≡ Good v)
+plain_value (e.Literal l) k is = let known = plain_is l k is in (known.0, (λ env. known.1), known.2)
+plain_value other k is = cc
 
 -- one that is loaded where it is put
 pub keeps_plain : (calls : Calls) (a : Draft) (causes : ℕ) (e : BoundExpr) (k : Kept) (l : Literal) → a.next ≤ a.most → plain_literal e ≡ Some l → ((regs : List Out) → kept_out regs k ≡ literal_out l) → KeepsValues calls a a causes (e ∷ []) (k ∷ [])

@@ -12,7 +12,7 @@ use Rattle.gen_write.proofs.RowRuns.{t_puts}
 use Rattle.gen_write.proofs.Seeing.{value_of-same}
 use Rattle.sql_meaning.specs.Expression.{value_of}
 use Rattle.sql_meaning.specs.Statement.{Item, given_of, item_of, refusal_of}
-use Rattle.sql_meaning.specs.declared.bound.BoundExpr.{BoundExpr}
+use Rattle.bound_tree.specs.Exprs.{BoundExpr}
 use Rattle.sql_meaning.specs.declared.bound.BoundInsert.{BoundInsert}
 use Rattle.vm_code.specs.declared.op.Op.TheVariants as op
 use Rattle.vm_code.specs.declared.program.Program.{Program}

@@ -1,6 +1,9 @@
 -- What the programs of writes perform over lists of rows, and in how many instructions at most.
 use Rattle.std.specs.Prelude.{◌≡◌, ℕ, zero, suc, ◌+◌, ◌*◌, ◌≤◌, Bool, true, List, [], ◌∷◌, length, map, sum_by, ℤ, Option, Some, None, is_some}
 use Rattle.std.specs.List.{list_all}
+use Rattle.bound_size.specs.Sizes.{all_nodes}
+use Rattle.bound_tree.specs.Exprs as e
+use Rattle.bound_tree.specs.Exprs.{BoundExpr}
 use Rattle.eng_value.specs.Casts.{store_as}
 use Rattle.eng_value.specs.Causes.{CauseSet, only}
 use Rattle.eng_value.specs.Environments.{Surroundings, environment, no_causes}
@@ -10,13 +13,8 @@ use Rattle.eng_value.specs.declared.cause.Cause.TheVariants.{Full}
 use Rattle.eng_value.specs.declared.out.Out.{Out}
 use Rattle.eng_value.specs.declared.value.Value.{Value}
 use Rattle.gen_expr.specs.Steps.{steps_of}
-use Rattle.sql_meaning.specs.Sizes.{all_nodes}
 use Rattle.sql_meaning.specs.Statement.{Item, Row, Failed as Bad, given_of, item_of, refusal_of, shown, value_at}
-use Rattle.sql_meaning.specs.declared.bound.BoundArm.{BoundArm}
-use Rattle.sql_meaning.specs.declared.bound.BoundExpr.{BoundExpr, out-BoundExpr}
-use Rattle.sql_meaning.specs.declared.bound.BoundExpr.TheOpen.{BoundExpr-F}
 use Rattle.sql_meaning.specs.declared.bound.BoundInsert.{BoundInsert}
-use Rattle.sql_meaning.specs.declared.bound.BoundMatch.{BoundMatch}
 use Rattle.sql_words.specs.declared.literal.Literal.{Literal}
 use Rattle.sql_words.specs.declared.literal.Literal.TheVariants as literal
 use Rattle.sql_meaning.specs.declared.bound.PutColumn.{PutColumn}
@@ -112,12 +110,9 @@ abbrev pub plain_of : Literal → Option Literal
 plain_of (literal.Value v) = Some (literal.Value v)
 plain_of (literal.Bad why) = None
 
-abbrev pub plain_in : BoundExpr-F BoundExpr BoundArm BoundMatch → Option Literal
-plain_in (BoundExpr-F.Literal l) = plain_of l
-plain_in other = None
-
 abbrev pub plain_literal : BoundExpr → Option Literal
-plain_literal e = plain_in (out-BoundExpr e)
+plain_literal (e.Literal l) = plain_of l
+plain_literal other = None
 
 -- an expression and its causes; such a literal is loaded where it is put
 abbrev pub steps_unless : Option Literal → ℕ → ℕ
@@ -125,7 +120,7 @@ steps_unless None n = n + 1
 steps_unless (Some l) n = 0
 
 abbrev pub value_steps : BoundExpr → ℕ
-value_steps e = steps_unless (plain_literal e) (steps_of e)
+value_steps x = steps_unless (plain_literal x) (steps_of x)
 
 -- a row of the source gives up where it is bad, which one of such literals alone never is
 abbrev pub and_refused : ℕ → ℕ
@@ -148,7 +143,7 @@ StepsAreFew b = (x : Surroundings) → put_steps b x ≤ 4 * sum_by all_nodes b.
 
 -- reading a source that is made of literals with values takes none
 abbrev pub is_plain : BoundExpr → Bool
-is_plain e = is_some (plain_literal e)
+is_plain x = is_some (plain_literal x)
 
 abbrev pub LiteralsTakeNoSteps : BoundInsert → Type 0
 LiteralsTakeNoSteps b =

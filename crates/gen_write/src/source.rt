@@ -6,8 +6,8 @@ ghost use Rattle.gen_write.specs.Writes.{plain_literal, plain_of};
 ghost use Rattle.vm_code.specs.Frames.{no_calls};
 
 use crate::refusing::refuse_bad;
+use bound_tree::{BoundExpr, ExprTree};
 use gen_expr::emit;
-use sql_meaning::BoundExpr;
 use sql_words::Literal;
 use sqlite_items::Items;
 use std::alloc::{AllocError, Global};
@@ -111,8 +111,8 @@ fn keep_value<'a>(
 fn plain_literal(e: &BoundExpr) -> Option<&Literal>
     ensures { option_copied result ≡ plain_literal e.now }
 {
-    match e {
-        BoundExpr::Literal(literal) if has_value(literal) => Some(literal),
+    match e.tree() {
+        ExprTree::Literal(literal) if has_value(literal) => Some(literal),
         _ => None,
     }
 }

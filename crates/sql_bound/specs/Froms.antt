@@ -84,7 +84,7 @@ as_columns cs = map as_column cs
 
 abbrev pub table_source : Facts → Entry → List BoundIndex → DeclaredTable → Sourced
 table_source facts entry indexes t =
-    record (plain_source (Some entry.name) (bound_source.Table entry.name entry.number) (bound_columns t.columns)) { has_rowid = true; rowid = t.rowid; indexes = indexes }
+    record (plain_source (Some entry.name) (bound_source.Table entry.name entry.number) (bound_columns t.columns)) { has_rowid = facts.rowids; rowid = t.rowid; indexes = indexes }
 
 abbrev pub declared_source : Outer → Entry → DeclaredTable → Sourced
 declared_source o entry t = table_source o.around.facts entry (indexes_of o.around.facts o.around.catalog entry t) t

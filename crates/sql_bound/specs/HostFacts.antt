@@ -20,4 +20,5 @@ facts_of h = record {
   columns = λ name table. option_map (λ (t : ToldColumns). t.columns) (find (λ (t : ToldColumns). is_same_name t.module name && nat_eq t.table table) h.told);
   savepoint = λ name. list_any (λ s. is_same_name s name) h.savepoints;
   recursive_triggers = h.recursive_triggers;
+  rowids = h.rowids;
 }

@@ -56,6 +56,7 @@ no_facts = record {
   columns = λ name table. None;
   savepoint = λ name. false;
   recursive_triggers = false;
+  rowids = true;
 }
 
 -- ---- the entries of what these texts create, in turn

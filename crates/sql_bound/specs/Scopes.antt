@@ -37,6 +37,7 @@ pub record Facts : Type 0 where
   pub columns : List ℕ → ℕ → Option (List ModColumn)
   pub savepoint : List ℕ → Bool
   pub recursive_triggers : Bool
+  pub rowids : Bool
 
 -- what binding goes by
 pub record Around : Type 0 where

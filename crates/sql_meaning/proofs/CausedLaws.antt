@@ -25,18 +25,15 @@ use Rattle.eng_value.specs.declared.value.Value.{Value}
 use Rattle.eng_value.specs.declared.value.Value.TheVariants as value
 use Rattle.eng_key.specs.Values.{value_keys}
 use Rattle.std.proofs.Common.{ℤ}
-use Rattle.sql_meaning.specs.BoundStatements.{BoundStatement, Creates, DoesNothing, Drops, FromItem, Put, Puts, Queries, Shows}
-use Rattle.sql_meaning.specs.declared.bound.BoundArm.{BoundArm}
-use Rattle.sql_meaning.specs.declared.bound.BoundExpr.{BoundExpr}
-use Rattle.sql_meaning.specs.declared.bound.BoundMatch.{BoundMatch}
-use Rattle.sql_meaning.specs.declared.bound.BoundExpr.TheFolds.{fold-roll-BoundExpr, fold-roll-BoundArm, fold-roll-BoundMatch, ind-BoundExpr, map-BoundExpr}
-use Rattle.sql_meaning.specs.declared.bound.BoundExpr.TheOpen.{BoundExpr-F, BoundArm-F, BoundMatch-F}
+use Rattle.sql_meaning.specs.Runnables.{Runnable, Creates, DoesNothing, Drops, FromItem, Put, Puts, Queries, Shows}
+use Rattle.bound_tree.specs.Exprs as e
+use Rattle.bound_tree.specs.Exprs.{BoundArms, BoundExpr, BoundExprs, BoundMatches, NoExprs, AnExpr, NoArms, AnArm, NoMatches, AMatch}
 use Rattle.sql_words.specs.declared.literal.Literal.{Literal}
 use Rattle.sql_words.specs.declared.literal.Literal.TheVariants as literal
 use Rattle.sql_meaning.specs.declared.column.Column.{Column}
 use Rattle.sql_meaning.specs.declared.column.TableEntry.{TableEntry}
 use Rattle.sql_words.specs.Refusals.{◌>>=◌}
-use Rattle.sql_meaning.specs.Expression.{Arm, MatchArm, Meaning, arm_of, arm_step, chosen_in, first_known, in_all, literal_out, match_of, match_step, matched_in, parameter_of, value_of, value_step}
+use Rattle.sql_meaning.specs.Expression.{arms_of, chosen_in, first_known, literal_out, matched_in, matches_of, parameter_of, unbuilt, value_of, values_of}
 use Rattle.sql_meaning.specs.Statement.{IsNamed, Item, Row, Failed, after_conjunct, all_put, begun, bound_outcome, causes_of, given_of, if_some, item_by, item_of, item_put, item_rows, items_at, items_of, outcome_of, product, put_source, refusal_of, row_put, row_under, rows_put, shown, shown_rows, sifted, source_of, stored, text_bound, text_outcome, values_placed, with_others}
 use Rattle.sql_meaning.specs.World.{Context, State, environment_at, rows_at}
 use Rattle.sql_meaning.proofs.CausedOperators.{AreCaused, IsCaused, IsCausedSet, IsCausedTruth, and_of-caused, bad-caused, binary_of-caused, choice_of-caused, comparison_of-caused, function_by-caused, good, like_escaped_of-caused, made-caused, member_of-caused, merged-caused, only-caused, or_else-caused, store_as-caused, truth_in-caused, truth_of-caused, unary_of-caused}
@@ -44,7 +41,7 @@ use Rattle.sql_meaning.proofs.CausedOperators.{AreCaused, IsCaused, IsCausedSet,
 -- ---- rows whose causes are causes
 
 abbrev pub RowCaused : ItemRow → Type 0
-RowCaused r = AreCaused r.columns × IsCaused r.causes
+RowCaused r = AreCaused r.columns × IsCaused r.causes × IsCaused r.rowid
 
 abbrev pub RowsCaused : List ItemRow → Type 0
 RowsCaused [] = ⊤
@@ -60,6 +57,11 @@ column-caused [] item place c = good value.Null
 column-caused (r ∷ rows) zero place c = place-caused r.columns place c.0.0
 column-caused (r ∷ rows) (suc k) place c = column-caused rows k place c.1
 
+rowid-caused : (rows : List ItemRow) (item : ℕ) → RowsCaused rows → IsCaused (slice_index_or rows item null_row).rowid
+rowid-caused [] item c = good value.Null
+rowid-caused (r ∷ rows) zero c = c.0.2
+rowid-caused (r ∷ rows) (suc k) c = rowid-caused rows k c.1
+
 all-good : (row : List Value) → AreCaused (map Good row)
 all-good [] = tt
 all-good (v ∷ row) = (good v, all-good row)
@@ -70,26 +72,14 @@ set-caused (a ∷ outs) zero c = (good value.Null, c.1)
 set-caused (a ∷ outs) (suc k) c = (c.0, set-caused outs k c.1)
 
 without-caused : (r : ItemRow) (place : Option ℕ) → RowCaused r → RowCaused (without_column r place)
-without-caused r None c = c
-without-caused r (Some place) c = (set-caused r.columns place c.0, c.1)
+without-caused r None c = (c.0, c.1, good value.Null)
+without-caused r (Some place) c = (set-caused r.columns place c.0, c.1, c.2)
 
 ignoring-caused : (places : List (Option ℕ)) (r : ItemRow) → RowCaused r → RowCaused (ignoring places r)
 ignoring-caused [] r c = c
 ignoring-caused (place ∷ places) r c = ignoring-caused places (without_column r place) (without-caused r place c)
 
 -- ---- expressions
-
-abbrev ExprCaused : BoundExpr → Type 0
-ExprCaused x = (env : Environment) → RowsCaused env.rows → IsCaused (value_of x env)
-
-abbrev Caused : Meaning → Meaning → Environment → Type 0
-Caused m n env = IsCaused (m env) × IsCaused (n env)
-
-abbrev ArmCaused : BoundArm → Type 0
-ArmCaused x = (env : Environment) → RowsCaused env.rows → Caused (arm_of x).condition (arm_of x).value env
-
-abbrev MatchCaused : BoundMatch → Type 0
-MatchCaused x = (env : Environment) → RowsCaused env.rows → Caused (match_of x).operand (match_of x).value env
 
 literal-caused : (l : Literal) → IsCaused (literal_out l)
 literal-caused (literal.Value v) = good v
@@ -103,60 +93,56 @@ first_known-caused : (outs : List Out) → AreCaused outs → IsCaused (first_kn
 first_known-caused [] c = good value.Null
 first_known-caused (a ∷ rest) c = or_else-caused a (first_known rest) c.0 (first_known-caused rest c.1)
 
--- an expression, an arm or a match with a proof that it has causes
-abbrev Expr' : Type 0
-Expr' = (x : BoundExpr) × ExprCaused x
+unbuilt-caused : IsCaused unbuilt
+unbuilt-caused = bad-caused cause.NotYet
 
-abbrev Arm' : Type 0
-Arm' = (x : BoundArm) × ArmCaused x
+module _ (env : Environment) (r : RowsCaused env.rows) where
+  mutual
+    -- an expression that is bad has a cause
+    pub expr-caused : (x : BoundExpr) → IsCaused (value_of x env)
+    expr-caused (e.Literal l) = literal-caused l
+    expr-caused (e.Parameter number) = parameter-caused env.params number
+    expr-caused (e.Column item place) = column-caused env.rows item place r
+    expr-caused (e.Rowid item) = rowid-caused env.rows item r
+    expr-caused (e.Argument place) = unbuilt-caused
+    expr-caused (e.Aggregate slot) = unbuilt-caused
+    expr-caused (e.Unary op a) = unary_of-caused op (value_of a env) (expr-caused a)
+    expr-caused (e.Binary op a b) = binary_of-caused (keys_of env.hosts) op (value_of a env) (value_of b env) (expr-caused a) (expr-caused b)
+    expr-caused (e.LikeEscaped a b c) = like_escaped_of-caused (value_of a env) (value_of b env) (value_of c env) (expr-caused a) (expr-caused b) (expr-caused c)
+    expr-caused (e.Between above below a low high) =
+        let keys = keys_of env.hosts in
+        and_of-caused (comparison_of keys compares.Ge above (value_of a env) (value_of low env)) (comparison_of keys compares.Le below (value_of a env) (value_of high env))
+        (comparison_of-caused keys compares.Ge above (value_of a env) (value_of low env) (expr-caused a) (expr-caused low)) (comparison_of-caused keys compares.Le below (value_of a env) (value_of high env) (expr-caused a) (expr-caused high))
+    expr-caused (e.InList sides a others) = member_of-caused (keys_of env.hosts) sides (value_of a env) (values_of others env) (expr-caused a) (all-caused others)
+    expr-caused (e.ChooseArm arms otherwise) = arms-caused arms (value_of otherwise env) (expr-caused otherwise)
+    expr-caused (e.MatchArm a arms otherwise) = matches-caused arms (value_of a env) (value_of otherwise env) (expr-caused a) (expr-caused otherwise)
+    expr-caused (e.Iif a b c) = choice_of-caused (value_of a env) (value_of b env) (value_of c env) (expr-caused a) (expr-caused b) (expr-caused c)
+    expr-caused (e.CoalesceList f es) = first_known-caused (values_of es env) (all-caused es)
+    expr-caused (e.CallBuiltin f collation args) = function_by-caused (value_keys (keys_of env.hosts)) f collation (values_of args env) (all-caused args)
+    expr-caused (e.CallHost name args) = unbuilt-caused
+    expr-caused (e.ScalarOf unit args) = unbuilt-caused
+    expr-caused (e.ExistsIn unit args) = unbuilt-caused
+    expr-caused (e.InUnit sides a unit args) = unbuilt-caused
+    expr-caused e.RaiseIgnore = unbuilt-caused
+    expr-caused (e.RaiseAbort text) = unbuilt-caused
 
-abbrev Match' : Type 0
-Match' = (x : BoundMatch) × MatchCaused x
+    all-caused : (es : BoundExprs) → AreCaused (values_of es env)
+    all-caused NoExprs = tt
+    all-caused (AnExpr a rest) = (expr-caused a, all-caused rest)
 
-all-caused : (xs : List Expr') (env : Environment) → RowsCaused env.rows → AreCaused (in_all (map value_of (map (λ e. e.0) xs)) env)
-all-caused [] env r = tt
-all-caused (x ∷ xs) env r = (x.1 env r, all-caused xs env r)
+    arms-caused : (arms : BoundArms) (otherwise : Out) → IsCaused otherwise → IsCaused (chosen_in env (arms_of arms) otherwise)
+    arms-caused NoArms otherwise c = c
+    arms-caused (AnArm a b rest) otherwise c =
+        choice_of-caused (value_of a env) (value_of b env) (chosen_in env (arms_of rest) otherwise) (expr-caused a) (expr-caused b) (arms-caused rest otherwise c)
 
-arms-caused : (arms : List Arm') (otherwise : Out) (env : Environment) → RowsCaused env.rows → IsCaused otherwise → IsCaused (chosen_in env (map arm_of (map (λ e. e.0) arms)) otherwise)
-arms-caused [] otherwise env r c = c
-arms-caused (a ∷ arms) otherwise env r c =
-    choice_of-caused ((arm_of a.0).condition env) ((arm_of a.0).value env) (chosen_in env (map arm_of (map (λ e. e.0) arms)) otherwise) (a.1 env r).0 (a.1 env r).1 (arms-caused arms otherwise env r c)
+    matches-caused : (arms : BoundMatches) (a otherwise : Out) → IsCaused a → IsCaused otherwise → IsCaused (matched_in env a (matches_of arms) otherwise)
+    matches-caused NoMatches a otherwise c d = d
+    matches-caused (AMatch sides x y rest) a otherwise c d =
+        choice_of-caused (comparison_of (keys_of env.hosts) compares.Eq sides a (value_of x env)) (value_of y env) (matched_in env a (matches_of rest) otherwise)
+        (comparison_of-caused (keys_of env.hosts) compares.Eq sides a (value_of x env) c (expr-caused x)) (expr-caused y) (matches-caused rest a otherwise c d)
 
-matches-caused : (arms : List Match') (a otherwise : Out) (env : Environment) → RowsCaused env.rows → IsCaused a → IsCaused otherwise → IsCaused (matched_in env a (map match_of (map (λ e. e.0) arms)) otherwise)
-matches-caused [] a otherwise env r c d = d
-matches-caused (m ∷ arms) a otherwise env r c d =
-    choice_of-caused (comparison_of (keys_of env.hosts) compares.Eq (match_of m.0).sides a ((match_of m.0).operand env)) ((match_of m.0).value env) (matched_in env a (map match_of (map (λ e. e.0) arms)) otherwise)
-    (comparison_of-caused (keys_of env.hosts) compares.Eq (match_of m.0).sides a ((match_of m.0).operand env) c (m.1 env r).0) (m.1 env r).1 (matches-caused arms a otherwise env r c d)
-
-abbrev plain : BoundExpr-F Expr' Arm' Match' → BoundExpr-F BoundExpr BoundArm BoundMatch
-plain = map-BoundExpr Expr' Arm' Match' BoundExpr BoundArm BoundMatch (λ e. e.0) (λ e. e.0) (λ e. e.0)
-
-abbrev meant : BoundExpr-F BoundExpr BoundArm BoundMatch → BoundExpr-F Meaning Arm MatchArm
-meant = map-BoundExpr BoundExpr BoundArm BoundMatch Meaning Arm MatchArm value_of arm_of match_of
-
-step-caused : (y : BoundExpr-F Expr' Arm' Match') (env : Environment) → RowsCaused env.rows → IsCaused (value_step (meant (plain y)) env)
-step-caused (BoundExpr-F.Literal l) env r = literal-caused l
-step-caused (BoundExpr-F.Column item place) env r = column-caused env.rows item place r
-step-caused (BoundExpr-F.Parameter number) env r = parameter-caused env.params number
-step-caused (BoundExpr-F.Unary op a) env r = unary_of-caused op (value_of a.0 env) (a.1 env r)
-step-caused (BoundExpr-F.Binary op a b) env r = binary_of-caused (keys_of env.hosts) op (value_of a.0 env) (value_of b.0 env) (a.1 env r) (b.1 env r)
-step-caused (BoundExpr-F.LikeEscaped a b c) env r = like_escaped_of-caused (value_of a.0 env) (value_of b.0 env) (value_of c.0 env) (a.1 env r) (b.1 env r) (c.1 env r)
-step-caused (BoundExpr-F.Between above below a low high) env r =
-    let keys = keys_of env.hosts in
-    and_of-caused (comparison_of keys compares.Ge above (value_of a.0 env) (value_of low.0 env)) (comparison_of keys compares.Le below (value_of a.0 env) (value_of high.0 env))
-    (comparison_of-caused keys compares.Ge above (value_of a.0 env) (value_of low.0 env) (a.1 env r) (low.1 env r)) (comparison_of-caused keys compares.Le below (value_of a.0 env) (value_of high.0 env) (a.1 env r) (high.1 env r))
-step-caused (BoundExpr-F.In sides a others) env r = member_of-caused (keys_of env.hosts) sides (value_of a.0 env) (in_all (map value_of (map (λ e. e.0) others)) env) (a.1 env r) (all-caused others env r)
-step-caused (BoundExpr-F.Coalesce es) env r = first_known-caused (in_all (map value_of (map (λ e. e.0) es)) env) (all-caused es env r)
-step-caused (BoundExpr-F.Choose arms otherwise) env r = arms-caused arms (value_of otherwise.0 env) env r (otherwise.1 env r)
-step-caused (BoundExpr-F.Match a arms otherwise) env r = matches-caused arms (value_of a.0 env) (value_of otherwise.0 env) env r (a.1 env r) (otherwise.1 env r)
-step-caused (BoundExpr-F.Call f collation args) env r = function_by-caused (value_keys (keys_of env.hosts)) f collation (in_all (map value_of (map (λ e. e.0) args)) env) (all-caused args env r)
-
--- an expression that is bad has a cause
 pub value_of-caused : (x : BoundExpr) (env : Environment) → RowsCaused env.rows → IsCaused (value_of x env)
-value_of-caused = ind-BoundExpr ExprCaused ArmCaused MatchCaused
-    (λ x y is env r. subst (λ (m : Meaning). IsCaused (m env)) (sym (fold-roll-BoundExpr Meaning Arm MatchArm value_step arm_step match_step x)) (subst (λ z. IsCaused (value_step (meant z) env)) is (step-caused y env r)))
-    (λ x y is env r. subst (λ (m : Arm). Caused m.condition m.value env) (sym (fold-roll-BoundArm Meaning Arm MatchArm value_step arm_step match_step x)) (subst (λ (z : BoundArm-F BoundExpr BoundArm BoundMatch). Caused (value_of z.condition) (value_of z.value) env) is (y.condition.1 env r, y.value.1 env r)))
-    (λ x y is env r. subst (λ (m : MatchArm). Caused m.operand m.value env) (sym (fold-roll-BoundMatch Meaning Arm MatchArm value_step arm_step match_step x)) (subst (λ (z : BoundMatch-F BoundExpr BoundArm BoundMatch). Caused (value_of z.operand) (value_of z.value) env) is (y.operand.1 env r, y.value.1 env r)))
+value_of-caused x env r = expr-caused env r x
 
 -- ---- items
 
@@ -253,7 +239,7 @@ behind-caused (x ∷ rows) r c d = (c.0, behind-caused rows r c.1 d)
 
 table-caused : (ignored : List (Option ℕ)) (rows : List StoredRow) → RowsCaused (map (λ r. ignoring ignored (table_row r)) rows)
 table-caused ignored [] = tt
-table-caused ignored (r ∷ rows) = (ignoring-caused ignored (table_row r) (all-good r.values, good value.Null), table-caused ignored rows)
+table-caused ignored (r ∷ rows) = (ignoring-caused ignored (table_row r) (all-good r.values, good value.Null, good (value.Integer r.rowid)), table-caused ignored rows)
 
 product-caused : (ctx : Context) (items : List FromItem) (rows : List ItemRow) → RowsCaused rows → EachCaused (product ctx items rows)
 product-caused ctx [] rows c = (c, tt)
@@ -342,7 +328,7 @@ rows-told ctx (row ∷ rows) = (item_of-told no_causes (map (λ r. value_of r (e
 
 -- ---- any statement
 
-outcome_of-told : (ctx : Context) (b : BoundStatement) → ToldRefusal (outcome_of ctx b).refusal
+outcome_of-told : (ctx : Context) (b : Runnable) → ToldRefusal (outcome_of ctx b).refusal
 outcome_of-told ctx (Creates e) = tt
 outcome_of-told ctx (Drops t) = tt
 outcome_of-told ctx (Puts p) = put_source-told ctx.state p (causes_of (source_of ctx p)) (given_of (source_of ctx p)) (causes_of-told (source_of ctx p) (rows-told ctx p.rows))
@@ -350,7 +336,7 @@ outcome_of-told ctx (Shows rows) = refusal-named (refusal_of (shown_rows ctx row
 outcome_of-told ctx DoesNothing = tt
 outcome_of-told ctx (Queries q) = refusal-named (refusal_of (items_of ctx q)) (refusal_of-told (items_of ctx q) (items-told ctx q.conjuncts q.results (product ctx q.from []) (product-caused ctx q.from [] tt)))
 
-bound_outcome-told : (ctx : Context) (r : Result BoundStatement Cause) → ToldRefusal (bound_outcome ctx r).refusal
+bound_outcome-told : (ctx : Context) (r : Result Runnable Cause) → ToldRefusal (bound_outcome ctx r).refusal
 bound_outcome-told ctx (Ok b) = outcome_of-told ctx b
 bound_outcome-told ctx (Err why) = told_only why
 

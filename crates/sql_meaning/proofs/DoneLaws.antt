@@ -5,9 +5,9 @@ use Rattle.eng_entry.specs.declared.entry.Entry.{Entry}
 use Rattle.eng_value.specs.Causes.{CauseSet, named}
 use Rattle.eng_value.specs.Written.{Written}
 use Rattle.eng_value.specs.declared.value.Value.{Value}
-use Rattle.sql_meaning.specs.declared.bound.BoundExpr.{BoundExpr}
+use Rattle.bound_tree.specs.Exprs.{BoundExpr}
 use Rattle.sql_meaning.specs.declared.column.TableEntry.{TableEntry}
-use Rattle.sql_meaning.specs.BoundStatements.{BoundStatement, Creates, Drops, Put, Puts, Queries, Query, Shows}
+use Rattle.sql_meaning.specs.Runnables.{Runnable, Creates, Drops, Put, Puts, Queries, Query, Shows}
 use Rattle.sql_meaning.specs.Declarations.{table_called, table_with}
 use Rattle.sql_meaning.specs.Effects.{AddsRows, AddsTable, DropsTable}
 use Rattle.sql_meaning.specs.Statement.{Item, Outcome, Row, Failed, all_put, begun, bound_outcome, causes_of, given_of, outcome_of, put_outcome, put_source, rows_put, source_of, text_bound, text_outcome, written}
@@ -18,7 +18,7 @@ use Rattle.sql_meaning.proofs.TableLaws.{among-others, numbers-new, others-none,
 use Rattle.sql_meaning.proofs.ValidLaws.{IsPut, created-table, found-rows, source_put, text-fits}
 
 -- the outcome of a text is that of what it is bound to
-text-is : (ctx : Context) (text : List ℕ) (b : BoundStatement) → text_bound ctx.state.world text ≡ Ok b → text_outcome ctx text ≡ outcome_of ctx b
+text-is : (ctx : Context) (text : List ℕ) (b : Runnable) → text_bound ctx.state.world text ≡ Ok b → text_outcome ctx text ≡ outcome_of ctx b
 text-is ctx text b is = ap (bound_outcome ctx) is
 
 -- ---- INSERT

@@ -14,10 +14,10 @@ use Rattle.eng_value.specs.declared.out.Out.{Out}
 use Rattle.eng_value.specs.declared.truth.Truth.{Truth}
 use Rattle.eng_value.specs.declared.truth.Truth.TheVariants as truth
 use Rattle.eng_value.specs.declared.value.Value.{Value}
-use Rattle.sql_meaning.specs.declared.bound.BoundExpr.{BoundExpr}
+use Rattle.bound_tree.specs.Exprs.{BoundExpr}
 use Rattle.sql_meaning.specs.declared.column.TableEntry.{TableEntry}
 use Rattle.sql_words.specs.Refusals.{◌>>=◌}
-use Rattle.sql_meaning.specs.BoundStatements.{Put}
+use Rattle.sql_meaning.specs.Runnables.{Put}
 use Rattle.sql_meaning.specs.Effects.{AreDrawn, IsFull, IsOneMore, last_rowid_of}
 use Rattle.sql_meaning.specs.Expression.{value_of}
 use Rattle.sql_meaning.specs.Statement.{Row, after_conjunct, if_some, item_of, items_at, row_put, row_under, rows_put, sifted, stored, values_placed, with_row}

@@ -5,7 +5,7 @@ use Rattle.eng_value.specs.Causes.{CauseSet, named, only}
 use Rattle.eng_value.specs.Written.{Written}
 use Rattle.eng_value.specs.declared.cause.Cause.{Cause}
 use Rattle.eng_value.specs.declared.value.Value.{Value}
-use Rattle.sql_meaning.specs.BoundStatements.{BoundStatement, Creates, DoesNothing, Drops, Put, Puts, Queries, Shows}
+use Rattle.sql_meaning.specs.Runnables.{Runnable, Creates, DoesNothing, Drops, Put, Puts, Queries, Shows}
 use Rattle.sql_meaning.specs.Statement.{Outcome, all_put, begun, bound_outcome, causes_of, given_of, outcome_of, put_source, refused, rows_put, source_of, text_bound, text_outcome}
 use Rattle.sql_meaning.specs.World.{Context, State}
 
@@ -24,7 +24,7 @@ put_source-keeps : (state : State) (p : Put) (causes : Option CauseSet) (source 
 put_source-keeps state p (Some causes) source = refused-keeps state causes
 put_source-keeps state p None source = all_put-keeps state (rows_put p (begun state) source)
 
-outcome_of-keeps : (ctx : Context) (b : BoundStatement) → Keeps ctx.state (outcome_of ctx b)
+outcome_of-keeps : (ctx : Context) (b : Runnable) → Keeps ctx.state (outcome_of ctx b)
 outcome_of-keeps ctx (Creates e) = record { kept = λ causes is. absurd (let bad : None ≡ Some causes = is in cc) }
 outcome_of-keeps ctx (Drops t) = record { kept = λ causes is. absurd (let bad : None ≡ Some causes = is in cc) }
 outcome_of-keeps ctx (Puts p) = put_source-keeps ctx.state p (causes_of (source_of ctx p)) (given_of (source_of ctx p))
@@ -32,7 +32,7 @@ outcome_of-keeps ctx (Queries q) = record { kept = λ causes is. (refl, refl, re
 outcome_of-keeps ctx (Shows rows) = record { kept = λ causes is. (refl, refl, refl) }
 outcome_of-keeps ctx DoesNothing = record { kept = λ causes is. (refl, refl, refl) }
 
-bound_outcome-keeps : (ctx : Context) (r : Result BoundStatement Cause) → Keeps ctx.state (bound_outcome ctx r)
+bound_outcome-keeps : (ctx : Context) (r : Result Runnable Cause) → Keeps ctx.state (bound_outcome ctx r)
 bound_outcome-keeps ctx (Ok b) = outcome_of-keeps ctx b
 bound_outcome-keeps ctx (Err why) = refused-keeps ctx.state (only why)
 

@@ -19,7 +19,7 @@ use Rattle.eng_value.specs.declared.out.Out.TheVariants.{Good, Bad}
 use Rattle.eng_value.specs.declared.value.Value.{Value}
 use Rattle.eng_value.specs.declared.value.Value.TheVariants as value
 use Rattle.std.proofs.lemmas.List.{length-map}
-use Rattle.sql_meaning.specs.BoundStatements.{Put}
+use Rattle.sql_meaning.specs.Runnables.{Put}
 use Rattle.sql_meaning.specs.declared.column.Column.{Column}
 use Rattle.sql_meaning.specs.declared.column.TableEntry.{TableEntry}
 use Rattle.sql_meaning.specs.Statement.{Item, Row, Failed, good_or_null, item_by, item_of, item_put, row_put, row_under, stored, value_at, values_placed, with_row}

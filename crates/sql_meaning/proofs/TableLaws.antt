@@ -10,7 +10,7 @@ use Rattle.std.proofs.lemmas.List.{get_or-set_other, get_or-set_same, get_or_app
 use Rattle.std.proofs.lemmas.List.Elements.{All-cons, All-head, All-nil, All-push, All-tail}
 use Rattle.std.proofs.lemmas.List.Quantifiers.{all_pairs_push}
 use Rattle.std.proofs.lemmas.Option.{get_or_from_slice_get, slice_get_within}
-use Rattle.eng_entry.specs.Entries.{Entries, entries_in, entries_not_named, with_entries, with_entry}
+use Rattle.eng_entry.specs.Entries.{entry_named, Entries, entries_in, entries_not_named, with_entries, with_entry}
 use Rattle.eng_entry.specs.Spaces.{space_of}
 use Rattle.eng_entry.specs.Names.{is_same_name}
 use Rattle.eng_entry.specs.declared.entry.Entry.{Entry}
@@ -100,6 +100,19 @@ others-none name (t ∷ tables) = by (is_same_name t.name name) refl (others-non
     by : (b : Bool) → is_same_name t.name name ≡ b → table_called (filter (is_other name) tables) name ≡ None → table_called (cond (not b) (t ∷ filter (is_other name) tables) (filter (is_other name) tables)) name ≡ None
     by true is rest = rest
     by false is rest = rw is rest
+
+-- where no entry has a name, no table has it
+pub none-called : (name : List ℕ) (entries : List Entry) → entry_named name entries ≡ None → table_called (tables_among entries) name ≡ None
+none-called name [] none = refl
+none-called name (e ∷ entries) none = by (is_same_name e.name name) refl (table_of e) (λ t is. table_of-name e t is) none (none-called name entries)
+  where
+    by : (b : Bool) → is_same_name e.name name ≡ b → (o : Option TableEntry) → ((t : TableEntry) → o ≡ Some t → t.name ≡ e.name) → cond b (Some e) (entry_named name entries) ≡ None
+        → (entry_named name entries ≡ None → table_called (tables_among entries) name ≡ None) → table_called (option_to_list o ++ tables_among entries) name ≡ None
+    by true is o named none rest = absurd (let bad : Some e ≡ None = none in cc)
+    by false is None named none rest = rest none
+    by false is (Some t) named none rest =
+        let here : is_same_name t.name name ≡ false = ap (λ n. is_same_name n name) (named t refl) ∙ is in
+        rw here (rest none)
 
 -- the entries of tables have other names where no table has this one
 abbrev pub IsDeclared : Entry → Type 0

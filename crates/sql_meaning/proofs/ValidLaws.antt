@@ -1,5 +1,5 @@
 -- States stay valid.
-use Rattle.std.proofs.Common.{◌≡◌, ◌≢◌, ℕ, ◌+◌, List, [], ◌∷◌, ◌++◌, Bool, true, false, ◌&&◌, length, map, not, position, Option, Some, None, Result, Ok, Err, ℤ, nat_eq, is_some, if◌then◌else◌, All, AllPairs, drop, refl, sym, ap, ◌∙◌, subst}
+use Rattle.std.proofs.Common.{◌≡◌, ◌≢◌, flat_map, slice_get, suc, ℕ, ◌+◌, List, [], ◌∷◌, ◌++◌, Bool, true, false, ◌&&◌, length, map, not, position, Option, Some, None, Result, Ok, Err, ℤ, nat_eq, is_some, if◌then◌else◌, All, AllPairs, drop, refl, sym, ap, ◌∙◌, subst}
 use Rattle.std.specs.Bool.{⊤}
 use Rattle.std.specs.Option.{option_map}
 use Rattle.std.proofs.Math.Seq.{drop-append_seam}
@@ -8,7 +8,7 @@ use Rattle.std.proofs.lemmas.List.Elements.{All-drop, All-filter, All-head, All-
 use Rattle.std.proofs.lemmas.List.FromFn.{length-map-range_with_len}
 use Rattle.std.proofs.lemmas.List.Kept.{AllPairs-filter}
 use Rattle.std.proofs.lemmas.List.Quantifiers.{all_pairs_push}
-use Rattle.eng_entry.specs.Entries.{Entries}
+use Rattle.eng_entry.specs.Entries.{Entries, entry_named}
 use Rattle.eng_entry.specs.Names.{is_same_name}
 use Rattle.eng_entry.specs.declared.entry.Entry.{Entry}
 use Rattle.eng_entry.specs.declared.entry.EntryKind.TheVariants as entry_kind
@@ -18,39 +18,59 @@ use Rattle.eng_value.specs.StoredRows.{StoredRow}
 use Rattle.eng_value.specs.Written.{Written}
 use Rattle.eng_value.specs.declared.cause.Cause.{Cause}
 use Rattle.eng_value.specs.declared.cause.Cause.TheVariants as cause
-use Rattle.eng_value.specs.declared.cause.NameKind.TheVariants as name_kind
 use Rattle.eng_value.specs.declared.value.Value.{Value}
 use Rattle.sql_grammar.specs.Answers.{Answer, Tree, Syntax, TooMuch, place}
 use Rattle.sql_lex.specs.Cutting.{start_of}
 use Rattle.sql_lex.specs.Tokens.{tokens_of}
-use Rattle.sql_tree.specs.Layers.{PartLayer, of_part, of_query, of_select}
-use Rattle.sql_tree.specs.declared.expr.Expr.TheOpen.{QueryPart-F}
 use Rattle.sql_tree.specs.declared.statement.Command.{Command}
 use Rattle.sql_tree.specs.declared.statement.Command.TheVariants as command
 use Rattle.sql_tree.specs.declared.statement.Create.{Create}
-use Rattle.sql_tree.specs.declared.statement.Insert.{Insert}
-use Rattle.sql_tree.specs.declared.statement.InsertSource.{InsertSource}
-use Rattle.sql_tree.specs.declared.statement.InsertSource.TheVariants as source
-use Rattle.sql_tree.specs.declared.statement.Remove.{Remove}
-use Rattle.sql_tree.specs.declared.statement.RowCommand.{RowCommand}
-use Rattle.sql_tree.specs.declared.statement.RowCommand.TheVariants as rows_by
 use Rattle.sql_tree.specs.declared.statement.Statement.{Statement}
-use Rattle.sql_meaning.specs.declared.bound.BoundExpr.{BoundExpr}
+use Rattle.bound_tree.specs.Exprs.{BoundExpr}
 use Rattle.sql_meaning.specs.declared.column.Column.{Column}
 use Rattle.sql_meaning.specs.declared.column.TableEntry.{TableEntry}
 use Rattle.sql_words.specs.Refusals.{◌>>=◌}
-use Rattle.sql_meaning.specs.BoundStatements.{BoundStatement, Creates, DoesNothing, Drops, Put, Puts, Queries, Shows}
-use Rattle.sql_meaning.specs.Built.{is_built, is_table}
-use Rattle.sql_meaning.specs.Declarations.{columns_created, columns_given, columns_of_definition, table_called, table_of, table_with, tables_among, tables_of}
+use Rattle.sql_meaning.specs.Runnables.{Runnable, Creates, DoesNothing, Drops, Put, Puts, Queries, Shows}
 use Rattle.sql_meaning.specs.Effects.{last_rowid_of}
-use Rattle.sql_words.specs.Names.{is_reserved_name}
 use Rattle.sql_words.specs.Spelled.{name_at}
 use Rattle.sql_words.specs.Bodies.{answer_of, body_of}
-use Rattle.sql_meaning.specs.Statement.{all_put, answer_bound, begun, bound_outcome, causes_of, command_bound, create_bound, created, drop_bound, dropped, entry_with, fitting, found_table, given_of, is_free_name, is_new_table, limit_kind, outcome_of, part_bound, places_for, places_named, put_bound, put_from, put_source, rows_bound, rows_in, rows_put, select_bound, source_of, statement_bound, table_named, text_bound, text_outcome, values_for, where_built, with_created, without_table, written}
 use Rattle.sql_meaning.specs.Valid.{IsRowOf, IsTable, IsValid, IsWorld}
 use Rattle.sql_meaning.specs.World.{Context, State, World, rows_at, tables_in}
 use Rattle.sql_meaning.proofs.EffectLaws.{PutsRows, rows_put-all}
-use Rattle.sql_meaning.proofs.TableLaws.{IsDeclared, among-others, among-push, found-all, found-own, is_other, none-named, numbers-more, tables-emptied, tables-more, tables-with, with_entry-names}
+use Rattle.sql_meaning.proofs.TableLaws.{IsDeclared, among-others, among-push, found-all, found-own, is_other, none-called, none-named, numbers-more, tables-emptied, tables-more, tables-with, with_entry-names}
+use Rattle.sql_meaning.specs.Statement.{all_put, answer_bound, around, begun, bound_outcome, causes_of, given_of, limit_kind, outcome_of, put_source, rows_put, source_of, statement_bound, text_bound, text_outcome, with_created, without_table, written}
+use Rattle.sql_meaning.specs.Built.{is_built}
+use Rattle.sql_meaning.specs.Declarations.{columns_created, columns_kept, columns_of, table_called, table_of, table_with, tables_among, tables_of}
+use Rattle.sql_meaning.specs.Running.{command_of, creation_of, entry_with, first_part, found_table, from_of, if_built, is_plain_core, part_of, places_of, put_into, put_of, query_of, removal_of, rows_of_part, runnable_of, table_of_source}
+use Rattle.sql_meaning.specs.Runnables.{FromItem}
+use Rattle.bound_tree.specs.Conditions.{conditions_of}
+use Rattle.sql_words.specs.Names.{is_reserved_name}
+use Rattle.sql_tree.specs.declared.statement.Definition.{Definition}
+use Rattle.sql_tree.specs.declared.statement.Definition.TheVariants as definition
+use Rattle.sql_tree.specs.declared.statement.Explain.{Explain}
+use Rattle.sql_tree.specs.declared.statement.TableDefinition.{TableDefinition}
+use Rattle.bound_tree.specs.declared.statements.BoundCommand.{BoundCommand}
+use Rattle.bound_tree.specs.declared.statements.BoundCommand.TheVariants as bound
+use Rattle.bound_tree.specs.declared.statements.BoundCreation.{BoundCreation}
+use Rattle.bound_tree.specs.declared.statements.BoundStatement.{BoundStatement}
+use Rattle.bound_tree.specs.declared.statements.ThingKind.{ThingKind}
+use Rattle.bound_tree.specs.declared.statements.ThingKind.TheVariants.{ATable}
+use Rattle.bound_tree.specs.declared.statements.ThingKind.TheVariants as thing
+use Rattle.bound_tree.specs.declared.units.BoundPart.{BoundPart}
+use Rattle.bound_tree.specs.declared.units.BoundPart.TheVariants as part
+use Rattle.bound_tree.specs.declared.units.BoundSource.{BoundSource}
+use Rattle.bound_tree.specs.declared.units.BoundSource.TheVariants as source
+use Rattle.bound_tree.specs.declared.units.BoundUnit.{BoundUnit}
+use Rattle.bound_tree.specs.declared.writes.BoundChange.{BoundChange}
+use Rattle.bound_tree.specs.declared.writes.BoundChange.TheVariants as change
+use Rattle.bound_tree.specs.declared.writes.BoundWrite.{BoundWrite}
+use Rattle.sql_bound.specs.Creates.{Declaring, create_bound, create_there, created_by, creating, entries_beside, is_free, name_of_entry, named_kind, not_there, nothing_created, table_created, with_column, with_table_constraint}
+use Rattle.sql_bound.specs.Creates as creates
+use Rattle.sql_bound.specs.Declarations.{table_in}
+use Rattle.sql_bound.specs.Scopes.{Around, Outer, in_statement}
+use Rattle.sql_bound.specs.Statements.{bound_of, command_bound, plain, statement_with}
+use Rattle.sql_bound.specs.Trees.{full_depth, outer_at}
+use Rattle.sql_bound.specs.Writes.{Opened}
 
 -- ---- what is bound
 
@@ -72,7 +92,7 @@ pub record IsPut (tables : List TableEntry) (p : Put) : Type 0 where
   pub found : table_called tables p.table.name ≡ Some p.table
   pub places : length p.places ≡ length p.table.columns
 
-abbrev pub FitsIn : List TableEntry → ℕ → BoundStatement → Type 0
+abbrev pub FitsIn : List TableEntry → ℕ → Runnable → Type 0
 FitsIn tables number (Creates e) = IsCreated tables number e
 FitsIn tables number (Drops t) = table_called tables t.name ≡ Some t
 FitsIn tables number (Puts p) = IsPut tables p
@@ -80,137 +100,227 @@ FitsIn tables number (Queries q) = ⊤
 FitsIn tables number (Shows rows) = ⊤
 FitsIn tables number DoesNothing = ⊤
 
--- ---- CREATE TABLE
+pub same-ok : {A : Type 0} (x y : A) → let r : Result A Cause = Ok x in r ≡ Ok y → x ≡ y
+same-ok x y e = cc
 
-free_by : (reserved : Bool) (found : Option TableEntry) (name : List ℕ) (u : Unit {0}) → (if reserved then Err (cause.Reserved name) else is_new_table found) ≡ Ok u → found ≡ None
-free_by true found name u e = absurd (cc)
-free_by false None name u e = refl
-free_by false (Some t) name u e = absurd (cc)
+-- what is built came to something
+pub if_built-ok : {A : Type 0} (t : Bool) (r : Result A Cause) (a : A) → if_built t r ≡ Ok a → (t ≡ true) × (r ≡ Ok a)
+if_built-ok true r a e = (refl, e)
+if_built-ok false r a e = absurd (let bad : Err cause.NotYet ≡ Ok a = e in cc)
 
-created-fits : (tables : List TableEntry) (number : ℕ) (text : List ℕ) (s : Statement) (c : Create) (b : BoundStatement) → s.command ≡ command.Create c → created tables number text s c ≡ Ok b → FitsIn tables number b
-created-fits tables number text s c b is e =
-    let name = name_at text c.name in
-    let entry = entry_with number text name s in
-    let free = then-ok (is_free_name tables name) (λ u. columns_of_definition text c.definition >>= λ columns. Ok (Creates entry)) b e in
-    let made = then-ok (columns_of_definition text c.definition) (λ columns. Ok (Creates entry)) b free.2 in
-    let same : Creates entry ≡ b = (let both : Ok (Creates entry) ≡ Ok b = made.2 in cc) in
-    subst (FitsIn tables number) same (record {
-      kind = refl;
-      free = free_by (is_reserved_name name) (table_called tables name) name free.0 free.1;
-      columns = made.0;
-      declared = ap (columns_created text) is ∙ ap columns_given made.1;
-      number = refl;
-    })
+-- ---- tables
 
-nothing-fits : (tables : List TableEntry) (number : ℕ) (b : BoundStatement) → let r : Result BoundStatement Cause = Ok DoesNothing in r ≡ Ok b → FitsIn tables number b
-nothing-fits tables number b e = subst (FitsIn tables number) (let same : DoesNothing ≡ b = cc in same) tt
+found_by : (o : Option TableEntry) (t : TableEntry) → found_table o ≡ Ok t → o ≡ Some t
+found_by None t e = absurd (let bad : Err cause.NotYet ≡ Ok t = e in cc)
+found_by (Some u) t e = ap Some (same-ok u t e)
 
-create-fits : (tables : List TableEntry) (number : ℕ) (text : List ℕ) (s : Statement) (c : Create) (b : BoundStatement) → s.command ≡ command.Create c → create_bound tables number text s c ≡ Ok b → FitsIn tables number b
-create-fits tables number text s c b is e = by (c.if_not_exists && is_some (table_called tables (name_at text c.name))) e
-  where
-    by : (there : Bool) → (if there then Ok DoesNothing else created tables number text s c) ≡ Ok b → FitsIn tables number b
-    by true f = nothing-fits tables number b f
-    by false f = created-fits tables number text s c b is f
+source-own : (tables : List TableEntry) (s : BoundSource) (t : TableEntry) → table_of_source tables s ≡ Ok t → table_called tables t.name ≡ Some t
+source-own tables (source.Table name number) t e = found-own tables name t (found_by (table_called tables name) t e)
+source-own tables source.Given t e = absurd (let bad : Err cause.NotYet ≡ Ok t = e in cc)
+source-own tables (source.Module a b n xs) t e = absurd (let bad : Err cause.NotYet ≡ Ok t = e in cc)
+source-own tables (source.View name u) t e = absurd (let bad : Err cause.NotYet ≡ Ok t = e in cc)
+source-own tables (source.Query u xs) t e = absurd (let bad : Err cause.NotYet ≡ Ok t = e in cc)
+source-own tables (source.With u xs) t e = absurd (let bad : Err cause.NotYet ≡ Ok t = e in cc)
+source-own tables (source.Recursive u xs) t e = absurd (let bad : Err cause.NotYet ≡ Ok t = e in cc)
+source-own tables source.Queue t e = absurd (let bad : Err cause.NotYet ≡ Ok t = e in cc)
 
--- ---- DROP TABLE and PRAGMA
+-- ---- queries
 
-drop-fits : (tables : List TableEntry) (number : ℕ) (text : List ℕ) (r : Remove) (b : BoundStatement) → drop_bound tables text r ≡ Ok b → FitsIn tables number b
-drop-fits tables number text r b e = by (is_table r.kind) e
-  where
-    name : List ℕ
-    name = name_at text r.name
+part-fits : (tables : List TableEntry) (number : ℕ) (p : BoundPart) (r : Runnable) → part_of tables p ≡ Ok r → FitsIn tables number r
+part-fits tables number (part.Values rows) r e = subst (FitsIn tables number) (same-ok (Shows rows) r e) tt
+part-fits tables number (part.Select c) r e =
+    let shown : List FromItem → Result Runnable Cause = λ from. Ok (Queries (record { from = from; conjuncts = flat_map conditions_of c.conjuncts; results = c.results })) in
+    let made = then-ok (from_of tables c.items) shown r (if_built-ok (is_plain_core c) (from_of tables c.items >>= shown) r e).1 in
+    subst (FitsIn tables number) (same-ok _ r made.2) tt
 
-    found : (if_exists : Bool) (t : Option TableEntry) → table_called tables name ≡ t → dropped if_exists name t ≡ Ok b → FitsIn tables number b
-    found if_exists (Some t) is f = subst (FitsIn tables number) (let same : Drops t ≡ b = cc in same) (found-own tables name t is)
-    found true None is f = nothing-fits tables number b f
-    found false None is f = absurd (cc)
-
-    by : (table : Bool) → (if table then dropped r.if_exists name (table_called tables name) else Err cause.NotYet) ≡ Ok b → FitsIn tables number b
-    by true f = found r.if_exists (table_called tables name) refl f
-    by false f = absurd (let bad : Err cause.NotYet ≡ Ok b = f in cc)
-
-pragma-fits : (tables : List TableEntry) (number : ℕ) (known : Bool) (name : List ℕ) (b : BoundStatement) → (if known then Ok DoesNothing else Err (cause.Unknown name_kind.Pragma name)) ≡ Ok b → FitsIn tables number b
-pragma-fits tables number true name b e = nothing-fits tables number b e
-pragma-fits tables number false name b e = absurd (let bad : Err (cause.Unknown name_kind.Pragma name) ≡ Ok b = e in cc)
+query-fits : (tables : List TableEntry) (number : ℕ) (units : List BoundUnit) (place : ℕ) (r : Runnable) → query_of tables units place ≡ Ok r → FitsIn tables number r
+query-fits tables number units place r e =
+    let made = then-ok (first_part (slice_get units place)) (part_of tables) r e in part-fits tables number made.0 r made.2
 
 -- ---- INSERT
 
-found_by : (name : List ℕ) (found : Option TableEntry) (t : TableEntry) → found_table name found ≡ Ok t → found ≡ Some t
-found_by name None t e = absurd (cc)
-found_by name (Some u) t e = cc
+long-places : (columns : List Column) (places : List (Option ℕ)) → length (places_of columns places) ≡ length columns
+long-places [] places = refl
+long-places (c ∷ columns) [] = ap suc (long-places columns [])
+long-places (c ∷ columns) (p ∷ places) = ap suc (long-places columns places)
 
--- each column has its place
-record Places (t : TableEntry) (p : Put) : Type 0 where
+-- the table of the put, and a place for each of its columns
+record Into (t : TableEntry) (p : Put) : Type 0 where
   table : p.table ≡ t
   long : length p.places ≡ length t.columns
 
-from-places : (text : List ℕ) (t : TableEntry) (places : List ℕ) (s : InsertSource) (p : Put) → put_from text t places s ≡ Ok p → Places t p
-from-places text t places (source.Query q) p e =
-    let made : List (List BoundExpr) → Result Put Cause = λ rows. Ok (record { table = t; places = places_for t.columns places; rows = rows }) in
-    let rows = then-ok (values_for text (of_part (of_query q).first)) (λ rows. fitting t (length places) rows >>= made) p e in
-    let fits = then-ok (fitting t (length places) rows.0) made p rows.2 in
-    let put : Put = record { table = t; places = places_for t.columns places; rows = fits.0 } in
-    let same : put ≡ p = (let both : Ok put ≡ Ok p = fits.2 in cc) in
-    subst (Places t) same (record { table = refl; long = length-map-range_with_len (λ k. position (nat_eq k) places) 0 (length t.columns) })
-from-places text t places source.Defaults p e =
-    let put : Put = record { table = t; places = map (λ c. None) t.columns; rows = [] ∷ [] } in
-    let same : put ≡ p = (let both : Ok put ≡ Ok p = e in cc) in
-    subst (Places t) same (record { table = refl; long = length-map t.columns (λ c. None) })
+into : (t : TableEntry) (units : List BoundUnit) (c : BoundChange) (p : Put) → put_into t units c ≡ Ok p → Into t p
+into t units (change.Inserted places None source args) p e =
+    let made : List (List BoundExpr) → Result Put Cause = λ rows. Ok (record { table = t; places = places_of t.columns places; rows = rows }) in
+    let one = then-ok (first_part (slice_get units source) >>= rows_of_part) made p e in
+    subst (Into t) (same-ok _ p one.2) (record { table = refl; long = long-places t.columns places })
+into t units (change.Inserted places (Some rowid) source args) p e = absurd (let bad : Err cause.NotYet ≡ Ok p = e in cc)
+into t units change.Defaulted p e =
+    let put : Put = record { table = t; places = places_of t.columns []; rows = [] ∷ [] } in
+    subst (Into t) (same-ok put p e) (record { table = refl; long = long-places t.columns [] })
+into t units (change.Updated sets conjuncts) p e = absurd (let bad : Err cause.NotYet ≡ Ok p = e in cc)
+into t units (change.Deleted conjuncts) p e = absurd (let bad : Err cause.NotYet ≡ Ok p = e in cc)
 
-put-fits : (tables : List TableEntry) (text : List ℕ) (i : Insert) (p : Put) → put_bound tables text i ≡ Ok p → IsPut tables p
-put-fits tables text i p e =
-    let name = name_at text i.table in
-    let table = then-ok (table_named tables name) (λ t. places_named text t.columns i.columns >>= λ places. put_from text t places i.source) p e in
-    let t = table.0 in
-    let places = then-ok (places_named text t.columns i.columns) (λ places. put_from text t places i.source) p table.2 in
-    let put = from-places text t places.0 i.source p places.2 in
-    record {
-      found = subst (λ u. table_called tables u.name ≡ Some u) (sym put.table) (found-own tables name t (found_by name (table_called tables name) t table.1));
-      places = put.long ∙ ap (λ (u : TableEntry). length u.columns) (sym put.table);
-    }
+put-fits : (tables : List TableEntry) (number : ℕ) (units : List BoundUnit) (w : BoundWrite) (r : Runnable) → put_of tables units w ≡ Ok r → FitsIn tables number r
+put-fits tables number units w r e =
+    let puts : Put → Result Runnable Cause = λ put. Ok (Puts put) in
+    let table = then-ok (table_of_source tables w.target.item.source) (λ t. put_into t units w.change >>= puts) r e in
+    let put = then-ok (put_into table.0 units w.change) puts r table.2 in
+    let held = into table.0 units w.change put.0 put.1 in
+    subst (FitsIn tables number) (same-ok (Puts put.0) r put.2) (record {
+      found = subst (λ u. table_called tables u.name ≡ Some u) (sym held.table) (source-own tables w.target.item.source table.0 table.1);
+      places = held.long ∙ ap (λ (u : TableEntry). length u.columns) (sym held.table);
+    })
 
--- ---- whatever is bound
+-- ---- CREATE TABLE: what is bound has a name that nothing has
 
-part-fits : (tables : List TableEntry) (number : ℕ) (text : List ℕ) (part : PartLayer) (b : BoundStatement) → part_bound tables text part ≡ Ok b → FitsIn tables number b
-part-fits tables number text (QueryPart-F.Select s) b e =
-    let made = then-ok (select_bound tables text (of_select s)) (λ q. Ok (Queries q)) b e in
-    let same : Queries made.0 ≡ b = (let both : Ok (Queries made.0) ≡ Ok b = made.2 in cc) in
-    subst (FitsIn tables number) same tt
-part-fits tables number text (QueryPart-F.Values rows) b e =
-    let made = then-ok (rows_in text rows) (λ rows. Ok (Shows rows)) b e in
-    let same : Shows made.0 ≡ b = (let both : Ok (Shows made.0) ≡ Ok b = made.2 in cc) in
-    subst (FitsIn tables number) same tt
+not-there : (there : Option Entry) (u : Unit {0}) → not_there there ≡ Ok u → there ≡ None
+not-there None u e = refl
+not-there (Some entry) u e = absurd (let bad : Err (cause.Exists (named_kind entry.kind) entry.name) ≡ Ok u = e in cc)
 
-rows-fit : (tables : List TableEntry) (number : ℕ) (text : List ℕ) (r : RowCommand) (b : BoundStatement) → rows_bound tables text r ≡ Ok b → FitsIn tables number b
-rows-fit tables number text (rows_by.Query q) b e = part-fits tables number text (of_part (of_query q).first) b e
-rows-fit tables number text (rows_by.Insert i) b e =
-    let made = then-ok (put_bound tables text i) (λ put. Ok (Puts put)) b e in
-    let same : Puts made.0 ≡ b = (let both : Ok (Puts made.0) ≡ Ok b = made.2 in cc) in
-    subst (FitsIn tables number) same (put-fits tables text i made.0 made.1)
-rows-fit tables number text (rows_by.Update u) b e = absurd (let bad : Err cause.NotYet ≡ Ok b = e in cc)
-rows-fit tables number text (rows_by.Delete d) b e = absurd (let bad : Err cause.NotYet ≡ Ok b = e in cc)
+is-free : (reserved : Bool) (there : Option Entry) (name : List ℕ) (u : Unit {0}) → (if reserved then Err (cause.Reserved name) else not_there there) ≡ Ok u → there ≡ None
+is-free true there name u e = absurd (let bad : Err (cause.Reserved name) ≡ Ok u = e in cc)
+is-free false there name u e = not-there there u e
 
-command-fits : (tables : List TableEntry) (number : ℕ) (text : List ℕ) (s : Statement) (c : Command) (b : BoundStatement) → s.command ≡ c → command_bound tables number text s c ≡ Ok b → FitsIn tables number b
-command-fits tables number text s (command.Rows r) b is e = rows-fit tables number text r b e
-command-fits tables number text s (command.Create c) b is e = create-fits tables number text s c b is e
-command-fits tables number text s (command.Remove r) b is e = drop-fits tables number text r b e
-command-fits tables number text s (command.Transaction t) b is e = absurd (let bad : Err cause.NotYet ≡ Ok b = e in cc)
-command-fits tables number text s (command.Pragma p) b is e = pragma-fits tables number _ (name_at text p.name) b e
+-- the name of a table that is created is as it is written
+table-named : (a : Around) (text name : List ℕ) (t : TableDefinition) (c : BoundCreation) → table_created a text name t ≡ Ok c → c.name ≡ name
+table-named a text name t c e =
+    let made = λ (d : Declaring). creates.in_turn (with_table_constraint (creating a text name t)) t.constraints d in
+    let first = then-ok (creates.in_turn (with_column (creating a text name t)) t.columns (record { names = []; has_primary = false })) (λ d. made d >>= λ f. Ok (creates.creation_of ATable name [])) c e in
+    let second = then-ok (made first.0) (λ f. Ok (creates.creation_of ATable name [])) c first.2 in
+    ap (λ (x : BoundCreation). x.name) (sym (same-ok (creates.creation_of ATable name []) c second.2))
 
-is-built : (t : Bool) (r : Result BoundStatement Cause) (b : BoundStatement) → where_built t r ≡ Ok b → r ≡ Ok b
-is-built true r b e = e
-is-built false r b e = absurd (let bad : Err cause.NotYet ≡ Ok b = e in cc)
+not-created : (k : ThingKind) (name owner : List ℕ) (c : BoundCreation) → let r : Result BoundCommand Cause = Ok (bound.Nothing k name owner) in r ≡ Ok (bound.Created c) → ⊥
+not-created k name owner c e =
+    let bad : bound.Nothing k name owner ≡ bound.Created c = same-ok (bound.Nothing k name owner) (bound.Created c) e in cc
 
-pub statement-fits : (tables : List TableEntry) (number : ℕ) (text : List ℕ) (s : Statement) (b : BoundStatement) → statement_bound tables number text s ≡ Ok b → FitsIn tables number b
-statement-fits tables number text s b e =
-    command-fits tables number text s s.command b refl (is-built (is_built text s) (command_bound tables number text s s.command) b e)
+created-free : (o : Outer) (cr : Create) (t : TableDefinition) (name : List ℕ) (there : Option Entry) (c : BoundCreation) → cr.definition ≡ definition.Table t → create_there o cr name there ≡ Ok (bound.Created c) → (there ≡ None) × (c.name ≡ name)
+created-free o cr t name there c is e = by (cr.if_not_exists && is_some there) cr.definition is e
+  where
+    made : Definition → Result BoundCommand Cause
+    made d = is_free name there >>= λ u. created_by o name d >>= λ x. Ok (bound.Created x)
 
-answer-fits : (w : World) (before : ℕ) (text : List ℕ) (x : Answer Statement) (b : BoundStatement) → answer_bound w before text x ≡ Ok b → FitsIn (tables_of w.catalog) (length w.tables) b
-answer-fits w before text (Tree s) b e = statement-fits (tables_of w.catalog) (length w.tables) (body_of text) s b e
+    by : (skips : Bool) (d : Definition) → d ≡ definition.Table t → (if skips then Ok (nothing_created o (name_of_entry name there) d) else made d) ≡ Ok (bound.Created c) → (there ≡ None) × (c.name ≡ name)
+    by true d is f =
+        absurd (not-created ATable (name_of_entry name there) [] c (subst (λ x. (let r : Result BoundCommand Cause = Ok (nothing_created o (name_of_entry name there) x) in r ≡ Ok (bound.Created c))) is f))
+    by false d is f =
+        let g : made (definition.Table t) ≡ Ok (bound.Created c) = subst (λ x. made x ≡ Ok (bound.Created c)) is f in
+        let free = then-ok (is_free name there) (λ u. created_by o name (definition.Table t) >>= λ x. Ok (bound.Created x)) (bound.Created c) g in
+        let table = then-ok (table_created o.around o.text name t) (λ x. Ok (bound.Created x)) (bound.Created c) free.2 in
+        let same : bound.Created table.0 ≡ bound.Created c = same-ok (bound.Created table.0) (bound.Created c) table.2 in
+        let one : table.0 ≡ c = cc in
+        (is-free (is_reserved_name name) there name free.0 free.1, subst (λ (x : BoundCreation). x.name ≡ name) one (table-named o.around o.text name t table.0 table.1))
+
+abbrev creates_table : Definition → Bool
+creates_table (definition.Table t) = true
+creates_table other = false
+
+abbrev is_table_made : Command → Bool
+is_table_made (command.Create c) = creates_table c.definition
+is_table_made other = false
+
+made-by : (text : List ℕ) (d : Definition) → is_some (columns_kept (option_map (columns_of text) (table_in (Some d)))) ≡ true → creates_table d ≡ true
+made-by text (definition.Table t) there = refl
+made-by text (definition.Index i) there = absurd (let bad : false ≡ true = there in cc)
+made-by text (definition.View v) there = absurd (let bad : false ≡ true = there in cc)
+made-by text (definition.Trigger t) there = absurd (let bad : false ≡ true = there in cc)
+made-by text (definition.VirtualTable v) there = absurd (let bad : false ≡ true = there in cc)
+
+-- what declares columns creates a table
+made-table : (text : List ℕ) (k : Command) → is_some (columns_created text k) ≡ true → is_table_made k ≡ true
+made-table text (command.Create c) there = made-by text c.definition there
+made-table text (command.Rows r) there = absurd (let bad : false ≡ true = there in cc)
+made-table text (command.Remove r) there = absurd (let bad : false ≡ true = there in cc)
+made-table text (command.Transaction t) there = absurd (let bad : false ≡ true = there in cc)
+made-table text (command.Pragma p) there = absurd (let bad : false ≡ true = there in cc)
+
+create-free : (o : Outer) (cr : Create) (d : Definition) (c : BoundCreation) → cr.definition ≡ d → creates_table d ≡ true → create_bound o cr ≡ Ok (bound.Created c) → entry_named c.name o.around.catalog.names ≡ None
+create-free o cr (definition.Table t) c is made e =
+    let name = name_at o.text cr.name in
+    let f : create_there o cr name (entry_named name o.around.catalog.names) ≡ Ok (bound.Created c) = subst (λ d. create_there o cr name (entry_named name (entries_beside o.around d)) ≡ Ok (bound.Created c)) is e in
+    let free = created-free o cr t name (entry_named name o.around.catalog.names) c is f in
+    subst (λ n. entry_named n o.around.catalog.names ≡ None) (sym free.1) free.0
+create-free o cr (definition.Index i) c is made e = absurd (let bad : false ≡ true = made in cc)
+create-free o cr (definition.View v) c is made e = absurd (let bad : false ≡ true = made in cc)
+create-free o cr (definition.Trigger t) c is made e = absurd (let bad : false ≡ true = made in cc)
+create-free o cr (definition.VirtualTable v) c is made e = absurd (let bad : false ≡ true = made in cc)
+
+command-free : (o : Outer) (k : Command) (explain : Option Explain) (b : BoundStatement) (c : BoundCreation) → is_table_made k ≡ true → command_bound o k >>= (λ x. Ok (statement_with explain x)) ≡ Ok b → b.command ≡ bound.Created c
+    → entry_named c.name o.around.catalog.names ≡ None
+command-free o (command.Create cr) explain b c made e is =
+    let whole = then-ok (command_bound o (command.Create cr)) (λ x. Ok (statement_with explain x)) b e in
+    let one = then-ok (create_bound o cr) (λ x. Ok (plain x)) whole.0 whole.1 in
+    let same : plain one.0 ≡ whole.0 = same-ok (plain one.0) whole.0 one.2 in
+    let all : statement_with explain whole.0 ≡ b = same-ok (statement_with explain whole.0) b whole.2 in
+    let here : one.0 ≡ bound.Created c = ap (λ (x : BoundCommand × Opened). x.0) same ∙ ap (λ (x : BoundStatement). x.command) all ∙ is in
+    create-free o cr cr.definition c refl made (one.1 ∙ ap Ok here)
+command-free o (command.Rows r) explain b c made e is = absurd (let bad : false ≡ true = made in cc)
+command-free o (command.Remove r) explain b c made e is = absurd (let bad : false ≡ true = made in cc)
+command-free o (command.Transaction t) explain b c made e is = absurd (let bad : false ≡ true = made in cc)
+command-free o (command.Pragma p) explain b c made e is = absurd (let bad : false ≡ true = made in cc)
+
+-- ---- CREATE TABLE: the entry
+
+some-columns : (o : Option (List Column)) → is_some o ≡ true → (columns : List Column) × (o ≡ Some columns)
+some-columns (Some columns) there = (columns, refl)
+some-columns None there = absurd (let bad : false ≡ true = there in cc)
+
+creation-fits : (catalog : Entries) (number : ℕ) (text : List ℕ) (s : Statement) (c : BoundCreation) (r : Runnable) → (is_table_made s.command ≡ true → entry_named c.name catalog.names ≡ None) → creation_of number text s c ≡ Ok r → FitsIn (tables_of catalog) number r
+creation-fits catalog number text s c r free e =
+    let entry = entry_with number text c.name s in
+    let built = if_built-ok (is_some (columns_created text s.command)) (Ok (Creates entry)) r e in
+    let columns = some-columns (columns_created text s.command) built.0 in
+    subst (FitsIn (tables_of catalog) number) (same-ok (Creates entry) r built.1) (record {
+      kind = refl;
+      free = none-called c.name catalog.names (free (made-table text s.command built.0));
+      columns = columns.0;
+      declared = columns.1;
+      number = refl;
+    })
+
+-- ---- DROP TABLE
+
+removal-fits : (tables : List TableEntry) (number : ℕ) (k : ThingKind) (name : List ℕ) (r : Runnable) → removal_of tables k name ≡ Ok r → FitsIn tables number r
+removal-fits tables number thing.ATable name r e =
+    let drops : TableEntry → Result Runnable Cause = λ t. Ok (Drops t) in
+    let table = then-ok (found_table (table_called tables name)) drops r e in
+    subst (FitsIn tables number) (same-ok (Drops table.0) r table.2) (found-own tables name table.0 (found_by (table_called tables name) table.0 table.1))
+removal-fits tables number thing.AModuleTable name r e = absurd (let bad : Err cause.NotYet ≡ Ok r = e in cc)
+removal-fits tables number thing.AnIndex name r e = absurd (let bad : Err cause.NotYet ≡ Ok r = e in cc)
+removal-fits tables number thing.AView name r e = absurd (let bad : Err cause.NotYet ≡ Ok r = e in cc)
+removal-fits tables number thing.ATrigger name r e = absurd (let bad : Err cause.NotYet ≡ Ok r = e in cc)
+
+-- ---- whatever runs
+
+command-fits : (catalog : Entries) (number : ℕ) (text : List ℕ) (s : Statement) (units : List BoundUnit) (k : BoundCommand) (r : Runnable) → ((c : BoundCreation) → k ≡ bound.Created c → is_table_made s.command ≡ true → entry_named c.name catalog.names ≡ None)
+    → command_of (tables_of catalog) number text s units k ≡ Ok r → FitsIn (tables_of catalog) number r
+command-fits catalog number text s units (bound.Asked place) r free e = query-fits (tables_of catalog) number units place r e
+command-fits catalog number text s units (bound.Written w) r free e = put-fits (tables_of catalog) number units w r e
+command-fits catalog number text s units (bound.Created c) r free e = creation-fits catalog number text s c r (free c refl) e
+command-fits catalog number text s units (bound.Removed x) r free e = removal-fits (tables_of catalog) number x.kind x.name r e
+command-fits catalog number text s units (bound.Transacted t) r free e = absurd (let bad : Err cause.NotYet ≡ Ok r = e in cc)
+command-fits catalog number text s units (bound.Pragma name) r free e = subst (FitsIn (tables_of catalog) number) (same-ok DoesNothing r e) tt
+command-fits catalog number text s units (bound.Nothing kind name owner) r free e = subst (FitsIn (tables_of catalog) number) (same-ok DoesNothing r e) tt
+
+-- over any FROMs and depth, since these are never entered here
+bound-fits : (o : Outer) (number : ℕ) (text : List ℕ) (s : Statement) (b : BoundStatement) (r : Runnable) → command_bound o s.command >>= (λ x. Ok (statement_with s.explain x)) ≡ Ok b → runnable_of (tables_of o.around.catalog) number text s b ≡ Ok r
+    → FitsIn (tables_of o.around.catalog) number r
+bound-fits o number text s b r is e =
+    command-fits o.around.catalog number text s b.units b.command r (λ c here made. command-free o s.command s.explain b c made is here) e
+
+pub statement-fits : (catalog : Entries) (number : ℕ) (text : List ℕ) (s : Statement) (r : Runnable) → statement_bound catalog number text s ≡ Ok r → FitsIn (tables_of catalog) number r
+statement-fits catalog number text s r e =
+    let a = around catalog in
+    let built = if_built-ok (is_built text s) (bound_of a text s >>= runnable_of (tables_of catalog) number text s) r e in
+    let made = then-ok (bound_of a text s) (runnable_of (tables_of catalog) number text s) r built.1 in
+    bound-fits (outer_at a (full_depth a) text [] in_statement) number text s made.0 r made.1 made.2
+
+answer-fits : (w : World) (before : ℕ) (text : List ℕ) (x : Answer Statement) (b : Runnable) → answer_bound w before text x ≡ Ok b → FitsIn (tables_of w.catalog) (length w.tables) b
+answer-fits w before text (Tree s) b e = statement-fits w.catalog (length w.tables) (body_of text) s b e
 answer-fits w before text (Syntax rest) b e = absurd (let bad : Err (cause.Syntax (before + place (length text) rest)) ≡ Ok b = e in cc)
 answer-fits w before text (TooMuch l rest) b e = absurd (let bad : Err (cause.Limit (limit_kind l)) ≡ Ok b = e in cc)
 
-pub text-fits : (w : World) (text : List ℕ) (b : BoundStatement) → text_bound w text ≡ Ok b → FitsIn (tables_of w.catalog) (length w.tables) b
+pub text-fits : (w : World) (text : List ℕ) (b : Runnable) → text_bound w text ≡ Ok b → FitsIn (tables_of w.catalog) (length w.tables) b
 text-fits w text b e =
     let before = start_of (tokens_of text) 0 in answer-fits w before (drop before text) (answer_of (drop before text)) b e
 
@@ -304,7 +414,7 @@ module _ (state : State) (valid : IsValid state) where
   put_source-valid p None source put = all_put-valid p.table (length source) (rows_put p (begun state) source) put.found (λ x is. source_put p x source put is)
 
 -- every outcome of a valid state is valid
-outcome-valid : (ctx : Context) (b : BoundStatement) → IsValid ctx.state → FitsIn (tables_in ctx.state) (length ctx.state.world.tables) b → IsValid (outcome_of ctx b).next
+outcome-valid : (ctx : Context) (b : Runnable) → IsValid ctx.state → FitsIn (tables_in ctx.state) (length ctx.state.world.tables) b → IsValid (outcome_of ctx b).next
 outcome-valid ctx (Creates e) valid fits = create-valid ctx.state valid e fits
 outcome-valid ctx (Drops t) valid fits = drop-valid ctx.state valid t
 outcome-valid ctx (Puts p) valid fits = put_source-valid ctx.state valid p (causes_of (source_of ctx p)) (given_of (source_of ctx p)) fits
@@ -312,7 +422,7 @@ outcome-valid ctx (Queries q) valid fits = valid
 outcome-valid ctx (Shows rows) valid fits = valid
 outcome-valid ctx DoesNothing valid fits = valid
 
-bound-valid : (ctx : Context) (r : Result BoundStatement Cause) → IsValid ctx.state → ((b : BoundStatement) → r ≡ Ok b → FitsIn (tables_in ctx.state) (length ctx.state.world.tables) b) → IsValid (bound_outcome ctx r).next
+bound-valid : (ctx : Context) (r : Result Runnable Cause) → IsValid ctx.state → ((b : Runnable) → r ≡ Ok b → FitsIn (tables_in ctx.state) (length ctx.state.world.tables) b) → IsValid (bound_outcome ctx r).next
 bound-valid ctx (Ok b) valid fits = outcome-valid ctx b valid (fits b refl)
 bound-valid ctx (Err why) valid fits = valid
 

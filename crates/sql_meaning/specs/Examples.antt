@@ -21,8 +21,8 @@ use Rattle.sql_lex.specs.Tokens.{tokens_of}
 use Rattle.sql_words.specs.Spelled.{the_text_test}
 use Rattle.sql_meaning.specs.declared.column.Column.{Column}
 use Rattle.sql_meaning.specs.declared.column.TableEntry.{TableEntry}
-use Rattle.sql_meaning.specs.BoundStatements.{Put}
-use Rattle.sql_meaning.specs.Statement.{Outcome, Row, Failed, all_put, begun, causes_of, places_for, rows_put, text_outcome}
+use Rattle.sql_meaning.specs.Runnables.{Put}
+use Rattle.sql_meaning.specs.Statement.{Outcome, Row, Failed, all_put, begun, causes_of, rows_put, text_outcome}
 use Rattle.sql_meaning.specs.World.{State, context, new_state, tables_in}
 
 abbrev run : State → List ℕ → Outcome
@@ -69,10 +69,6 @@ refused_row = refl
 -- of several bad rows in a source any may be named
 bad_rows : causes_of (Failed (only cause.Real) ∷ Row [] ∷ Failed (only cause.TooBig) ∷ []) ≡ Some (set.union (only cause.Real) (only cause.TooBig))
 bad_rows = ap Some (ap (λ s. set.union s (named (only cause.TooBig))) (named-only cause.Real) ∙ ap (set.union (only cause.Real)) (named-only cause.TooBig))
-
--- of a column that is named twice the first counts, and a column that is not named has no place
-places : places_for three_columns (2 ∷ 0 ∷ 2 ∷ []) ≡ Some 1 ∷ None ∷ Some 0 ∷ []
-places = refl
 
 refused_names : ((run created (codes "CREATE TABLE T(x)")).refusal ≡ Some (only (cause.Exists name_kind.Table (codes "t")))) × ((run created (codes "CREATE TABLE sqlite_x(a, a)")).refusal ≡ Some (only (cause.Reserved (codes "sqlite_x")))) × ((run created (codes "CREATE TABLE u(a, A)")).refusal ≡ Some (only (cause.Exists name_kind.Column (codes "a")))) × ((run created (codes "CREATE TABLE u(a DOUBLE)")).refusal ≡ Some (only cause.Real))
 unfolding all_statement_rules count tokens_of word_kind the_text_test

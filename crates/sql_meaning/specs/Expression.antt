@@ -9,6 +9,7 @@ use Rattle.eng_value.specs.Operators.{made}
 use Rattle.eng_value.specs.Outs.{bad}
 use Rattle.eng_value.specs.Truths.{and_of, choice_of}
 use Rattle.eng_value.specs.declared.builtin.Builtin.{Builtin}
+use Rattle.eng_value.specs.declared.cause.Cause.TheVariants as cause
 use Rattle.eng_value.specs.declared.collation.Collation.{Collation}
 use Rattle.eng_value.specs.declared.compare_op.CompareOp.TheVariants as compare
 use Rattle.eng_value.specs.declared.operators.Sides.{Sides}
@@ -16,12 +17,10 @@ use Rattle.eng_value.specs.declared.out.Out.{Out}
 use Rattle.eng_value.specs.declared.out.Out.TheVariants.{Good}
 use Rattle.eng_value.specs.declared.value.Value.{Value}
 use Rattle.eng_value.specs.declared.value.Value.TheVariants as value
-use Rattle.sql_meaning.specs.declared.bound.BoundArm.{BoundArm, fold-BoundArm}
-use Rattle.sql_meaning.specs.declared.bound.BoundExpr.{BoundExpr, fold-BoundExpr}
-use Rattle.sql_meaning.specs.declared.bound.BoundMatch.{BoundMatch, fold-BoundMatch}
-use Rattle.sql_meaning.specs.declared.bound.BoundExpr.TheOpen.{BoundExpr-F, BoundArm-F, BoundMatch-F}
 use Rattle.sql_words.specs.declared.literal.Literal.{Literal}
 use Rattle.sql_words.specs.declared.literal.Literal.TheVariants as literal
+use Rattle.bound_tree.specs.Exprs as e
+use Rattle.bound_tree.specs.Exprs.{BoundArm, BoundArms, BoundExpr, BoundExprs, BoundMatch, BoundMatches, NoExprs, AnExpr, NoArms, AnArm, NoMatches, AMatch}
 
 -- what something comes to, by the environment
 abbrev pub Meaning : Type 0
@@ -41,6 +40,10 @@ column_of_item env item place = column_of (row_at env item) place
 abbrev pub parameter_of : List Value → ℕ → Out
 parameter_of params zero = Good value.Null
 parameter_of params (suc k) = made (slice_index_or params k value.Null)
+
+-- what does not run yet
+abbrev pub unbuilt : Out
+unbuilt = bad cause.NotYet
 
 -- ---- what looks at operands in order, and not past the one that decides
 
@@ -76,35 +79,49 @@ between_of keys above below a low high = and_of (comparison_of keys compare.Ge a
 abbrev pub function_of : Keys → Builtin → Collation → List Out → Out
 function_of keys f collation args = function_by (value_keys keys) f collation args
 
-abbrev pub in_all : List Meaning → Environment → List Out
-in_all es env = map (λ e. e env) es
+abbrev mutual
+  -- what an expression comes to; arguments, aggregates, queries, functions of hosts and RAISE do not run yet
+  pub value_of : BoundExpr → Meaning
+  value_of (e.Literal l) env = literal_out l
+  value_of (e.Parameter number) env = parameter_of env.params number
+  value_of (e.Column item place) env = column_of_item env item place
+  value_of (e.Rowid item) env = (row_at env item).rowid
+  value_of (e.Argument place) env = unbuilt
+  value_of (e.Aggregate slot) env = unbuilt
+  value_of (e.Unary op a) env = unary_of op (value_of a env)
+  value_of (e.Binary op a b) env = binary_of (keys_of env.hosts) op (value_of a env) (value_of b env)
+  value_of (e.LikeEscaped a b c) env = like_escaped_of (value_of a env) (value_of b env) (value_of c env)
+  value_of (e.Between above below a low high) env = between_of (keys_of env.hosts) above below (value_of a env) (value_of low env) (value_of high env)
+  value_of (e.InList sides a others) env = member_of (keys_of env.hosts) sides (value_of a env) (values_of others env)
+  value_of (e.ChooseArm arms otherwise) env = chosen_in env (arms_of arms) (value_of otherwise env)
+  value_of (e.MatchArm a arms otherwise) env = matched_in env (value_of a env) (matches_of arms) (value_of otherwise env)
+  value_of (e.Iif a b c) env = choice_of (value_of a env) (value_of b env) (value_of c env)
+  value_of (e.CoalesceList f es) env = first_known (values_of es env)
+  value_of (e.CallBuiltin f collation args) env = function_of (keys_of env.hosts) f collation (values_of args env)
+  value_of (e.CallHost name args) env = unbuilt
+  value_of (e.ScalarOf unit args) env = unbuilt
+  value_of (e.ExistsIn unit args) env = unbuilt
+  value_of (e.InUnit sides a unit args) env = unbuilt
+  value_of e.RaiseIgnore env = unbuilt
+  value_of (e.RaiseAbort text) env = unbuilt
 
-abbrev pub value_step : BoundExpr-F Meaning Arm MatchArm → Meaning
-value_step (BoundExpr-F.Literal l) env = literal_out l
-value_step (BoundExpr-F.Column item place) env = column_of_item env item place
-value_step (BoundExpr-F.Parameter number) env = parameter_of env.params number
-value_step (BoundExpr-F.Unary op a) env = unary_of op (a env)
-value_step (BoundExpr-F.Binary op a b) env = binary_of (keys_of env.hosts) op (a env) (b env)
-value_step (BoundExpr-F.LikeEscaped a b c) env = like_escaped_of (a env) (b env) (c env)
-value_step (BoundExpr-F.Between above below a low high) env = between_of (keys_of env.hosts) above below (a env) (low env) (high env)
-value_step (BoundExpr-F.In sides a others) env = member_of (keys_of env.hosts) sides (a env) (in_all others env)
-value_step (BoundExpr-F.Coalesce es) env = first_known (in_all es env)
-value_step (BoundExpr-F.Choose arms otherwise) env = chosen_in env arms (otherwise env)
-value_step (BoundExpr-F.Match a arms otherwise) env = matched_in env (a env) arms (otherwise env)
-value_step (BoundExpr-F.Call f collation args) env = function_of (keys_of env.hosts) f collation (in_all args env)
+  pub values_of : BoundExprs → Environment → List Out
+  values_of NoExprs env = []
+  values_of (AnExpr a rest) env = value_of a env ∷ values_of rest env
 
-abbrev pub arm_step : BoundArm-F Meaning Arm MatchArm → Arm
-arm_step arm = record { condition = arm.condition; value = arm.value }
+  pub arms_of : BoundArms → List Arm
+  arms_of NoArms = []
+  arms_of (AnArm a b rest) = record { condition = value_of a; value = value_of b } ∷ arms_of rest
 
-abbrev pub match_step : BoundMatch-F Meaning Arm MatchArm → MatchArm
-match_step arm = record { sides = arm.sides; operand = arm.operand; value = arm.value }
-
--- what an expression comes to
-abbrev pub value_of : BoundExpr → Meaning
-value_of = fold-BoundExpr Meaning Arm MatchArm value_step arm_step match_step
+  pub matches_of : BoundMatches → List MatchArm
+  matches_of NoMatches = []
+  matches_of (AMatch sides a b rest) = record { sides = sides; operand = value_of a; value = value_of b } ∷ matches_of rest
 
 abbrev pub arm_of : BoundArm → Arm
-arm_of = fold-BoundArm Meaning Arm MatchArm value_step arm_step match_step
+arm_of arm = record { condition = value_of arm.condition; value = value_of arm.value }
 
 abbrev pub match_of : BoundMatch → MatchArm
-match_of = fold-BoundMatch Meaning Arm MatchArm value_step arm_step match_step
+match_of arm = record { sides = arm.sides; operand = value_of arm.operand; value = value_of arm.value }
+
+abbrev pub in_all : List Meaning → Environment → List Out
+in_all es env = map (λ e. e env) es

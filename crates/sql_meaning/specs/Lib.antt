@@ -1,17 +1,17 @@
 -- in the order in which they are read
 pub use Rattle.eng_entry.specs.Entries
-pub mod BoundStatements
-pub mod Binding
 pub mod Declarations
 pub mod World
 pub mod Valid
 pub mod Built
 pub mod Expression
 pub mod Clauses
+pub mod ExpressionExamples
+pub mod Runnables
+pub mod Running
 pub mod Statement
 pub mod Effects
 pub mod Work
-pub mod Sizes
 pub mod Named
 pub mod Parts
 pub mod Segments
@@ -19,5 +19,3 @@ pub mod Script
 pub mod Due
 pub mod Runs
 pub mod Examples
-pub mod BindingClauses
-pub mod QueryExamples

@@ -8,18 +8,14 @@ use Rattle.eng_value.specs.declared.collation.Collation.TheVariants as collation
 use Rattle.eng_value.specs.declared.operators.BinaryOperator.{BinaryOperator}
 use Rattle.eng_value.specs.declared.operators.BinaryOperator.TheVariants as binary
 use Rattle.eng_value.specs.declared.operators.Sides.{Sides}
-use Rattle.sql_meaning.specs.declared.bound.BoundExpr.{BoundExpr, fold-BoundExpr}
-use Rattle.sql_meaning.specs.declared.bound.BoundExpr.TheOpen.{BoundExpr-F, BoundArm-F, BoundMatch-F}
-use Rattle.sql_meaning.specs.BoundStatements.{BoundStatement, Creates, DoesNothing, Drops, Puts, Queries, Query, Shows}
+use Rattle.bound_tree.specs.Exprs as e
+use Rattle.bound_tree.specs.Exprs.{BoundArms, BoundExpr, BoundExprs, BoundMatches, NoExprs, AnExpr, NoArms, AnArm, NoMatches, AMatch}
+use Rattle.sql_meaning.specs.Runnables.{Runnable, Creates, DoesNothing, Drops, Puts, Queries, Query, Shows}
 use Rattle.sql_meaning.specs.Statement.{text_bound}
 use Rattle.sql_meaning.specs.World.{Context}
 
 abbrev pub Names : Type 0
 Names = List HostName
-
-abbrev pub all_of : List Names → Names
-all_of [] = []
-all_of (names ∷ rest) = names ++ all_of rest
 
 abbrev pub in_collation : Collation → Names
 in_collation (collation.Built b) = []
@@ -33,29 +29,43 @@ in_operator (binary.Compare op sides) = in_sides sides
 in_operator (binary.Is sides) = in_sides sides
 in_operator other = []
 
--- the collations by which it compares; no function of a host is built
-abbrev pub named_step : BoundExpr-F Names Names Names → Names
-named_step (BoundExpr-F.Literal l) = []
-named_step (BoundExpr-F.Column item place) = []
-named_step (BoundExpr-F.Parameter number) = []
-named_step (BoundExpr-F.Unary op a) = a
-named_step (BoundExpr-F.Binary op a b) = in_operator op ++ a ++ b
-named_step (BoundExpr-F.LikeEscaped a b c) = a ++ b ++ c
-named_step (BoundExpr-F.Between above below a low high) = in_sides above ++ in_sides below ++ a ++ low ++ high
-named_step (BoundExpr-F.In sides a others) = in_sides sides ++ a ++ all_of others
-named_step (BoundExpr-F.Coalesce es) = all_of es
-named_step (BoundExpr-F.Choose arms otherwise) = all_of arms ++ otherwise
-named_step (BoundExpr-F.Match a arms otherwise) = a ++ all_of arms ++ otherwise
-named_step (BoundExpr-F.Call f c args) = in_collation c ++ all_of args
+abbrev mutual
+  -- the collations by which it compares; no function of a host is built
+  pub named_in : BoundExpr → Names
+  named_in (e.Literal l) = []
+  named_in (e.Parameter number) = []
+  named_in (e.Column item place) = []
+  named_in (e.Rowid item) = []
+  named_in (e.Argument place) = []
+  named_in (e.Aggregate slot) = []
+  named_in (e.Unary op a) = named_in a
+  named_in (e.Binary op a b) = in_operator op ++ named_in a ++ named_in b
+  named_in (e.LikeEscaped a b c) = named_in a ++ named_in b ++ named_in c
+  named_in (e.Between above below a low high) = in_sides above ++ in_sides below ++ named_in a ++ named_in low ++ named_in high
+  named_in (e.InList sides a others) = in_sides sides ++ named_in a ++ named_in_all others
+  named_in (e.ChooseArm arms otherwise) = named_in_arms arms ++ named_in otherwise
+  named_in (e.MatchArm a arms otherwise) = named_in a ++ named_in_matches arms ++ named_in otherwise
+  named_in (e.Iif a b c) = named_in a ++ named_in b ++ named_in c
+  named_in (e.CoalesceList f es) = named_in_all es
+  named_in (e.CallBuiltin f c args) = in_collation c ++ named_in_all args
+  named_in (e.CallHost name args) = named_in_all args
+  named_in (e.ScalarOf unit args) = named_in_all args
+  named_in (e.ExistsIn unit args) = named_in_all args
+  named_in (e.InUnit sides a unit args) = in_sides sides ++ named_in a ++ named_in_all args
+  named_in e.RaiseIgnore = []
+  named_in (e.RaiseAbort text) = []
 
-abbrev pub named_arm_step : BoundArm-F Names Names Names → Names
-named_arm_step arm = arm.condition ++ arm.value
+  pub named_in_all : BoundExprs → Names
+  named_in_all NoExprs = []
+  named_in_all (AnExpr a rest) = named_in a ++ named_in_all rest
 
-abbrev pub named_match_step : BoundMatch-F Names Names Names → Names
-named_match_step arm = in_sides arm.sides ++ arm.operand ++ arm.value
+  pub named_in_arms : BoundArms → Names
+  named_in_arms NoArms = []
+  named_in_arms (AnArm a b rest) = named_in a ++ named_in b ++ named_in_arms rest
 
-abbrev pub named_in : BoundExpr → Names
-named_in = fold-BoundExpr Names Names Names named_step named_arm_step named_match_step
+  pub named_in_matches : BoundMatches → Names
+  named_in_matches NoMatches = []
+  named_in_matches (AMatch sides a b rest) = in_sides sides ++ named_in a ++ named_in b ++ named_in_matches rest
 
 abbrev pub named_by_row : List BoundExpr → Names
 named_by_row row = flat_map named_in row
@@ -63,7 +73,7 @@ named_by_row row = flat_map named_in row
 abbrev pub named_by_query : Query → Names
 named_by_query q = named_by_row q.conjuncts ++ named_by_row q.results
 
-abbrev pub named_by : Result BoundStatement Cause → Names
+abbrev pub named_by : Result Runnable Cause → Names
 named_by (Ok (Creates e)) = []
 named_by (Ok (Drops t)) = []
 named_by (Ok (Puts p)) = flat_map named_by_row p.rows

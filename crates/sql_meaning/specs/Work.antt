@@ -6,8 +6,8 @@ use Rattle.eng_value.specs.declared.cause.Cause.{Cause}
 use Rattle.eng_value.specs.declared.value.Value.{Value}
 use Rattle.sql_lex.specs.Tokens.{tokens_of}
 use Rattle.sql_meaning.specs.declared.column.TableEntry.{TableEntry}
-use Rattle.sql_meaning.specs.BoundStatements.{BoundStatement, Creates, DoesNothing, Drops, FromItem, Put, Puts, Queries, Shows}
-use Rattle.sql_meaning.specs.Sizes.{all_nodes}
+use Rattle.sql_meaning.specs.Runnables.{Runnable, Creates, DoesNothing, Drops, FromItem, Put, Puts, Queries, Shows}
+use Rattle.bound_size.specs.Sizes.{all_nodes}
 use Rattle.sql_meaning.specs.Statement.{begun, causes_of, given_of, item_rows, row_put, source_of, text_bound}
 use Rattle.sql_meaning.specs.World.{Context, State}
 
@@ -18,10 +18,10 @@ abbrev pub table_size : TableEntry → ℕ
 table_size t = t.tokens + length t.columns
 
 abbrev pub from_size : List FromItem → ℕ
-from_size items = sum (map (λ (i : FromItem). table_size i.table) items)
+from_size items = sum (map (λ (i : FromItem). i.table.tokens + i.width) items)
 
 -- of the tables that a statement opens
-abbrev pub opened_size : BoundStatement → ℕ
+abbrev pub opened_size : Runnable → ℕ
 opened_size (Creates e) = 0
 opened_size (Drops t) = 0
 opened_size (Puts p) = table_size p.table
@@ -30,7 +30,7 @@ opened_size (Shows rows) = 0
 opened_size DoesNothing = 0
 
 -- a WHERE repeats an expression wherever it names the result: what its tree has beyond sixteen nodes for each of so many tokens
-abbrev pub repeated_size : ℕ → BoundStatement → ℕ
+abbrev pub repeated_size : ℕ → Runnable → ℕ
 repeated_size tokens (Creates e) = 0
 repeated_size tokens (Drops t) = 0
 repeated_size tokens (Puts p) = 0
@@ -61,7 +61,7 @@ source_work state p (Some causes) source = 0
 source_work state p None source = turns_work p (begun state) source
 
 -- no expression holds another query yet, so that a query has the work of its FROM; a write has that of its source, which is 1, and its turns; what is neither query nor write has none
-abbrev pub work_of : Context → BoundStatement → ℕ
+abbrev pub work_of : Context → Runnable → ℕ
 work_of ctx (Creates e) = 0
 work_of ctx (Drops t) = 0
 work_of ctx (Puts p) = 1 + source_work ctx.state p (causes_of (source_of ctx p)) (given_of (source_of ctx p))
@@ -72,7 +72,7 @@ work_of ctx DoesNothing = 0
 -- ---- the bound
 
 -- of a text of so many tokens; what is refused before evaluation runs nothing
-abbrev pub bound_within : Context → ℕ → Result BoundStatement Cause → ℕ
+abbrev pub bound_within : Context → ℕ → Result Runnable Cause → ℕ
 bound_within ctx tokens (Ok b) = 256 * (tokens + opened_size b + repeated_size tokens b) * (work_of ctx b + 1)
 bound_within ctx tokens (Err why) = 0
 

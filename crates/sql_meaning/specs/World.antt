@@ -9,7 +9,7 @@ use Rattle.eng_value.specs.StoredRows.{StoredRow}
 use Rattle.eng_value.specs.declared.value.Value.{Value}
 use Rattle.eng_value.specs.declared.value.Value.TheVariants.{Integer}
 use Rattle.sql_meaning.specs.declared.column.TableEntry.{TableEntry}
-use Rattle.sql_meaning.specs.BoundStatements.{Query}
+use Rattle.sql_meaning.specs.Runnables.{Query}
 use Rattle.sql_meaning.specs.Declarations.{table_called, tables_of}
 
 -- a world: the catalog, and the rows of each table by ascending rowid. Tables go by their numbers: a table has the number under which its rows stand, and under the number of one that was dropped there are none

@@ -1,19 +1,18 @@
 //! What statements and scripts mean, over lists of rows: the definitions in specs/, and the plain types that they
 //! speak of.
 //!
-//! Nothing here runs, but that a bound tree is copied (src/copies.rt). A statement's meaning is an `Outcome` (specs/Statement.antt), a script's meaning is the list of
+//! Nothing here runs. A statement's meaning is an `Outcome` (specs/Statement.antt), a script's meaning is the list of
 //! the outcomes of its statements, from which its lines and its status follow (specs/Script.antt). Above the definitions
 //! stand laws in the subject's own words (src/laws.rt, src/states.rt). Begin with specs/World.antt and read on in the order of specs/Lib.antt.
 #![tactic(auto)]
 
 mod bound;
 mod column;
-mod copies;
 mod laws;
 mod script;
 mod states;
 
-pub use bound::{BoundArm, BoundExpr, BoundInsert, BoundMatch, BoundSelect, PutColumn};
+pub use bound::{BoundInsert, BoundSelect, PutColumn};
 pub use column::{Column, TableEntry};
 pub use laws::{
     a_refusal_keeps_the_state, each_refusal_has_a_cause, enough_budget_leaves_the_meaning,

@@ -77,6 +77,7 @@ module _ (g : List Row) where
   operand_given m s (operand.Parameter k) = refl
   operand_given m s (operand.Argument k) = refl
   operand_given m s (operand.Column c k) = refl
+  operand_given m s (operand.Rowid c) = refl
 
   operands_given : (m : Setting) (s : State) (os : List Operand) → map (operand_of m (under g s)) os ≡ map (operand_of m s) os
   operands_given m s [] = refl
@@ -124,6 +125,7 @@ module _ (g : List Row) where
   act_given m (Some (op.Rewind c target)) s = rewound_given (cursor_at s.scene.cursors c) s c target
   act_given m (Some (op.Next c target)) s = advanced_given (cursor_at s.scene.cursors c) s c target
   act_given m (Some (op.Column c k to)) s = refl
+  act_given m (Some (op.Rowid c to)) s = refl
   act_given m (Some (op.NewRowid c to name)) s = drawn_given s to name (next_rowid (cursor_rows (world_of s.shared) (cursor_at s.scene.cursors c)))
   act_given m (Some (op.Insert c rowid first n)) s = refl
   act_given m (Some (op.Schema change)) s = refl

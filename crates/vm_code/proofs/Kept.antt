@@ -114,6 +114,7 @@ module _ (P : Shared → Type 0) (given : (x : Shared) (r : Row) → P x → P (
   act_keeps m (Some (op.Rewind c target)) s p = rewound_keeps (cursor_at s.scene.cursors c) s c target p
   act_keeps m (Some (op.Next c target)) s p = advanced_keeps (cursor_at s.scene.cursors c) s c target p
   act_keeps m (Some (op.Column c k to)) s p = p
+  act_keeps m (Some (op.Rowid c to)) s p = p
   act_keeps m (Some (op.NewRowid c to name)) s p = drawn_keeps s to name (next_rowid (cursor_rows (world_of s.shared) (cursor_at s.scene.cursors c))) p
   act_keeps m (Some (op.Insert c rowid first n)) s p = inserted_keeps (cursor_at s.scene.cursors c) s.shared (record { rowid = integer_in s.regs rowid; values = values_from s.regs first n }) p
   act_keeps m (Some (op.Schema change)) s p = schema (s.shared, change) p

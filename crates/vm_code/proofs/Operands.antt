@@ -3,7 +3,7 @@ use Rattle.std.proofs.Common.{◌≡◌, ℕ, ◌+◌, ◌≤◌, ◌<◌, List,
 use Rattle.std.specs.Prelude.{slice_set}
 use Rattle.std.proofs.Math.ListN.{length-set}
 use Rattle.std.proofs.lemmas.List.{get_or-set_same, get_or-set_other, map-append}
-use Rattle.eng_value.specs.Environments.{Environment, column_of, row_at}
+use Rattle.eng_value.specs.Environments.{Environment, ItemRow, column_of, row_at}
 use Rattle.eng_value.specs.HostMeanings.{HostMeanings}
 use Rattle.eng_value.specs.declared.out.Out.{Out}
 use Rattle.vm_code.specs.declared.op.Op.{Op}
@@ -35,6 +35,10 @@ argument_plain k = record { reads = λ m h q. refl }
 pub column_plain : (c k : ℕ) → IsPlain (operand.Column c k) (λ env. column_of (row_at env c) k)
 column_plain c k =
     record { reads = λ m h q. ap (λ row. column_of row k) (row_now (world_of h.shared) h.scene.cursors c) }
+
+pub rowid_plain : (c : ℕ) → IsPlain (operand.Rowid c) (λ env. (row_at env c).rowid)
+rowid_plain c =
+    record { reads = λ m h q. ap (λ (row : ItemRow). row.rowid) (row_now (world_of h.shared) h.scene.cursors c) }
 
 -- no operand
 pub offers_none : (calls : Calls) (a : Draft) → a.next ≤ a.most → Offers calls a a [] (λ env. []) (λ env. 0)

@@ -9,7 +9,7 @@ use Rattle.eng_value.specs.Applied.{binary_of, function_by, unary_of}
 use Rattle.eng_value.specs.Causes.{CauseSet, is_skip, named, only}
 use Rattle.eng_value.specs.Collations.{keys_of}
 use Rattle.eng_value.specs.Comparisons.{like_escaped_of}
-use Rattle.eng_value.specs.Environments.{column_of}
+use Rattle.eng_value.specs.Environments.{ItemRow, column_of}
 use Rattle.eng_value.specs.StoredRows.{StoredRow, next_rowid}
 use Rattle.eng_value.specs.Written.{Written}
 use Rattle.eng_value.specs.declared.cause.Cause.TheVariants.{Full}
@@ -130,6 +130,7 @@ module _ (tables : List ℕ) where
     operand_alike (operand.Parameter k) = refl
     operand_alike (operand.Argument k) = refl
     operand_alike (operand.Column c k) = ap (λ row. column_of row k) (current_alike (cursor_at s.scene.cursors c) (stays.cursors c))
+    operand_alike (operand.Rowid c) = ap (λ (row : ItemRow). row.rowid) (current_alike (cursor_at s.scene.cursors c) (stays.cursors c))
 
     operands_alike : (os : List Operand) → map (operand_of m (over v s)) os ≡ map (operand_of m s) os
     operands_alike [] = refl
@@ -264,6 +265,8 @@ module _ (tables : List ℕ) where
     act_alike (op.Next c target) opens = advanced_alike (cursor_at s.scene.cursors c) c target (stays.cursors c)
     act_alike (op.Column c k to) opens =
         put_alike to _ _ (ap (λ row. column_of row k) (current_alike (cursor_at s.scene.cursors c) (stays.cursors c)))
+    act_alike (op.Rowid c to) opens =
+        put_alike to _ _ (ap (λ (row : ItemRow). row.rowid) (current_alike (cursor_at s.scene.cursors c) (stays.cursors c)))
     act_alike (op.NewRowid c to name) opens =
         subst (λ rows. Alike tables (drawn s to name (next_rowid (cursor_rows w (cursor_at s.scene.cursors c)))) (drawn (over v s) to name (next_rowid rows))) (sym (cursor_rows_alike (cursor_at s.scene.cursors c) (stays.cursors c))) (drawn_alike to name (next_rowid (cursor_rows w (cursor_at s.scene.cursors c))))
     act_alike (op.Insert c rowid first n) opens =

@@ -325,6 +325,7 @@ operand_in m regs inputs scene shared (operand.Constant out) = out
 operand_in m regs inputs scene shared (operand.Parameter k) = parameter_at m.params k
 operand_in m regs inputs scene shared (operand.Argument k) = read inputs.args k
 operand_in m regs inputs scene shared (operand.Column c k) = column_of (current (world_of shared) (cursor_at scene.cursors c)) k
+operand_in m regs inputs scene shared (operand.Rowid c) = (current (world_of shared) (cursor_at scene.cursors c)).rowid
 
 abbrev pub operand_of : Setting → State → Operand → Out
 operand_of m s o = operand_in m s.regs s.inputs s.scene s.shared o
@@ -469,6 +470,7 @@ act m (Some (op.CloseFrom c)) s = skip (with_cursors s (closed_from c s.scene.cu
 act m (Some (op.Rewind c target)) s = rewound (cursor_at s.scene.cursors c) s c target
 act m (Some (op.Next c target)) s = advanced (cursor_at s.scene.cursors c) s c target
 act m (Some (op.Column c k to)) s = put s to (column_of (current (world_of s.shared) (cursor_at s.scene.cursors c)) k)
+act m (Some (op.Rowid c to)) s = put s to (current (world_of s.shared) (cursor_at s.scene.cursors c)).rowid
 act m (Some (op.NewRowid c to table)) s = drawn s to table (next_rowid (cursor_rows (world_of s.shared) (cursor_at s.scene.cursors c)))
 act m (Some (op.Insert c rowid first n)) s = wrote s (inserted (cursor_at s.scene.cursors c) s.shared.written (record { rowid = integer_in s.regs rowid; values = values_from s.regs first n }))
 act m (Some (op.Schema change)) s = wrote s (with_schema change s.shared.written)

@@ -185,6 +185,11 @@ pub enum Op {
         column: u32,
         to: u32,
     },
+    /// r[`to`] (p2) is the rowid of the cursor's (p1) row.
+    Rowid {
+        cursor: u32,
+        to: u32,
+    },
     /// r[`to`] (p2) is the rowid behind the last of the cursor's (p1) table. Where there is none the unit gives up for `Full`, which
     /// names the table (p4).
     NewRowid {

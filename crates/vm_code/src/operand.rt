@@ -65,6 +65,8 @@ pub enum Operand {
     Argument(u32),
     /// A column of the row under a cursor.
     Column { cursor: u32, column: u32 },
+    /// The rowid of the row under a cursor.
+    Rowid { cursor: u32 },
 }
 
 impl Clone for Operand {
@@ -80,6 +82,7 @@ impl Clone for Operand {
                 cursor: *cursor,
                 column: *column,
             }),
+            Operand::Rowid { cursor } => Ok(Operand::Rowid { cursor: *cursor }),
         }
     }
 }

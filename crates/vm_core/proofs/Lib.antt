@@ -3,3 +3,4 @@ mod Steps
 mod RegisterLaws
 mod OperandLaws
 mod Closing
+mod Rowids

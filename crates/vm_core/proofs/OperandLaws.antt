@@ -18,6 +18,7 @@ reads_now m p w (operand.Constant out) = refl
 reads_now m p w (operand.Parameter k) = refl
 reads_now m p w (operand.Argument k) = refl
 reads_now m p w (operand.Column c k) = refl
+reads_now m p w (operand.Rowid c) = refl
 
 pub all_read_now : (m : Setting) (p : Progress) (w : World) (os : List Operand) → map (operand_now m.params p w) os ≡ map (operand_of m (state_at p w [])) os
 all_read_now m p w [] = refl

@@ -1,6 +1,9 @@
 -- Where a cursor comes to.
-use Rattle.std.specs.Prelude.{ℕ, Bool, true, false, [], ◌∷◌, Some, None, is_some, slice_get}
+use Rattle.std.specs.Prelude.{ℕ, ℤ, Bool, true, false, [], ◌∷◌, Some, None, is_some, slice_get}
 use Rattle.std.specs.declared.option.Option.{Option}
+use Rattle.eng_value.specs.declared.out.Out.{Out}
+use Rattle.eng_value.specs.declared.out.Out.TheVariants.{Good}
+use Rattle.eng_value.specs.declared.value.Value.TheVariants.{Null, Integer}
 use Rattle.vm_code.specs.Machine.{World, Cursor, Closed, Open, Holding, Standing, rows_of, row_behind}
 use Rattle.vm_tables.specs.Rows.{on_row}
 
@@ -9,6 +12,11 @@ table_of Closed = None
 table_of (Open table place) = Some table
 table_of (Holding rows) = None
 table_of (Standing row rest) = None
+
+-- what the rowid of a row reads, and NULL where there is no row
+abbrev pub rowid_read : Option ℤ → Out
+rowid_read None = Good Null
+rowid_read (Some rowid) = Good (Integer rowid)
 
 -- on the first row of its table, or on none
 abbrev pub on_first : World → Cursor → Cursor

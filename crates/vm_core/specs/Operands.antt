@@ -17,6 +17,7 @@ operand_now params p w (operand.Constant out) = out
 operand_now params p w (operand.Parameter k) = parameter_at params k
 operand_now params p w (operand.Argument k) = read p.inputs.args k
 operand_now params p w (operand.Column c k) = column_of (current w (cursor_at p.scene.cursors c)) k
+operand_now params p w (operand.Rowid c) = (current w (cursor_at p.scene.cursors c)).rowid
 
 -- what was read, lent or copied
 abbrev pub out_in : Reading → Out

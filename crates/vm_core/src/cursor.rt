@@ -4,7 +4,7 @@ ghost use Rattle.eng_value.specs.Environments.{column_of};
 ghost use Rattle.eng_value.specs.StoredRows.{next_rowid};
 ghost use Rattle.vm_code.specs.Machine.{Closed, closed_from, current, cursor_at, cursor_rows};
 ghost use Rattle.vm_tables.specs.Rows.{LendsColumn};
-ghost use Rattle.vm_core.specs.Cursors.{has_first, has_next, on_first, on_next, table_of};
+ghost use Rattle.vm_core.specs.Cursors.{has_first, has_next, on_first, on_next, rowid_read, table_of};
 
 use eng_record::Lent;
 use eng_value::{Out, Value};
@@ -80,6 +80,23 @@ pub(crate) fn lent<'t>(cursor: &Cursor, tables: &'t Tables, number: usize) -> Le
             table,
             place: Some(place),
         } => tables.lent(table, place.rowid, number, place.near),
+    }
+}
+
+/// The rowid of a cursor's row, if it is on one.
+pub(crate) fn rowid(cursor: &Cursor, tables: &Tables) -> Option<i64>
+    ensures { rowid_read result ≡ (current tables.now.world cursor.now).rowid }
+{
+    match cursor.spot() {
+        Spot::Closed => None,
+        Spot::Open {
+            table: _,
+            place: None,
+        } => None,
+        Spot::Open {
+            table,
+            place: Some(place),
+        } => tables.rowid(table, place.rowid, place.near),
     }
 }
 

@@ -158,6 +158,7 @@ fn execute(
         Op::Column { cursor, column, to } => running.put_column(
             alloc, tables, *cursor, *column, *to,
         ),
+        Op::Rowid { cursor, to } => running.put_rowid(tables, *cursor, *to),
         Op::NewRowid { cursor, to, table } => new_rowid(
             running, alloc, tables, *cursor, *to, table, event,
         ),

@@ -9,6 +9,7 @@ ghost use Rattle.eng_value.specs.Environments.{column_of};
 ghost use Rattle.eng_value.specs.declared.out.Out.TheVariants.{Good};
 ghost use Rattle.eng_value.specs.declared.value.Value.TheVariants.{Integer};
 ghost use Rattle.vm_code.specs.Machine.{current, cursor_at, read as read_of};
+ghost use Rattle.vm_core.specs.Cursors.{rowid_read};
 ghost use Rattle.vm_core.specs.Operands.{operand_now, out_in};
 ghost use Rattle.vm_store.specs.Held.{held_integer, held_text};
 
@@ -241,6 +242,9 @@ impl Running {
             Operand::Column { cursor, column } => Ok(Reading::Own(self.column(
                 alloc, tables, *cursor, *column,
             )?)),
+            Operand::Rowid { cursor } => Ok(Reading::Own(integer_or_null(self.rowid(
+                tables, *cursor,
+            )))),
         }
     }
 
@@ -255,6 +259,7 @@ impl Running {
             Operand::Parameter(number) => integer_parameter(params.as_slice(), *number),
             Operand::Argument(number) => self.arguments().integer_at(*number),
             Operand::Column { cursor, column } => self.integer_in(tables, *cursor, *column),
+            Operand::Rowid { cursor } => self.rowid(tables, *cursor),
         }
     }
 
@@ -284,6 +289,7 @@ impl Running {
             Operand::Parameter(number) => text_parameter(params.as_slice(), *number),
             Operand::Argument(number) => self.arguments().text_at(*number),
             Operand::Column { cursor, column } => self.text_in(tables, *cursor, *column),
+            Operand::Rowid { cursor } => self.text_of_rowid(tables, *cursor),
         }
     }
 
@@ -295,6 +301,24 @@ impl Running {
             Lent::Integer(_) => None,
             Lent::Other => None,
         }
+    }
+
+    /// None: a rowid is an integer, or NULL where there is no row.
+    fn text_of_rowid<'a>(&self, tables: &'a Tables, cursor: u32) -> Option<&'a str>
+        ensures { option_copied result ≡ held_text (current tables.now.world (cursor_at self.now.scene.cursors cursor)).rowid }
+    {
+        let _rowid = self.rowid(tables, cursor);
+        None
+    }
+}
+
+/// A rowid as a value; NULL where there is none.
+fn integer_or_null(rowid: Option<i64>) -> Out
+    ensures { result ≡ rowid_read rowid }
+{
+    match rowid {
+        Some(rowid) => Out::Good(Value::Integer(rowid)),
+        None => Out::Good(Value::Null),
     }
 }
 

@@ -11,14 +11,16 @@ ghost use Rattle.eng_value.specs.declared.value.Value.TheVariants as sql;
 ghost use Rattle.eng_value.specs.declared.value.Value.TheVariants.{Integer, Null};
 ghost use Rattle.vm_code.specs.Machine.{Closed, Open, closed_from, code_of, current, cursor_at, cursor_rows, inserted, is_bad, jump, put, read as read_of, skip, values_from, with_cursor, with_cursors, with_given, with_row, with_schema, with_table, without_rows, wrote};
 ghost use Rattle.vm_tables.specs.Rows.{LendsColumn};
-ghost use Rattle.vm_core.specs.Cursors.{has_first, has_next, on_first, on_next};
+ghost use Rattle.vm_core.specs.Cursors.{has_first, has_next, on_first, on_next, rowid_read};
 ghost use Rattle.vm_core.specs.Events.{Acts, ActsOn, StopsOrActs};
 ghost use Rattle.vm_core.specs.Paused.{first_progress, state_at, written_of};
 ghost use Rattle.vm_core.specs.Tests.{passes};
 
 use crate::Event;
 use crate::calling::unit_at;
-use crate::cursor::{advance, close_from, closed, column, lent, next_rowid, rewind, table_at};
+use crate::cursor::{
+    advance, close_from, closed, column, lent, next_rowid, rewind, rowid, table_at,
+};
 use crate::jumping::Test;
 use crate::pace::Pace;
 use crate::values::stored;
@@ -379,6 +381,17 @@ impl Running {
         match self.cursors.get(number as usize) {
             None => Lent::Other,
             Some(cursor) => lent(cursor, tables, place as usize),
+        }
+    }
+
+    /// The rowid of a cursor's row, if it is on one.
+    #[inline(never)]
+    pub fn rowid(&self, tables: &Tables, number: u32) -> Option<i64>
+        ensures { rowid_read result ≡ (current tables.now.world (cursor_at self.now.scene.cursors number)).rowid }
+    {
+        match self.cursors.get(number as usize) {
+            None => None,
+            Some(cursor) => rowid(cursor, tables),
         }
     }
 

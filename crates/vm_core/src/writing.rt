@@ -296,6 +296,24 @@ impl Running {
         self.put_made(to, made)
     }
 
+    /// Writes the rowid of the row under a cursor.
+    #[inline(never)]
+    pub(crate) fn put_rowid(
+        &mut self,
+        tables: &Tables,
+        cursor: u32,
+        to: u32,
+    ) -> Result<Pace, AllocError>
+        requires { self.old.pc + 1 < 2 ^ 64 }
+        ensures { ActsOn result self.old tables.now.world self.new tables.now.world (λ s.
+            put s to (current (world_of s.shared) (cursor_at s.scene.cursors cursor)).rowid) }
+    {
+        match self.rowid(tables, cursor) {
+            Some(rowid) => self.put_integer(rowid, to),
+            None => self.put_null(to),
+        }
+    }
+
     /// Puts the values of so many registers as a row under the rowid that a register holds, and goes on.
     #[inline(never)]
     pub(crate) fn insert_registers(

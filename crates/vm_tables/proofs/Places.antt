@@ -1,5 +1,5 @@
 -- Rows by their places.
-use Rattle.std.proofs.Common.{◌≡◌, ℕ, zero, suc, List, [], ◌∷◌, ◌++◌, Some, None, Option, true, int_eq, ℤ, refl, sym, ◌∙◌, ap, subst, arith}
+use Rattle.std.proofs.Common.{◌≡◌, ℕ, zero, suc, List, [], ◌∷◌, ◌++◌, Some, None, Option, Bool, true, false, cond, int_eq, ℤ, refl, sym, ◌∙◌, ap, subst, arith}
 use Rattle.std.specs.Prelude.{slice_get}
 use Rattle.std.specs.Option.{option_eq}
 use Rattle.std.proofs.lemmas.Int.{ints}
@@ -52,6 +52,18 @@ module _ (rows : List StoredRow) (place : ℕ) (n : ℤ) (up : IsAscending rows)
       ∙ ap (λ l. row_behind l here.0.rowid) (sym a.parts)
       ∙ row_behind-between a.front here.0 a.back ascends
       ∙ a.next
+
+-- the row of a rowid has it
+pub has_rowid : (rows : List StoredRow) (n : ℤ) (r : StoredRow) → row_under rows n ≡ Some r → r.rowid ≡ n
+has_rowid [] n r e = absurd (cc)
+has_rowid (x ∷ xs) n r e = by (int_eq x.rowid n) refl (has_rowid xs n r) e
+  where
+    by : (b : Bool) → int_eq x.rowid n ≡ b → (row_under xs n ≡ Some r → r.rowid ≡ n) → cond b (Some x) (row_under xs n) ≡ Some r → r.rowid ≡ n
+    by true is rest found =
+        let same : x ≡ r = cc in
+        let at : x.rowid ≡ n = grind (arith, ints) in
+        ap (λ (y : StoredRow). y.rowid) (sym same) ∙ at
+    by false is rest found = rest found
 
 pub same_rowid : (o : Option ℤ) (n : ℤ) → option_eq int_eq o (Some n) ≡ true → o ≡ Some n
 same_rowid None n e = absurd (cc)

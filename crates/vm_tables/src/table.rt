@@ -188,6 +188,16 @@ impl Table {
         }
     }
 
+    /// The rowid of the row of this rowid, if there is one. In constant time where the row stands at the place `near`.
+    pub fn rowid(&self, rowid: i64, near: usize) -> Option<i64>
+        ensures { result ≡ on_row (row_under self.now rowid) }
+    {
+        match self.record(rowid, near) {
+            None => None,
+            Some(_) => Some(rowid),
+        }
+    }
+
     /// The rows in the order of their rowids.
     pub fn rows(&self, alloc: Global) -> Result<Vec<StoredRow>, AllocError>
         ensures { IfOk result (λ rows. rows.items ≡ self.now) }

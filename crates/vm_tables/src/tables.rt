@@ -159,6 +159,13 @@ impl Tables {
         }
     }
 
+    /// The rowid of the row of a rowid: that one, if there is such a row.
+    pub fn rowid(&self, table: u32, rowid: i64, near: usize) -> Option<i64>
+        ensures { result ≡ on_row (row_under (rows_of self.now.world table) rowid) }
+    {
+        self.tables.get(table as usize)?.rowid(rowid, near)
+    }
+
     /// Whether there is the table, and it has no row of this rowid.
     pub fn is_free(&self, table: u32, rowid: i64) -> bool
         ensures { result ≡ is_free self.now.world table rowid }

@@ -6,7 +6,6 @@ use Rattle.parse_cursor.specs.Whole.{Shows}
 use Rattle.sql_grammar.specs.Answers.{Answer}
 use Rattle.sql_grammar.specs.StatementTexts.{AnswersAs}
 use Rattle.sql_lex.specs.Tokens.{tokens_of}
-use Rattle.sql_meaning.specs.Declarations.{tables_of}
 use Rattle.sql_words.specs.Bodies.{body_of, end_of, without_end}
 use Rattle.sql_meaning.specs.Statement.{statement_bound, text_bound_from}
 use Rattle.sql_tree.specs.Sizes.{size_of_statement}
@@ -51,8 +50,8 @@ returns-in_err-bound c lists many =
     let body : c.range-body.result.now ≡ take c.end_of.result c.range_from-from.result.now = search rules in
     let whole : c.range-body.result.now ≡ body_of text = body ∙ ap (take c.end_of.result) from ∙ ap (λ n. take n text) end in
     let why = err_from_is_err_and c.from_residual.result c.from_residual.ensures.1 in
-    let refused = refused_to (tables_of c.args.schema.now) (length lists) c.range-body.result.now c.in-Ok.statement c.in_err-bound.field-0.0 (rw c.tables.ensures at (c.in_err-bound.ensures (length lists))) in
-    rw (why.1, why.2) (prepared_refusal c.args.schema.now lists c.args.start text c.in-Ok.statement c.in_err-bound.field-0.0 tree (subst (λ b. IsRefusal (statement_bound (tables_of c.args.schema.now) (length lists) b c.in-Ok.statement) c.in_err-bound.field-0.0) whole refused))
+    let refused = refused_to c.args.schema.now (length lists) c.range-body.result.now c.in-Ok.statement c.in_err-bound.field-0.0 (rw c.catalog.ensures.catalog at (c.in_err-bound.ensures (length lists))) in
+    rw (why.1, why.2) (prepared_refusal c.args.schema.now lists c.args.start text c.in-Ok.statement c.in_err-bound.field-0.0 tree (subst (λ b. IsRefusal (statement_bound c.args.schema.now (length lists) b c.in-Ok.statement) c.in_err-bound.field-0.0) whole refused))
 
 pub returns : goal.returns
 returns c lists many =
@@ -64,10 +63,10 @@ returns c lists many =
     let end : c.end_of.result ≡ end_of (without_end (tokens_of text)) = c.end_of.ensures ∙ ap end_of (c.without_end.ensures ∙ ap without_end c.requires.tokens) in
     let body : c.range-body.result.now ≡ take c.end_of.result c.range_from-from.result.now = search rules in
     let whole : c.range-body.result.now ≡ body_of text = body ∙ ap (take c.end_of.result) from ∙ ap (λ n. take n text) end in
-    let bound = bound_to (tables_of c.args.schema.now) c.args.number c.range-body.result.now c.in-Ok.statement c.in_ok-bound.bound (rw c.tables.ensures at (c.in_ok-bound.ensures c.args.number)) in
+    let bound = bound_to c.args.schema.now c.args.number c.range-body.result.now c.in-Ok.statement c.in_ok-bound.bound (rw c.catalog.ensures.catalog at (c.in_ok-bound.ensures c.args.number)) in
     let ready = c.readied.ensures lists c.args.schema.now many bound in
     let size = size_of_statement c.in-Ok.statement in
-    let meant = subst (λ b. Readies size (statement_bound (tables_of c.args.schema.now) (length lists) b c.in-Ok.statement) c.readied.result) whole
-    (subst (λ n. Readies size (statement_bound (tables_of c.args.schema.now) n c.range-body.result.now c.in-Ok.statement) c.readied.result) (sym many) ready) in
+    let meant = subst (λ b. Readies size (statement_bound c.args.schema.now (length lists) b c.in-Ok.statement) c.readied.result) whole
+    (subst (λ n. Readies size (statement_bound c.args.schema.now n c.range-body.result.now c.in-Ok.statement) c.readied.result) (sym many) ready) in
     subst (λ ts. Readies (length ts) (text_bound_from (world_in c.args.schema.now lists) c.args.start c.args.text.now) c.readied.result) (sym c.requires.tokens)
     (prepared c.args.schema.now lists c.args.start text c.in-Ok.statement c.readied.result tree meant)

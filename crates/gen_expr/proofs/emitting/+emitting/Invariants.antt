@@ -7,20 +7,21 @@ use Rattle.gen_expr.specs.Parts.{Turns, Decides, decided_arm, decided_known, dec
 use Rattle.gen_expr.specs.Steps.{steps_of, arm_steps_of, match_steps_of}
 use Rattle.sql_meaning.specs.Expression.{value_of, arm_of, match_of, in_all}
 use Rattle.vm_code.specs.Frames.{Offers, no_calls}
-use Rattle.sql_meaning.proofs.bound.BoundExpr.TheLaws.{the_size}
-use Rattle.sql_meaning.proofs.bound.BoundMatch.TheLaws.{the_size as match_size}
+use Rattle.bound_tree.specs.Seen.{seen, seen_arm, seen_match}
+use Rattle.bound_tree.proofs.tree.ExprTree.TheLaws.{the_size}
+use Rattle.bound_tree.proofs.tree.MatchTree.TheLaws.{the_size as match_size}
 use Rattle.gen_expr.proofs.emitting.+emitting.Given as goal
 
 abbrev pub invariant-all_operands-loop-e : goal.invariant-all_operands-loop-e
 invariant-all_operands-loop-e l = record {
-  offers : Offers no_calls l.initial.b l.b l.operands (λ env. in_all (map value_of (take l.e-index l.all)) env) (λ env. sum_by steps_of (take l.e-index l.all));
+  offers : Offers no_calls l.initial.b l.b l.operands (λ env. in_all (map value_of (take l.e-index (map seen l.all))) env) (λ env. sum_by steps_of (take l.e-index (map seen l.all)));
   units : l.b.units ≡ l.initial.b.units;
   cursors : l.b.cursors ≡ l.initial.b.cursors;
 }
 
 abbrev pub invariant-emit_member-loop-e : goal.invariant-emit_member-loop-e
 invariant-emit_member-loop-e l = record {
-  turns : Turns l.initial.b l.b l.value l.to (λ env x y. fold (or_equal (keys_of env.hosts) l.sides x) y (in_all (map value_of (take l.e-index l.others)) env)) (sum_by (λ e. steps_of e + 2) (take l.e-index l.others));
+  turns : Turns l.initial.b l.b l.value l.to (λ env x y. fold (or_equal (keys_of env.hosts) l.sides x) y (in_all (map value_of (take l.e-index (map seen l.others))) env)) (sum_by (λ e. steps_of e + 2) (take l.e-index (map seen l.others)));
   next : l.b.next ≡ l.initial.b.next;
   most : l.initial.b.most ≤ l.b.most;
   units : l.b.units ≡ l.initial.b.units;
@@ -29,7 +30,7 @@ invariant-emit_member-loop-e l = record {
 
 abbrev pub invariant-emit_known-loop-e : goal.invariant-emit_known-loop-e
 invariant-emit_known-loop-e l = record {
-  decides : Decides l.initial.b l.b l.to l.to l.end (λ env x. first_in (λ e. decided_known (value_of e env)) (take l.e-index l.operands)) (sum_by (λ e. steps_of e + 2) (take l.e-index l.operands));
+  decides : Decides l.initial.b l.b l.to l.to l.end (λ env x. first_in (λ e. decided_known (value_of e env)) (take l.e-index (map seen l.operands))) (sum_by (λ e. steps_of e + 2) (take l.e-index (map seen l.operands)));
   next : l.b.next ≡ l.initial.b.next;
   most : l.initial.b.most ≤ l.b.most;
   units : l.b.units ≡ l.initial.b.units;
@@ -38,7 +39,7 @@ invariant-emit_known-loop-e l = record {
 
 abbrev pub invariant-emit_choice-loop-arm : goal.invariant-emit_choice-loop-arm
 invariant-emit_choice-loop-arm l = record {
-  decides : Decides l.initial.b l.b l.to l.to l.end (λ env x. first_in (λ arm. decided_arm env (arm_of arm)) (take l.arm-index l.arms)) (sum_by arm_steps_of (take l.arm-index l.arms));
+  decides : Decides l.initial.b l.b l.to l.to l.end (λ env x. first_in (λ arm. decided_arm env (arm_of arm)) (take l.arm-index (map seen_arm l.arms))) (sum_by arm_steps_of (take l.arm-index (map seen_arm l.arms)));
   next : l.b.next ≡ l.initial.b.next;
   most : l.initial.b.most ≤ l.b.most;
   units : l.b.units ≡ l.initial.b.units;
@@ -47,7 +48,7 @@ invariant-emit_choice-loop-arm l = record {
 
 abbrev pub invariant-emit_match-loop-arm : goal.invariant-emit_match-loop-arm
 invariant-emit_match-loop-arm l = record {
-  decides : Decides l.initial.b l.b l.value l.to l.end (λ env x. first_in (λ arm. decided_match env x (match_of arm)) (take l.arm-index l.arms)) (sum_by match_steps_of (take l.arm-index l.arms));
+  decides : Decides l.initial.b l.b l.value l.to l.end (λ env x. first_in (λ arm. decided_match env x (match_of arm)) (take l.arm-index (map seen_match l.arms))) (sum_by match_steps_of (take l.arm-index (map seen_match l.arms)));
   next : l.b.next ≡ l.initial.b.next;
   most : l.initial.b.most ≤ l.b.most;
   units : l.b.units ≡ l.initial.b.units;
@@ -84,6 +85,9 @@ decreases-emit_member l = 4 * max (the_size l.tested.now) (most the_size l.other
 
 abbrev pub decreases-emit_choice : goal.decreases-emit_choice
 decreases-emit_choice l = 4 * max (goal.size-emit_choice l) (the_size l.otherwise.now) + 2
+
+abbrev pub decreases-emit_iif : goal.decreases-emit_iif
+decreases-emit_iif l = 4 * max (the_size l.condition.now) (max (the_size l.value.now) (the_size l.otherwise.now)) + 2
 
 abbrev pub decreases-emit_match : goal.decreases-emit_match
 decreases-emit_match l = 4 * max (the_size l.tested.now) (max (most match_size l.arms.now) (the_size l.otherwise.now)) + 2

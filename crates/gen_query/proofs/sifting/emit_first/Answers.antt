@@ -7,5 +7,5 @@ use Rattle.gen_query.proofs.sifting.emit_first.Goals as goal
 
 pub returns-clause-sifts : goal.returns-clause-sifts
 returns-clause-sifts c =
-    let leaves = rw c.in_ok-value.ensures.1 at c.in_ok-emit_truth.ensures.leaves in
-    on_ok_weaker {P = c.add_causes.new.b ≡ given_back (with_op c.op.new.self (op.Merge c.in_ok-value.value c.args.causes))} c.add_causes.result (λ is. rw (is, c.in_ok-op.ensures, c.in_ok-reject.ensures) (sifts_first c.args.b.now c.emit_truth.new.b c.args.conjunct.now c.in_ok-value.value c.args.causes c.args.next c.in_ok-value.ensures.0 leaves c.requires.taken)) c.add_causes.ensures
+    let leaves = rw c.in_ok-value.ensures.1 at c.in_ok-emit_test.ensures.leaves in
+    on_ok_weaker {P = c.add_causes.new.b ≡ given_back (with_op c.op.new.self (op.Merge c.in_ok-value.value c.args.causes))} c.add_causes.result (λ is. rw (is, c.in_ok-op.ensures, c.in_ok-reject.ensures) (sifts_first c.args.b.now c.emit_test.new.b c.args.conjunct.now c.in_ok-value.value c.args.causes c.args.next c.in_ok-value.ensures.0 leaves c.requires.taken)) c.add_causes.ensures

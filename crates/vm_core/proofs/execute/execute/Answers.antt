@@ -131,6 +131,9 @@ returns-in-Next-clause-leads c ask = rw c.in-Next.is (c.jump_where_next.ensures 
 pub returns-in-Column-clause-leads : goal.returns-in-Column-clause-leads
 returns-in-Column-clause-leads c ask = rw c.in-Column.is (c.put_column.ensures c.args.event.now)
 
+pub returns-in-Rowid-clause-leads : goal.returns-in-Rowid-clause-leads
+returns-in-Rowid-clause-leads c ask = rw c.in-Rowid.is (c.put_rowid.ensures c.args.event.now)
+
 pub returns-in-NewRowid-clause-leads : goal.returns-in-NewRowid-clause-leads
 returns-in-NewRowid-clause-leads c ask = rw c.in-NewRowid.is c.new_rowid.ensures
 

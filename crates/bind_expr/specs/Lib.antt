@@ -1,4 +1,0 @@
-pub mod Calls
-pub mod Gathers
-pub mod Groups
-pub mod Parts

@@ -1,0 +1,51 @@
+-- What single steps come to.
+use Rattle.std.proofs.Common.{◌≡◌, ◌≤◌, nat_le, is_some, subst, if◌then◌else◌, ℕ, List, [], ◌∷◌, true, length, nat_eq, Option, Some, None, Result, Ok, Err, flat_map, slice_get, refl, ap, sym, ◌∙◌}
+use Rattle.std.proofs.lemmas.Bool.{le-leb}
+use Rattle.std.proofs.lemmas.List.{length-map}
+use Rattle.eng_value.specs.declared.cause.Cause.{Cause}
+use Rattle.eng_value.specs.declared.limits.TheConstants.{MAX_COLUMNS}
+use Rattle.bound_tree.specs.Exprs.{BoundExpr}
+use Rattle.bound_tree.specs.declared.units.BoundCore.{BoundCore}
+use Rattle.bound_tree.specs.declared.units.BoundItem.{BoundItem}
+use Rattle.bound_tree.specs.declared.units.BoundPart.{BoundPart}
+use Rattle.bound_tree.specs.declared.units.BoundPart.TheVariants as part
+use Rattle.bound_tree.specs.declared.units.BoundUnit.{BoundUnit}
+use Rattle.bound_tree.specs.declared.writes.BoundWrite.{BoundWrite}
+use Rattle.sql_meaning.specs.declared.column.TableEntry.{TableEntry}
+use Rattle.sql_meaning.specs.Running.{first_part, found_table, from_of, is_plain_core, part_of, put_into, put_of, query_of, select_of, table_of_source}
+use Rattle.sql_meaning.specs.Runnables.{Drops, FromItem, Put, Puts, Queries, Query, Runnable, Shows}
+use Rattle.sql_words.specs.Refusals.{◌>>=◌}
+use Rattle.bound_tree.specs.Conditions.{conditions_of}
+use Rattle.bound_tree.specs.declared.statements.BoundCreation.{BoundCreation}
+use Rattle.sql_meaning.specs.Declarations.{column_of, columns_created, columns_of}
+use Rattle.sql_meaning.specs.Running.{creation_of, entry_with, if_built}
+use Rattle.sql_meaning.specs.Runnables.{Creates}
+use Rattle.sql_tree.specs.declared.statement.Command.TheVariants as command
+use Rattle.sql_tree.specs.declared.statement.Create.{Create}
+use Rattle.sql_tree.specs.declared.statement.Definition.TheVariants as definition
+use Rattle.sql_tree.specs.declared.statement.Statement.{Statement}
+use Rattle.sql_tree.specs.declared.statement.TableDefinition.{TableDefinition}
+
+pub item-is : (tables : List TableEntry) (i : BoundItem) (t : TableEntry) → nat_eq (length i.ignored) 0 ≡ true → table_of_source tables i.source ≡ Ok t → from_of tables (i ∷ []) ≡ Ok (record { table = t; width = length i.columns; ignored = [] } ∷ [])
+item-is tables i t none is = rw (none, is) refl
+
+abbrev pub query_over : BoundCore → List FromItem → Query
+query_over c from = record { from = from; conjuncts = flat_map conditions_of c.conjuncts; results = c.results }
+
+pub select-is : (tables : List TableEntry) (c : BoundCore) (from : List FromItem) → is_plain_core c ≡ true → from_of tables c.items ≡ Ok from → select_of tables c ≡ Ok (Queries (query_over c from))
+select-is tables c from plain is = rw (plain, is) refl
+
+pub query-is : (tables : List TableEntry) (units : List BoundUnit) (place : ℕ) (p : BoundPart) (r : Result Runnable Cause) → first_part (slice_get units place) ≡ Ok p → part_of tables p ≡ r → query_of tables units place ≡ r
+query-is tables units place p r is e = rw is e
+
+pub put-is : (tables : List TableEntry) (units : List BoundUnit) (w : BoundWrite) (t : TableEntry) (p : Put) → table_of_source tables w.target.item.source ≡ Ok t → put_into t units w.change ≡ Ok p → put_of tables units w ≡ Ok (Puts p)
+put-is tables units w t p is e = rw (is, e) refl
+
+pub columns-are : (text : List ℕ) (s : Statement) (k : Create) (t : TableDefinition) → s.command ≡ command.Create k → k.definition ≡ definition.Table t → length t.columns ≤ MAX_COLUMNS → columns_created text s.command ≡ Some (columns_of text t)
+columns-are text s k t is at few =
+    let wide : nat_le (length (columns_of text t)) MAX_COLUMNS ≡ true = le-leb _ _ (subst (λ n. n ≤ MAX_COLUMNS) (sym (length-map t.columns (column_of text))) few) in
+    rw (is, at) (ap (λ b. if b then Some (columns_of text t) else None) wide)
+
+pub created-is : (number : ℕ) (text : List ℕ) (s : Statement) (b : BoundCreation) (k : Create) (t : TableDefinition) → s.command ≡ command.Create k → k.definition ≡ definition.Table t → length t.columns ≤ MAX_COLUMNS
+    → creation_of number text s b ≡ Ok (Creates (entry_with number text b.name s))
+created-is number text s b k t is at few = ap (λ o. if_built (is_some o) (Ok (Creates (entry_with number text b.name s)))) (columns-are text s k t is at few)

@@ -1,0 +1,12 @@
+pub mod Words
+pub mod Pieces
+pub mod Expressions
+pub mod Froms
+pub mod Queries
+pub mod Writes
+pub mod Statements
+pub mod Samples
+pub mod ExpressionExamples
+pub mod QueryExamples
+pub mod WriteExamples
+pub mod StatementExamples

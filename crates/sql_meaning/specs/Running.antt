@@ -1,0 +1,130 @@
+-- What runs of a statement whose names are bound: a query over one table or none, rows of values, an INSERT of such rows, CREATE TABLE, DROP TABLE, and
+-- what does nothing. Anything else is not built.
+use Rattle.std.specs.Prelude.{ℕ, nat_eq, Bool, true, false, not, ◌&&◌, List, [], ◌∷◌, length, Option, Some, None, Result, Ok, Err, is_some, slice_get, if◌then◌else◌}
+use Rattle.std.specs.List.{flat_map}
+use Rattle.eng_entry.specs.declared.entry.Entry.{Entry}
+use Rattle.eng_entry.specs.declared.entry.EntryKind.TheVariants as entry_kind
+use Rattle.eng_value.specs.declared.cause.Cause.{Cause}
+use Rattle.eng_value.specs.declared.cause.Cause.TheVariants as cause
+use Rattle.sql_tree.specs.declared.statement.Statement.{Statement}
+use Rattle.sql_words.specs.Refusals.{◌>>=◌}
+use Rattle.bound_tree.specs.Conditions.{conditions_of}
+use Rattle.bound_tree.specs.Exprs.{BoundExpr}
+use Rattle.bound_tree.specs.declared.statements.BoundCommand.{BoundCommand}
+use Rattle.bound_tree.specs.declared.statements.BoundCommand.TheVariants as bound
+use Rattle.bound_tree.specs.declared.statements.BoundCreation.{BoundCreation}
+use Rattle.bound_tree.specs.declared.statements.BoundRemoval.{BoundRemoval}
+use Rattle.bound_tree.specs.declared.statements.BoundStatement.{BoundStatement}
+use Rattle.bound_tree.specs.declared.statements.ThingKind.{ThingKind}
+use Rattle.bound_tree.specs.declared.statements.ThingKind.TheVariants as thing
+use Rattle.bound_tree.specs.declared.units.BoundCore.{BoundCore}
+use Rattle.bound_tree.specs.declared.units.BoundItem.{BoundItem}
+use Rattle.bound_tree.specs.declared.units.BoundPart.{BoundPart}
+use Rattle.bound_tree.specs.declared.units.BoundPart.TheVariants as part
+use Rattle.bound_tree.specs.declared.units.BoundQuery.{BoundQuery}
+use Rattle.bound_tree.specs.declared.units.BoundSource.{BoundSource}
+use Rattle.bound_tree.specs.declared.units.BoundSource.TheVariants as source
+use Rattle.bound_tree.specs.declared.units.BoundUnit.{BoundUnit}
+use Rattle.bound_tree.specs.declared.units.BoundUnit.TheVariants as unit
+use Rattle.bound_tree.specs.declared.writes.BoundChange.{BoundChange}
+use Rattle.bound_tree.specs.declared.writes.BoundChange.TheVariants as change
+use Rattle.bound_tree.specs.declared.writes.BoundWrite.{BoundWrite}
+use Rattle.sql_meaning.specs.declared.column.Column.{Column}
+use Rattle.sql_meaning.specs.declared.column.TableEntry.{TableEntry}
+use Rattle.sql_meaning.specs.Declarations.{columns_created, table_called}
+use Rattle.sql_meaning.specs.Runnables.{Runnable, Creates, DoesNothing, Drops, FromItem, Put, Puts, Queries, Shows}
+
+abbrev pub not_built : {A : Type 0} → Result A Cause
+not_built = Err cause.NotYet
+
+abbrev pub if_built : {A : Type 0} → Bool → Result A Cause → Result A Cause
+if_built true answer = answer
+if_built false answer = not_built
+
+-- ---- tables by the names with which they were bound
+
+abbrev pub found_table : Option TableEntry → Result TableEntry Cause
+found_table None = not_built
+found_table (Some t) = Ok t
+
+abbrev pub table_of_source : List TableEntry → BoundSource → Result TableEntry Cause
+table_of_source tables (source.Table name number) = found_table (table_called tables name)
+table_of_source tables other = not_built
+
+-- ---- queries
+
+abbrev pub from_of : List TableEntry → List BoundItem → Result (List FromItem) Cause
+from_of tables [] = Ok []
+from_of tables (i ∷ []) = if_built (nat_eq (length i.ignored) 0) (table_of_source tables i.source >>= λ t. Ok (record { table = t; width = length i.columns; ignored = [] } ∷ []))
+from_of tables (i ∷ other ∷ items) = not_built
+
+abbrev pub is_plain_core : BoundCore → Bool
+is_plain_core c = not (is_some c.groups) && not c.distinct
+
+abbrev pub select_of : List TableEntry → BoundCore → Result Runnable Cause
+select_of tables c =
+    if_built (is_plain_core c) (from_of tables c.items >>= λ from.
+    Ok (Queries (record { from = from; conjuncts = flat_map conditions_of c.conjuncts; results = c.results })))
+
+abbrev pub part_of : List TableEntry → BoundPart → Result Runnable Cause
+part_of tables (part.Select c) = select_of tables c
+part_of tables (part.Values rows) = Ok (Shows rows)
+
+-- one part, in no order, and all of its rows
+abbrev pub is_plain_query : BoundQuery → Bool
+is_plain_query q = nat_eq (length q.others) 0 && nat_eq (length q.order) 0 && not (is_some q.limit) && not (is_some q.offset)
+
+abbrev pub first_part : Option BoundUnit → Result BoundPart Cause
+first_part (Some (unit.Queried q)) = if_built (is_plain_query q) (Ok q.first)
+first_part other = not_built
+
+abbrev pub query_of : List TableEntry → List BoundUnit → ℕ → Result Runnable Cause
+query_of tables units place = first_part (slice_get units place) >>= part_of tables
+
+-- ---- INSERT
+
+abbrev pub rows_of_part : BoundPart → Result (List (List BoundExpr)) Cause
+rows_of_part (part.Values rows) = Ok rows
+rows_of_part (part.Select c) = not_built
+
+-- for each of these columns where its value stands in a row of the source: behind the places none has one
+abbrev pub places_of : List Column → List (Option ℕ) → List (Option ℕ)
+places_of [] places = []
+places_of (c ∷ columns) [] = None ∷ places_of columns []
+places_of (c ∷ columns) (p ∷ places) = p ∷ places_of columns places
+
+abbrev pub put_into : TableEntry → List BoundUnit → BoundChange → Result Put Cause
+put_into t units (change.Inserted places None source arguments) =
+    first_part (slice_get units source) >>= rows_of_part >>= λ rows. Ok (record { table = t; places = places_of t.columns places; rows = rows })
+put_into t units change.Defaulted = Ok (record { table = t; places = places_of t.columns []; rows = [] ∷ [] })
+put_into t units other = not_built
+
+abbrev pub put_of : List TableEntry → List BoundUnit → BoundWrite → Result Runnable Cause
+put_of tables units w = table_of_source tables w.target.item.source >>= λ t. put_into t units w.change >>= λ put. Ok (Puts put)
+
+-- ---- CREATE and DROP
+
+-- the entry of a table that gets this number: the text is that of its CREATE
+abbrev pub entry_with : ℕ → List ℕ → List ℕ → Statement → Entry
+entry_with number text name s = record { kind = entry_kind.Table; name = name; owner = []; number = number; text = text; def = s }
+
+abbrev pub creation_of : ℕ → List ℕ → Statement → BoundCreation → Result Runnable Cause
+creation_of number text s c = if_built (is_some (columns_created text s.command)) (Ok (Creates (entry_with number text c.name s)))
+
+abbrev pub removal_of : List TableEntry → ThingKind → List ℕ → Result Runnable Cause
+removal_of tables thing.ATable name = found_table (table_called tables name) >>= λ t. Ok (Drops t)
+removal_of tables other name = not_built
+
+-- ---- any statement: over these tables, where a new one gets this number, of a text with this tree
+
+abbrev pub command_of : List TableEntry → ℕ → List ℕ → Statement → List BoundUnit → BoundCommand → Result Runnable Cause
+command_of tables number text s units (bound.Asked place) = query_of tables units place
+command_of tables number text s units (bound.Written w) = put_of tables units w
+command_of tables number text s units (bound.Created c) = creation_of number text s c
+command_of tables number text s units (bound.Removed r) = removal_of tables r.kind r.name
+command_of tables number text s units (bound.Transacted t) = not_built
+command_of tables number text s units (bound.Pragma name) = Ok DoesNothing
+command_of tables number text s units (bound.Nothing kind name owner) = Ok DoesNothing
+
+abbrev pub runnable_of : List TableEntry → ℕ → List ℕ → Statement → BoundStatement → Result Runnable Cause
+runnable_of tables number text s b = command_of tables number text s b.units b.command
