@@ -9,14 +9,16 @@ use Rattle.std.specs.Cmp.{Equal-is}
 use Rattle.std.proofs.lemmas.List.{append_assoc, map-append}
 use Rattle.std.specs.declared.cmp.Ordering.TheVariants.{Equal}
 use Rattle.eng_value.specs.declared.cause.Cause.{Cause}
-use Rattle.eng_value.specs.declared.cause.Cause.TheVariants.{NotYet, Mem, Interrupted, SinkFault, Real, Overflow, NotText, Escape, TooBig, Full, Unknown, Exists, Reserved, Arity, Misuse, Limit, Syntax, Skip, Ambiguous, BareColumn, Fault}
+use Rattle.eng_value.specs.declared.cause.Cause.TheVariants.{NotYet, Mem, Interrupted, SinkFault, Real, Overflow, NotText, Escape, TooBig, Full, Unknown, Exists, Reserved, Arity, Misuse, Limit, Syntax, Skip, Ambiguous, BareColumn, Fault, Denied, Constraint, Mismatch}
+use Rattle.eng_value.specs.declared.cause.ConstraintKind.{ConstraintKind}
+use Rattle.eng_value.specs.declared.cause.ConstraintKind.TheVariants as constraint
 use Rattle.eng_value.specs.declared.cause.LimitKind.{LimitKind}
 use Rattle.eng_value.specs.declared.cause.LimitKind.TheVariants as limit
 use Rattle.eng_value.specs.declared.cause.NameKind.{NameKind}
 use Rattle.eng_value.specs.declared.cause.NameKind.TheVariants as kind
 use Rattle.std.specs.List.{filter, list_any}
 use Rattle.std.proofs.lemmas.Bool.{and_from, and_left, and_parts, and_right, both_ways, cond-false, cond-true, cond_both, eq-eqb, false_from_ne_true, ne_eqb, not_from_false}
-use Rattle.eng_value.specs.Causes.{CauseSet, StandOnce, cause_key, has_cause, is_same_cause, is_skip, kind_key, limit_key, named, only}
+use Rattle.eng_value.specs.Causes.{CauseSet, StandOnce, cause_key, constraint_key, has_cause, is_same_cause, is_skip, kind_key, limit_key, named, only}
 
 -- the set of a list of causes
 abbrev pub set_of : List Cause → CauseSet
@@ -61,6 +63,9 @@ kind_of n = if nat_eq n 0 then kind.Table else if nat_eq n 1 then kind.Column el
 abbrev limit_of : ℕ → LimitKind
 limit_of n = if nat_eq n 0 then limit.Columns else if nat_eq n 1 then limit.Nestings else if nat_eq n 2 then limit.Operators else if nat_eq n 3 then limit.Parts else if nat_eq n 4 then limit.Items else limit.Queries
 
+abbrev constraint_of : ℕ → ConstraintKind
+constraint_of n = if nat_eq n 0 then constraint.NotNull else if nat_eq n 1 then constraint.Check else constraint.Unique
+
 abbrev cause_by : ℕ → ℕ → List ℕ → Cause
 cause_by n detail name =
     if nat_eq n 1 then Mem else
@@ -82,7 +87,10 @@ cause_by n detail name =
     if nat_eq n 17 then Skip else
     if nat_eq n 18 then Ambiguous name else
     if nat_eq n 19 then BareColumn name else
-    if nat_eq n 20 then Fault name else NotYet
+    if nat_eq n 20 then Fault name else
+    if nat_eq n 21 then Denied detail else
+    if nat_eq n 22 then Constraint (constraint_of detail) name else
+    if nat_eq n 23 then Mismatch else NotYet
 
 -- the cause of a key
 abbrev cause_of : List ℕ → Cause
@@ -109,6 +117,11 @@ limit_of-limit_key limit.Parts = refl
 limit_of-limit_key limit.Items = refl
 limit_of-limit_key limit.Queries = refl
 
+constraint_of-constraint_key : (k : ConstraintKind) → constraint_of (constraint_key k) ≡ k
+constraint_of-constraint_key constraint.NotNull = refl
+constraint_of-constraint_key constraint.Check = refl
+constraint_of-constraint_key constraint.Unique = refl
+
 cause_of-cause_key : (c : Cause) → cause_of (cause_key c) ≡ c
 cause_of-cause_key NotYet = refl
 cause_of-cause_key Mem = refl
@@ -126,6 +139,9 @@ cause_of-cause_key Skip = refl
 cause_of-cause_key (Ambiguous name) = refl
 cause_of-cause_key (BareColumn name) = refl
 cause_of-cause_key (Fault host) = refl
+cause_of-cause_key (Denied action) = refl
+cause_of-cause_key (Constraint k table) = ap (λ m. Constraint m table) (constraint_of-constraint_key k)
+cause_of-cause_key Mismatch = refl
 cause_of-cause_key (Reserved name) = refl
 cause_of-cause_key (Arity name) = refl
 cause_of-cause_key (Misuse name) = refl

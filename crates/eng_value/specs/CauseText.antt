@@ -2,7 +2,9 @@
 use Rattle.std.specs.Prelude.{ℕ, List, [], ◌++◌, codes}
 use Rattle.std.specs.Fmt.{decimal}
 use Rattle.eng_value.specs.declared.cause.Cause.{Cause}
-use Rattle.eng_value.specs.declared.cause.Cause.TheVariants.{NotYet, Mem, Interrupted, SinkFault, Real, Overflow, NotText, Escape, TooBig, Full, Unknown, Exists, Reserved, Arity, Misuse, Limit, Syntax, Skip, Ambiguous, BareColumn, Fault}
+use Rattle.eng_value.specs.declared.cause.Cause.TheVariants.{NotYet, Mem, Interrupted, SinkFault, Real, Overflow, NotText, Escape, TooBig, Full, Unknown, Exists, Reserved, Arity, Misuse, Limit, Syntax, Skip, Ambiguous, BareColumn, Fault, Denied, Constraint, Mismatch}
+use Rattle.eng_value.specs.declared.cause.ConstraintKind.{ConstraintKind}
+use Rattle.eng_value.specs.declared.cause.ConstraintKind.TheVariants as constraint
 use Rattle.eng_value.specs.declared.cause.LimitKind.{LimitKind}
 use Rattle.eng_value.specs.declared.cause.LimitKind.TheVariants as limit
 use Rattle.eng_value.specs.declared.cause.NameKind.{NameKind}
@@ -30,6 +32,9 @@ code_of Skip = 1
 code_of (Ambiguous name) = 1
 code_of (BareColumn name) = 1
 code_of (Fault host) = 10
+code_of (Denied action) = 23
+code_of (Constraint k table) = 19
+code_of Mismatch = 20
 
 abbrev pub kind_word : NameKind → List ℕ
 kind_word kind.Table = codes "table"
@@ -50,6 +55,11 @@ limit_words limit.Operators = codes "1000 operators"
 limit_words limit.Parts = codes "500 parts"
 limit_words limit.Items = codes "16 items"
 limit_words limit.Queries = codes "20 queries"
+
+abbrev pub constraint_words : ConstraintKind → List ℕ
+constraint_words constraint.NotNull = codes "NOT NULL"
+constraint_words constraint.Check = codes "CHECK"
+constraint_words constraint.Unique = codes "UNIQUE"
 
 abbrev pub text_of : Cause → List ℕ
 text_of NotYet = codes "not built yet"
@@ -73,3 +83,6 @@ text_of Skip = []
 text_of (Ambiguous name) = codes "ambiguous column name: " ++ name
 text_of (BareColumn name) = codes "column outside aggregate: " ++ name
 text_of (Fault host) = codes "fault of " ++ host
+text_of (Denied action) = codes "denied: action " ++ decimal action
+text_of (Constraint k table) = constraint_words k ++ codes " constraint failed: " ++ table
+text_of Mismatch = codes "datatype mismatch"

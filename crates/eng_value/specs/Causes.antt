@@ -4,7 +4,9 @@ use Rattle.std.specs.Ordering.{nat_cmp}
 use Rattle.std.specs.Cmp.Lexicographic.{pointwise, slice_cmp}
 use Rattle.std.specs.FinSet as set
 use Rattle.eng_value.specs.declared.cause.Cause.{Cause}
-use Rattle.eng_value.specs.declared.cause.Cause.TheVariants.{NotYet, Mem, Interrupted, SinkFault, Real, Overflow, NotText, Escape, TooBig, Full, Unknown, Exists, Reserved, Arity, Misuse, Limit, Syntax, Skip, Ambiguous, BareColumn, Fault}
+use Rattle.eng_value.specs.declared.cause.Cause.TheVariants.{NotYet, Mem, Interrupted, SinkFault, Real, Overflow, NotText, Escape, TooBig, Full, Unknown, Exists, Reserved, Arity, Misuse, Limit, Syntax, Skip, Ambiguous, BareColumn, Fault, Denied, Constraint, Mismatch}
+use Rattle.eng_value.specs.declared.cause.ConstraintKind.{ConstraintKind}
+use Rattle.eng_value.specs.declared.cause.ConstraintKind.TheVariants as constraint
 use Rattle.eng_value.specs.declared.cause.LimitKind.{LimitKind}
 use Rattle.eng_value.specs.declared.cause.LimitKind.TheVariants as limit
 use Rattle.eng_value.specs.declared.cause.NameKind.{NameKind}
@@ -30,6 +32,11 @@ limit_key limit.Parts = 3
 limit_key limit.Items = 4
 limit_key limit.Queries = 5
 
+abbrev pub constraint_key : ConstraintKind → ℕ
+constraint_key constraint.NotNull = 0
+constraint_key constraint.Check = 1
+constraint_key constraint.Unique = 2
+
 -- which cause it is
 abbrev pub number_of : Cause → ℕ
 number_of NotYet = 0
@@ -53,6 +60,9 @@ number_of Skip = 17
 number_of (Ambiguous name) = 18
 number_of (BareColumn name) = 19
 number_of (Fault host) = 20
+number_of (Denied action) = 21
+number_of (Constraint k table) = 22
+number_of Mismatch = 23
 
 -- the number that it tells, or the kind
 abbrev pub detail_of : Cause → ℕ
@@ -61,6 +71,8 @@ detail_of (Limit k) = limit_key k
 detail_of (Unknown k name) = kind_key k
 detail_of (Exists k name) = kind_key k
 detail_of (Syntax at) = at
+detail_of (Denied action) = action
+detail_of (Constraint k table) = constraint_key k
 detail_of other = 0
 
 -- the name that it tells
@@ -74,6 +86,7 @@ name_of (Exists k name) = name
 name_of (Ambiguous name) = name
 name_of (BareColumn name) = name
 name_of (Fault host) = host
+name_of (Constraint k table) = table
 name_of other = []
 
 -- no two causes have the same key

@@ -8,6 +8,7 @@ use Rattle.eng_value.specs.declared.asking.Answer.{Answer}
 use Rattle.eng_value.specs.declared.asking.Answer.TheVariants as answer
 use Rattle.eng_value.specs.declared.authorizing.Action.{Action}
 use Rattle.eng_value.specs.declared.authorizing.Verdict.{Verdict}
+use Rattle.eng_value.specs.declared.authorizing.Verdict.TheVariants.{Allow}
 use Rattle.eng_value.specs.declared.modules.Change.{Change}
 use Rattle.eng_value.specs.declared.modules.ModColumn.{ModColumn}
 use Rattle.eng_value.specs.declared.value.Value.{Value}
@@ -72,6 +73,12 @@ no_hosts = record {
   has_update_hook = false;
   has_commit_hook = false;
 }
+
+-- the verdict on an action: where there is no authorizer everything is allowed, and of one that tells none nothing is known, so that this is not what it says
+abbrev pub verdict_of : Option (Option (Action → Verdict)) → Action → Verdict
+verdict_of None action = Allow
+verdict_of (Some None) action = Allow
+verdict_of (Some (Some says)) action = says action
 
 -- ---- queries that functions ask
 

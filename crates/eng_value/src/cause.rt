@@ -1,7 +1,7 @@
 // Why a statement is refused.
 ghost use Rattle.std.specs.Prelude.{◌≡◌, ◌++◌, codes, OnOk};
 ghost use Rattle.std.specs.Fmt.{decimal};
-ghost use Rattle.eng_value.specs.CauseText.{code_of, kind_word, limit_words, text_of};
+ghost use Rattle.eng_value.specs.CauseText.{code_of, constraint_words, kind_word, limit_words, text_of};
 ghost use Rattle.eng_value.specs.declared.cause.Cause.TheVariants.{Mem};
 
 use crate::Text;
@@ -76,6 +76,27 @@ impl LimitKind {
     }
 }
 
+/// What a row of a table must hold.
+#[derive(Clone, Copy, Debug, PartialEq, Eq)]
+pub enum ConstraintKind {
+    NotNull,
+    Check,
+    Unique,
+}
+
+impl ConstraintKind {
+    /// The words for it.
+    pub fn words(self) -> &'static str
+        ensures { result.now ≡ constraint_words self }
+    {
+        match self {
+            ConstraintKind::NotNull => "NOT NULL",
+            ConstraintKind::Check => "CHECK",
+            ConstraintKind::Unique => "UNIQUE",
+        }
+    }
+}
+
 /// Why a statement is refused. Each cause has a result code (Result and Error Codes) and a text.
 #[derive(Debug)]
 pub enum Cause {
@@ -121,6 +142,12 @@ pub enum Cause {
     BareColumn(Text),
     /// This host failed.
     Fault(Text),
+    /// The action of this number, counted from 1, is the first that the authorizer denies.
+    Denied(usize),
+    /// A row of this table fails a constraint of this kind.
+    Constraint(ConstraintKind, Text),
+    /// A rowid is no integer.
+    Mismatch,
 }
 
 impl Cause {
@@ -135,6 +162,9 @@ impl Cause {
             Cause::Fault(_) => 10,
             Cause::Full(_) => 13,
             Cause::TooBig => 18,
+            Cause::Constraint(..) => 19,
+            Cause::Mismatch => 20,
+            Cause::Denied(_) => 23,
             _ => 1,
         }
     }
@@ -173,6 +203,13 @@ impl Cause {
                 append_both(out, b"column outside aggregate: ", name.as_bytes())
             }
             Cause::Fault(host) => append_both(out, b"fault of ", host.as_bytes()),
+            Cause::Denied(action) => append_both(
+                out,
+                b"denied: action ",
+                Buffer::new().format(*action).as_bytes(),
+            ),
+            Cause::Constraint(kind, table) => append_failed(out, *kind, table),
+            Cause::Mismatch => out.extend_from_slice(b"datatype mismatch"),
         }
     }
 }
@@ -202,6 +239,16 @@ fn append_exists(out: &mut Vec<u8>, kind: NameKind, name: &Text) -> Result<(), A
     out.extend_from_slice(kind.word().as_bytes())?;
     out.extend_from_slice(b" already exists: ")?;
     out.extend_from_slice(name.as_bytes())?;
+    Ok(())
+}
+
+/// Writes that a row of this table fails a constraint of this kind.
+fn append_failed(out: &mut Vec<u8>, kind: ConstraintKind, table: &Text) -> Result<(), AllocError>
+    ensures { OnOk result (out.new.items ≡ out.old.items ++ (constraint_words kind ++ (codes " constraint failed: " ++ table.now))) }
+{
+    out.extend_from_slice(kind.words().as_bytes())?;
+    out.extend_from_slice(b" constraint failed: ")?;
+    out.extend_from_slice(table.as_bytes())?;
     Ok(())
 }
 
@@ -242,6 +289,9 @@ impl Clone for Cause {
             Cause::Ambiguous(name) => Ok(Cause::Ambiguous(name.clone()?)),
             Cause::BareColumn(name) => Ok(Cause::BareColumn(name.clone()?)),
             Cause::Fault(host) => Ok(Cause::Fault(host.clone()?)),
+            Cause::Denied(action) => Ok(Cause::Denied(*action)),
+            Cause::Constraint(kind, table) => Ok(Cause::Constraint(*kind, table.clone()?)),
+            Cause::Mismatch => Ok(Cause::Mismatch),
         }
     }
 }
@@ -271,6 +321,9 @@ impl Drop for Cause {
             Cause::Ambiguous(name) => drop(name),
             Cause::BareColumn(name) => drop(name),
             Cause::Fault(host) => drop(host),
+            Cause::Denied(_) => {}
+            Cause::Constraint(_, table) => drop(table),
+            Cause::Mismatch => {}
         }
     }
 }

@@ -1,8 +1,8 @@
 // What tells causes apart.
 ghost use Rattle.std.specs.Prelude.{◌≡◌};
-ghost use Rattle.eng_value.specs.Causes.{detail_of, is_same_cause, kind_key, limit_key, name_of, number_of};
+ghost use Rattle.eng_value.specs.Causes.{constraint_key, detail_of, is_same_cause, kind_key, limit_key, name_of, number_of};
 
-use crate::{Cause, LimitKind, NameKind};
+use crate::{Cause, ConstraintKind, LimitKind, NameKind};
 
 impl Cause {
     /// Whether both are one cause.
@@ -40,6 +40,9 @@ impl Cause {
             Cause::Ambiguous(_) => 18,
             Cause::BareColumn(_) => 19,
             Cause::Fault(_) => 20,
+            Cause::Denied(_) => 21,
+            Cause::Constraint(..) => 22,
+            Cause::Mismatch => 23,
         }
     }
 
@@ -53,6 +56,8 @@ impl Cause {
             Cause::Unknown(kind, _) => kind_key(*kind),
             Cause::Exists(kind, _) => kind_key(*kind),
             Cause::Syntax(at) => *at as u64,
+            Cause::Denied(action) => *action as u64,
+            Cause::Constraint(kind, _) => constraint_key(*kind),
             _ => 0,
         }
     }
@@ -71,6 +76,7 @@ impl Cause {
             Cause::Ambiguous(name) => name.as_bytes(),
             Cause::BareColumn(name) => name.as_bytes(),
             Cause::Fault(host) => host.as_bytes(),
+            Cause::Constraint(_, table) => table.as_bytes(),
             _ => &[],
         }
     }
@@ -90,6 +96,16 @@ fn kind_key(kind: NameKind) -> u64
         NameKind::View => 7,
         NameKind::Trigger => 8,
         NameKind::Savepoint => 9,
+    }
+}
+
+fn constraint_key(kind: ConstraintKind) -> u64
+    ensures { result ≡ constraint_key kind }
+{
+    match kind {
+        ConstraintKind::NotNull => 0,
+        ConstraintKind::Check => 1,
+        ConstraintKind::Unique => 2,
     }
 }
 

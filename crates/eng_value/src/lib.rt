@@ -40,7 +40,7 @@ pub use blob::Blob;
 pub use built::Built;
 pub use builtin::Builtin;
 pub use casts::{apply, cast, changed_beside, store_as, to_blob, to_integer, to_number, to_text};
-pub use cause::{Cause, LimitKind, NameKind};
+pub use cause::{Cause, ConstraintKind, LimitKind, NameKind};
 pub use causes::Causes;
 pub use collation::Collation;
 pub use collations::{compare, compare_under};
