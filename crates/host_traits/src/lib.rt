@@ -6,11 +6,13 @@
 //! can be made to fail, and adapters over any reader and any writer of std.
 #![tactic(auto)]
 
+mod authorizer;
 mod memory;
 mod sink;
 mod source;
 mod std_streams;
 
+pub use authorizer::Authorizer;
 pub use memory::{MemorySink, MemorySource};
 pub use sink::{Sink, WriteAnswer};
 pub use source::{ReadAnswer, Source};

@@ -1,3 +1,5 @@
+mod Authorized
+pub mod Honesty
 mod Puts
 mod Steps
 mod RegisterLaws

@@ -1,7 +1,9 @@
 -- One instruction more.
-use Rattle.std.proofs.Common.{◌≡◌, ℕ, zero, suc, ◌+◌, List, [], Ok, Err, Result, IfOk, refl, sym, ap, ◌∙◌, subst, arith, rules}
+use Rattle.std.proofs.Common.{◌≡◌, ℕ, zero, suc, ◌+◌, List, [], Ok, Err, Result, IfOk, Option, refl, sym, ap, ◌∙◌, subst, arith, rules}
 use Rattle.std.specs.declared.alloc.AllocError.{AllocError}
 use Rattle.eng_value.specs.HostMeanings.{HostMeanings, Oracle, no_hosts}
+use Rattle.eng_value.specs.declared.authorizing.Action.{Action}
+use Rattle.eng_value.specs.declared.authorizing.Verdict.{Verdict}
 use Rattle.eng_value.specs.declared.value.Value.{Value}
 use Rattle.vm_code.specs.declared.program.Program.{Program}
 use Rattle.vm_code.specs.Machine.{Row, World, Setting, State, Next, On, End, step, go_on, after, setting}
@@ -10,7 +12,9 @@ use Rattle.vm_core.specs.declared.event.Event.TheVariants as event
 use Rattle.vm_core.specs.declared.pace.Pace.{Pace}
 use Rattle.vm_core.specs.declared.pace.Pace.TheVariants as pace
 use Rattle.vm_core.specs.Events.{ActsOver, EventIs, LeadsTo, NamesBudget, NoneInVain, PausesFor, StopsFor}
+use Rattle.vm_core.specs.Meant.{authorized}
 use Rattle.vm_core.specs.Paused.{Progress, Paused, paused, state_at, state_of}
+use Rattle.vm_core.proofs.Authorized.{step_beside}
 
 module _ (m : Setting) where
   go_on_one : (n : ℕ) (x : Next) (t : State) (y : Next) → ((s : State) → after m n s ≡ On t → after m (suc n) s ≡ y) → go_on x (after m n) ≡ On t → go_on x (after m (suc n)) ≡ y
@@ -90,10 +94,11 @@ acts_behind (Ok p) e part old w new v f g same acts =
     subst (LeadsTo p e (state_at old w []) (state_at new v)) same (leads_alike p e (state_at part w []) (state_at old w []) (state_at new v) (f (state_at part w [])) acts)
 acts_behind (Err x) e part old w new v f g same acts = search rules
 
--- one instruction, where the hosts that tell these meanings are none
-pub same_step : (hosts : HostMeanings) → no_hosts ≡ hosts → (ask : Oracle) (xs ys : List Value) → ys ≡ xs → (p q : Program) → q ≡ p → (s : State) → step (setting hosts ask xs p) s ≡ step (setting no_hosts ask ys q) s
-same_step hosts told ask xs ys alike p q same s =
-    ap (λ h. step (setting h ask xs p) s) (sym told)
+-- one instruction, where the hosts that tell these meanings are none but an authorizer
+pub same_step : {told : Option (Option (Action → Verdict))} (hosts : HostMeanings) → authorized told ≡ hosts → (ask : Oracle) (xs ys : List Value) → ys ≡ xs → (p q : Program) → q ≡ p → (s : State) → step (setting hosts ask xs p) s ≡ step (setting no_hosts ask ys q) s
+same_step {told} hosts is ask xs ys alike p q same s =
+    ap (λ h. step (setting h ask xs p) s) (sym is)
+    ∙ step_beside told ask xs p s
     ∙ ap (λ zs. step (setting no_hosts ask zs p) s) (sym alike)
     ∙ ap (λ y. step (setting no_hosts ask ys y) s) (sym same)
 

@@ -71,7 +71,7 @@ impl Machine {
         steps: &mut Steps<L>,
     ) -> Event
         requires ran { budget.old.ran ≤ budget.old.whole }
-        requires told { meant hosts.old ≡ M.hosts }
+        requires told { meant verdicts hosts.old ≡ M.hosts }
         ensures ran { budget.old.ran ≤ budget.new.ran }
         ensures within { budget.new.ran ≤ budget.old.whole }
         ensures whole { budget.new.whole ≡ budget.old.whole }
@@ -86,7 +86,7 @@ impl Machine {
             (state_of self.old tables.old.world []) }
         ensures interrupted { NamesBudget budget.old.whole result }
         ensures marks { tables.new.marks ≡ tables.old.marks }
-        ensures told { meant hosts.new ≡ M.hosts }
+        ensures told { meant verdicts hosts.new ≡ M.hosts }
     {
         let mut event = Event::Done;
         while budget.ran < budget.whole {
