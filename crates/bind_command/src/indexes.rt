@@ -1,5 +1,5 @@
 // CREATE INDEX: on the columns of a table.
-ghost use Rattle.std.specs.Prelude.{◌≡◌, Some};
+ghost use Rattle.std.specs.Prelude.{◌≡◌, ◌∷◌, Some};
 ghost use Rattle.sql_bound.specs.Answers.{Answers};
 ghost use Rattle.sql_bound.specs.Creates.{creation_of, index_created, index_on, is_column, part_is_there, parts_are_there, written_is_there};
 ghost use Rattle.sql_bound.specs.Declarations.{definition_of, table_in};
@@ -129,6 +129,7 @@ pub fn parts_are_there(
     parts_within(alloc, facts, text, columns, parts, MAX_COLUMNS)
 }
 
+#[cycle(walking)]
 fn parts_within(
     alloc: Global,
     facts: &HostFacts,
@@ -141,14 +142,27 @@ fn parts_within(
 {
     match parts {
         [] => Ok(()),
-        [part, rest @ ..] => {
-            let Some(left) = room.checked_sub(1) else {
-                return Err(Cause::Limit(LimitKind::Columns));
-            };
-            part_is_there(alloc, facts, text, columns, part)?;
-            parts_within(alloc, facts, text, columns, rest, left)
-        }
+        [part, rest @ ..] => part_within(alloc, facts, text, columns, part, rest, room),
     }
+}
+
+#[cycle(walking)]
+fn part_within(
+    alloc: Global,
+    facts: &HostFacts,
+    text: &str,
+    columns: &[BoundColumn],
+    part: &IndexedColumn,
+    rest: &[IndexedColumn],
+    room: usize,
+) -> Result<(), Cause>
+    ensures { Answers (walked (part_is_there (facts_of facts.now) text.now columns.now) room (part.now ∷ rest.now) tt) result }
+{
+    let Some(left) = room.checked_sub(1) else {
+        return Err(Cause::Limit(LimitKind::Columns));
+    };
+    part_is_there(alloc, facts, text, columns, part)?;
+    parts_within(alloc, facts, text, columns, rest, left)
 }
 
 fn part_is_there(

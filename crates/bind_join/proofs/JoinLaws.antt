@@ -126,9 +126,9 @@ one-only name [] c one here = absurd (omega arith)
 one-only name (d ∷ e ∷ others) c one here = absurd (omega arith)
 one-only name (d ∷ []) c one here = grind arith
 
-pub one-two : (name : List ℕ) (columns : List ScopeColumn) (c : ScopeColumn) → 2 ≤ length columns → c ≡ get_or columns 0 c → one_of name columns ≡ Err (Ambiguous c.name)
-one-two name [] c two here = absurd (omega arith)
-one-two name (d ∷ []) c two here = absurd (omega arith)
-one-two name (d ∷ e ∷ others) c two here = ap (λ (x : ScopeColumn). Err (Ambiguous x.name)) (sym here)
+pub one-two : (name : List ℕ) (columns : List ScopeColumn) → 2 ≤ length columns → one_of name columns ≡ Err (Ambiguous name)
+one-two name [] two = absurd (omega arith)
+one-two name (d ∷ []) two = absurd (omega arith)
+one-two name (d ∷ e ∷ others) two = refl
 
 pub ruleset one_steps = (one-only, one-two)

@@ -58,7 +58,7 @@ pub fn one_of(alloc: Global, name: &str, columns: Items<ScopeColumn>) -> Result<
     match columns.as_slice() {
         [] => Err(Cause::Unknown(NameKind::Column, Text::from_str(alloc, name)?)),
         [_] => Ok(columns.remove(0)),
-        [first, _, ..] => Err(Cause::Ambiguous(copied(&first.name)?)),
+        [_, _, ..] => Err(Cause::Ambiguous(Text::from_str(alloc, name)?)),
     }
 }
 

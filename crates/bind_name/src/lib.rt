@@ -12,7 +12,7 @@ mod slices;
 mod types;
 
 pub use literals::literal;
-pub use names::name;
+pub use names::{name, plain_name};
 pub use numerals::is_least_magnitude;
 pub use quotes::past_second;
 pub use slices::{inside, slice_of};

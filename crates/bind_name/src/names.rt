@@ -31,7 +31,7 @@ fn name_of(alloc: Global, bytes: &[u8]) -> Result<Text, AllocError>
 }
 
 /// The name of a token without quotes, which stands in the text. Takes no memory.
-pub(crate) fn plain_name<'a>(text: &'a str, token: &Token) -> Option<&'a str>
+pub fn plain_name<'a>(text: &'a str, token: &Token) -> Option<&'a str>
     ensures { IfSome result (λ n. n.now ≡ name_at text.now token.now) }
 {
     let bytes = slice_of(text, token);

@@ -18,5 +18,5 @@ pub use copies::{
 pub use names::{further_out, name_shown, nearest_bare, nearest_called, no_column, own_bare};
 pub use needs::{brought, further, handed, needed, seen};
 pub use places::{pushed, small};
-pub use sights::is_called;
+pub use sights::{is_called, is_rowid_name};
 pub use units::{asked_as, is_recursion, itself_entry, table_entry, with_named, with_unit};

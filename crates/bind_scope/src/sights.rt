@@ -16,7 +16,7 @@ use sqlite_items::Items;
 use std::alloc::Global;
 
 /// Whether a name is one of those of rowids (ROWIDs and the INTEGER PRIMARY KEY).
-fn is_rowid_name(name: &str) -> bool
+pub fn is_rowid_name(name: &str) -> bool
     ensures { result ≡ is_rowid_name name.now }
 {
     is_same_name(b"rowid", name.as_bytes())

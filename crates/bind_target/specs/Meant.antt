@@ -1,7 +1,6 @@
 -- What code has of a write, and the records of the definition for which it stands.
 use Rattle.std.specs.Prelude.{◌≡◌, ◌⊎◌, ℕ, List, Some, Result, Ok, Err}
 use Rattle.bind_target.specs.declared.written.Begun.{Begun as BegunHere}
-use Rattle.bind_target.specs.declared.written.Fired.{Fired as FiredHere}
 use Rattle.bind_target.specs.declared.written.Opened.{Opened as OpenedHere}
 use Rattle.bind_target.specs.declared.written.Target.{Target as TargetHere}
 use Rattle.bound_tree.specs.declared.writes.BoundTarget.{BoundTarget}
@@ -10,7 +9,7 @@ use Rattle.eng_value.specs.declared.cause.Cause.{Cause}
 use Rattle.eng_value.specs.declared.cause.Cause.TheVariants.{Mem}
 use Rattle.sql_bound.specs.Froms.{plain_item}
 use Rattle.sql_bound.specs.Targets.{Firing, Target, target_of}
-use Rattle.sql_bound.specs.Writes.{Begun, Fired, Opened}
+use Rattle.sql_bound.specs.Writes.{Begun, Opened}
 
 abbrev pub bound_target : TargetHere → BoundTarget
 bound_target t = record { item = plain_item (Some t.name) t.source; defaults = t.defaults; not_nulls = t.not_nulls; checks = t.checks }
@@ -23,9 +22,6 @@ firing_meant event sets = record { event = event; sets = sets }
 
 abbrev pub begun_meant : BegunHere → Begun
 begun_meant b = record { target = target_meant b.target; choice = b.choice; firing = firing_meant b.event b.sets; change = b.change }
-
-abbrev pub fired_meant : FiredHere → Fired
-fired_meant f = record { fires = f.fires; replaces = f.replaces }
 
 abbrev pub opened_meant : OpenedHere → Opened
 opened_meant o = record { units = o.units; triggers = o.triggers }

@@ -23,7 +23,7 @@ pub use rows::event_of;
 pub use sources::{module_rows, shown_name};
 pub use targets::{not_nulls_of, plain_target};
 pub use triggers::{
-    added_if, captures_of, place_of_trigger, replaces_with, trigger_with, unknown_trigger,
-    with_trigger, write_with,
+    captures_of, place_of_trigger, replaces_with, trigger_with, unknown_trigger, with_trigger,
+    write_with,
 };
-pub use written::{Begun, Fired, Opened, Target};
+pub use written::{Begun, Opened, Target};

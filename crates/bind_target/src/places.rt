@@ -7,7 +7,6 @@ ghost use Rattle.sql_bound.specs.Answers.{Answers, OnlyMem, Refuses};
 ghost use Rattle.sql_bound.specs.Limits.{by_column, walked};
 ghost use Rattle.eng_value.specs.declared.cause.Cause.TheVariants.{Limit};
 ghost use Rattle.eng_value.specs.declared.cause.LimitKind.TheVariants as limit;
-ghost use Rattle.sql_bound.specs.Scopes.{is_rowid_name};
 ghost use Rattle.sql_bound.specs.Targets.{found_place, place_written, rowid_place};
 ghost use Rattle.sql_bound.specs.Writes.{listed_place, places_named, shown_places};
 ghost use Rattle.sql_words.specs.Spelled.{name_at};
@@ -15,22 +14,12 @@ ghost use Rattle.bind_target.specs.Places.{LeavesAt};
 
 use crate::written::Target;
 use bind_entry::{name, place_of_column, put, small};
-use bind_scope::text_of;
-use eng_entry::is_same_name;
+use bind_scope::{is_rowid_name, text_of};
 use eng_value::{Cause, LimitKind, MAX_COLUMNS, NameKind};
 use sql_bound::Sourced;
 use sql_tree::Token;
 use sqlite_items::Items;
 use std::alloc::Global;
-
-/// Whether a name is one of those of rowids.
-fn is_rowid_name(name: &str) -> bool
-    ensures { result ≡ is_rowid_name name.now }
-{
-    is_same_name(b"rowid", name.as_bytes())
-        || is_same_name(b"oid", name.as_bytes())
-        || is_same_name(b"_rowid_", name.as_bytes())
-}
 
 fn wide(place: Option<u32>) -> Option<usize>
     ensures { result ≡ place }

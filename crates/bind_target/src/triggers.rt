@@ -1,24 +1,24 @@
 // The triggers that a statement opens, each once, and the writes that fire them.
-ghost use Rattle.std.specs.Prelude.{◌≡◌, ◌++◌, ◌∷◌, [], codes, slice_set, IfOk, OnOk};
+ghost use Rattle.std.specs.Prelude.{◌≡◌, ◌++◌, ◌∷◌, [], codes, slice_set, unwrap_or, IfOk};
 ghost use Rattle.bind_source.specs.Arounds.{around_of};
-ghost use Rattle.bind_target.specs.Meant.{begun_meant, bound_target, fired_meant, opened_meant};
+ghost use Rattle.bind_target.specs.Meant.{begun_meant, bound_target, opened_meant};
 ghost use Rattle.eng_entry.specs.Entries.{Entries};
 ghost use Rattle.eng_value.specs.declared.cause.Cause.TheVariants.{Unknown};
 ghost use Rattle.eng_value.specs.declared.cause.NameKind.TheVariants as kind;
 ghost use Rattle.sql_bound.specs.Answers.{OnlyMem, Refuses};
 ghost use Rattle.sql_bound.specs.Trees.{of_trigger};
 ghost use Rattle.sql_bound.specs.Triggers.{header_of, place_of_trigger, row_item};
-ghost use Rattle.sql_bound.specs.Writes.{added_if, captures_of, is_replace, is_table, replaces_with, write_with};
+ghost use Rattle.sql_bound.specs.Writes.{captures_of, is_replace, is_table, is_view, replaces_with, write_with};
 
 use crate::rows::{event_of, row_item};
-use crate::written::{Begun, Fired, Opened, Target};
+use crate::written::{Begun, Opened, Target};
 use bind_entry::{copied, put};
 use bind_source::plain_item;
 use bound_tree::{
     BoundExpr, BoundItem, BoundSource, BoundStep, BoundTarget, BoundTrigger, BoundWrite, reversed,
 };
 use eng_entry::{Entry, is_same_name};
-use eng_value::{Cause, NameKind};
+use eng_value::{Cause, NameKind, Text};
 use sql_bound::{HostFacts, Need, Sourced};
 use sql_tree::{ConflictChoice, TriggerDefinition};
 use sqlite_items::Items;
@@ -53,6 +53,17 @@ fn both_rows(alloc: Global, s: &Sourced) -> Result<Items<BoundItem>, Cause>
     Ok(rows)
 }
 
+/// The name of the table or view that has the trigger.
+fn name_of(alloc: Global, s: &Sourced) -> Result<Text, Cause>
+    ensures ok { IfOk result (λ name. name ≡ unwrap_or s.now.name []) }
+    ensures mem { OnlyMem result }
+{
+    match &s.name {
+        Some(name) => copied(name),
+        None => Ok(Text::from_str(alloc, "")?),
+    }
+}
+
 /// A trigger over these rows, with the condition and the body that it has so far. Only memory can fail.
 pub fn trigger_with(
     alloc: Global,
@@ -67,8 +78,10 @@ pub fn trigger_with(
 {
     let rows = both_rows(alloc, s)?;
     let name = copied(&entry.name)?;
+    let table = name_of(alloc, s)?;
     Ok(BoundTrigger {
         name,
+        table,
         time: trigger.time,
         event: event_of(&trigger.event),
         rows,
@@ -97,6 +110,15 @@ fn is_replace(choice: ConflictChoice) -> bool
     }
 }
 
+fn is_view(source: &BoundSource) -> bool
+    ensures { result ≡ is_view source.now }
+{
+    match source {
+        BoundSource::View(_, _) => true,
+        _ => false,
+    }
+}
+
 fn is_table(source: &BoundSource) -> bool
     ensures { result ≡ is_table source.now }
 {
@@ -111,14 +133,6 @@ pub fn replaces_with(facts: &HostFacts, begun: &Begun) -> bool
     ensures { (catalog : Entries) → result ≡ replaces_with (around_of catalog facts.now) (begun_meant begun.now) }
 {
     is_replace(begun.choice) && facts.recursive_triggers && is_table(&begun.target.source.source)
-}
-
-/// Puts a place behind others, if it is to be. Only memory can fail.
-pub fn added_if(added: bool, place: u32, places: &mut Items<u32>) -> Result<(), Cause>
-    ensures ok { OnOk result (places.new ≡ added_if added place places.old) }
-    ensures mem { OnlyMem result }
-{
-    if added { put(places, place) } else { Ok(()) }
 }
 
 // ---- the write as a whole
@@ -154,18 +168,19 @@ pub fn captures_of(alloc: Global, needs: Items<Need>) -> Result<Items<BoundExpr>
     Ok(trees)
 }
 
-/// A write with the triggers that it fires. Only memory can fail.
+/// A write with the triggers that it can fire. Only memory can fail.
 pub fn write_with(
     alloc: Global,
     begun: Begun,
     needs: Items<Need>,
-    fired: Fired,
+    fires: Items<u32>,
     counts: bool,
 ) -> Result<BoundWrite, Cause>
-    ensures ok { IfOk result (λ write. write ≡ write_with (begun_meant begun) needs (fired_meant fired) counts) }
+    ensures ok { IfOk result (λ write. write ≡ write_with (begun_meant begun) needs fires counts) }
     ensures mem { OnlyMem result }
 {
     let captures = captures_of(alloc, needs)?;
+    let counts = counts && !is_view(&begun.target.source.source);
     let Begun {
         target,
         choice,
@@ -173,14 +188,12 @@ pub fn write_with(
         sets: _,
         change,
     } = begun;
-    let Fired { fires, replaces } = fired;
     Ok(BoundWrite {
         target: bound_target(alloc, target),
         choice,
         captures,
         change,
         fires,
-        replaces,
         upsert: None,
         returning: None,
         counts,

@@ -27,13 +27,6 @@ pub struct Begun {
     pub change: BoundChange,
 }
 
-/// The triggers that a write fires, and those of REPLACE's deletes, by their places in the statement's list.
-#[derive(Drop)]
-pub struct Fired {
-    pub fires: Items<u32>,
-    pub replaces: Items<u32>,
-}
-
 /// What a statement has opened so far.
 #[derive(Drop)]
 pub struct Opened {

@@ -2,14 +2,14 @@
 // body is bound, so that what its body fires may name it. `left` says how many triggers are not opened yet.
 ghost use Rattle.std.specs.Prelude.{◌≡◌, ℕ, ◌&&◌, true, [], ◌∷◌, length, map, Ok, IfOk};
 ghost use Rattle.bind_query.specs.Scopes.{around_of, outer_of, scope_of};
-ghost use Rattle.bind_target.specs.Meant.{ComesAs, begun_meant, fired_meant, opened_meant};
+ghost use Rattle.bind_target.specs.Meant.{begun_meant, opened_meant};
 ghost use Rattle.bind_write.specs.Parts.{condition_in, delete_parts, insert_parts, update_parts};
 ghost use Rattle.sql_bound.specs.Answers.{Comes, Goes, OnlyMem};
 ghost use Rattle.sql_bound.specs.Scopes.{begun};
 ghost use Rattle.sql_bound.specs.Targets.{can_fire};
 ghost use Rattle.sql_bound.specs.Trees.{of_option, of_query, of_rows, of_trigger};
 ghost use Rattle.sql_bound.specs.Triggers.{opened_now, opening, opening_of, rows_seen, step_bound, steps_bound, trigger_at_place, trigger_of};
-ghost use Rattle.sql_bound.specs.Writes.{delete_begun, deleting, fired_all, fired_one, insert_begun, none_fired, replaces_with, update_begun, write_bound};
+ghost use Rattle.sql_bound.specs.Writes.{delete_begun, deleting, fired_all, fired_one, fires, insert_begun, replaces_with, update_begun, write_bound};
 ghost use Rattle.sql_bound.specs.Carriers.{Queries};
 
 use crate::scoped::rows_seen;
@@ -18,8 +18,8 @@ use bind_entry::{put, small, trigger_of};
 use bind_query::{STEPS, Scope, bind, bind_query};
 use bind_scope::pushed;
 use bind_target::{
-    Begun, Fired, Opened, added_if, can_fire, captures_of, event_of, place_of_trigger,
-    replaces_with, trigger_with, unknown_trigger, with_trigger, write_with,
+    Begun, Opened, can_fire, captures_of, event_of, place_of_trigger, replaces_with, trigger_with,
+    unknown_trigger, with_trigger, write_with,
 };
 use bound_tree::{BoundExpr, BoundStep, BoundWrite, FiringEvent};
 use eng_entry::{Entry, Space};
@@ -53,29 +53,6 @@ fn begun_work(alloc: Global, opened: &mut Opened) -> Work
 
 // ---- which triggers are fired
 
-/// Opens the trigger of an entry, if it is fired or fired by REPLACE's deletes.
-#[cycle(firing)]
-fn put_fired<'a>(
-    alloc: Global,
-    left: usize,
-    scope: &Scope<'a>,
-    begun: &Begun,
-    fires: bool,
-    replaces: bool,
-    entry: &'a Entry,
-    fired: &mut Fired,
-    opened: &mut Opened,
-) -> Result<(), Cause>
-    ensures { Goes (fired_one (opening_of trigger_of (around_of scope.now) left) (begun_meant begun.now) fires replaces entry.now (fired_meant fired.old, opened_meant opened.old)) result (fired_meant fired.new) (opened_meant opened.new) }
-{
-    if !fires && !replaces {
-        return Ok(());
-    }
-    let place = open(alloc, left, scope, &begun.target.source, entry, opened)?;
-    added_if(fires, place, &mut fired.fires)?;
-    added_if(replaces, place, &mut fired.replaces)
-}
-
 /// Whether REPLACE's deletes fire the trigger of an entry.
 fn fires_replaced(
     alloc: Global,
@@ -101,6 +78,24 @@ fn fires_replaced(
     )
 }
 
+/// Whether a write can fire the trigger of an entry, by what it does itself or by REPLACE's deletes.
+fn fires(alloc: Global, scope: &Scope<'_>, begun: &Begun, entry: &Entry) -> Result<bool, Cause>
+    ensures ok { IfOk result (λ is. is ≡ fires (around_of scope.now) (begun_meant begun.now) entry.now) }
+    ensures mem { OnlyMem result }
+{
+    let target = &begun.target;
+    let own = can_fire(
+        alloc,
+        target.name.as_str(),
+        &target.source,
+        begun.event,
+        begun.sets.as_slice(),
+        entry,
+    )?;
+    let replaced = fires_replaced(alloc, scope, begun, entry)?;
+    Ok(own || replaced)
+}
+
 /// Opens the trigger of an entry, if the write can fire it.
 #[cycle(firing)]
 fn fire_one<'a>(
@@ -109,24 +104,16 @@ fn fire_one<'a>(
     scope: &Scope<'a>,
     begun: &Begun,
     entry: &'a Entry,
-    fired: &mut Fired,
+    fired: &mut Items<u32>,
     opened: &mut Opened,
 ) -> Result<(), Cause>
-    ensures { Goes (fired_one (opening_of trigger_of (around_of scope.now) left) (begun_meant begun.now) (can_fire begun.now.target.name begun.now.target.source (begun_meant begun.now).firing entry.now) (replaces_with (around_of scope.now) (begun_meant begun.now) && can_fire begun.now.target.name begun.now.target.source deleting entry.now) entry.now (fired_meant fired.old, opened_meant opened.old)) result (fired_meant fired.new) (opened_meant opened.new) }
+    ensures { Goes (fired_one (opening_of trigger_of (around_of scope.now) left) (begun_meant begun.now) (fires (around_of scope.now) (begun_meant begun.now) entry.now) entry.now (fired.old, opened_meant opened.old)) result fired.new (opened_meant opened.new) }
 {
-    let target = &begun.target;
-    let fires = can_fire(
-        alloc,
-        target.name.as_str(),
-        &target.source,
-        begun.event,
-        begun.sets.as_slice(),
-        entry,
-    )?;
-    let replaces = fires_replaced(alloc, scope, begun, entry)?;
-    put_fired(
-        alloc, left, scope, begun, fires, replaces, entry, fired, opened,
-    )
+    if !fires(alloc, scope, begun, entry)? {
+        return Ok(());
+    }
+    let place = open(alloc, left, scope, &begun.target.source, entry, opened)?;
+    put(fired, place)
 }
 
 /// The triggers that a write can fire, of these entries.
@@ -138,13 +125,10 @@ fn fire_all<'a>(
     begun: &Begun,
     entries: &'a [Entry],
     opened: &mut Opened,
-) -> Result<Fired, Cause>
-    ensures { ComesAs fired_meant (fired_all (opening_of trigger_of (around_of scope.now) left) (around_of scope.now) (begun_meant begun.now) entries.now (none_fired, opened_meant opened.old)) result (opened_meant opened.new) }
+) -> Result<Items<u32>, Cause>
+    ensures { Comes (fired_all (opening_of trigger_of (around_of scope.now) left) (around_of scope.now) (begun_meant begun.now) entries.now ([], opened_meant opened.old)) result (opened_meant opened.new) }
 {
-    let mut fired = Fired {
-        fires: Items::new(alloc),
-        replaces: Items::new(alloc),
-    };
+    let mut fired = Items::new(alloc);
     for entry in entries {
         fire_one(alloc, left, scope, begun, entry, &mut fired, opened)?;
     }

@@ -80,7 +80,7 @@ plain c = record { explain = None; units = []; triggers = []; command = c }
 
 abbrev pub write : BoundItem → BoundChange → List ℕ → BoundWrite
 write target change fires =
-    record { target = record { item = target; defaults = []; not_nulls = []; checks = [] }; choice = choice.Abort; captures = []; change = change; fires = fires; replaces = []; upsert = None; returning = None; counts = true }
+    record { target = record { item = target; defaults = []; not_nulls = []; checks = [] }; choice = choice.Abort; captures = []; change = change; fires = fires; upsert = None; returning = None; counts = true }
 
 abbrev pub writing : List BoundUnit → List BoundTrigger → BoundWrite → BoundStatement
 writing units triggers w = record { explain = None; units = units; triggers = triggers; command = command.Written w }
@@ -91,7 +91,7 @@ rows = item source.Given (codes "a" ∷ codes "b" ∷ []) ∷ item source.Given 
 
 abbrev pub trigger : List ℕ → Option BoundExpr → List BoundStep → BoundTrigger
 trigger name condition body =
-    record { name = name; time = time.After; event = event.AtUpdate; rows = rows; condition = condition; body = body }
+    record { name = name; table = codes "t"; time = time.After; event = event.AtUpdate; rows = rows; condition = condition; body = body }
 
 -- ---- actions
 

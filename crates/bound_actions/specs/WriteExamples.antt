@@ -61,8 +61,8 @@ follows = trigger (codes "q") None (Writes (updates (0 ∷ 1 ∷ [])) ∷ [])
 each_once : actions_of (writing [] (repeats ∷ follows ∷ []) (updates (0 ∷ 1 ∷ []))) ≡ action None kind.Update (codes "t") (codes "a") ∷ action (Some (codes "p")) kind.Update (codes "t") (codes "a") ∷ action (Some (codes "q")) kind.Update (codes "t") (codes "a") ∷ action (Some (codes "p")) kind.Insert (codes "u") [] ∷ []
 each_once = refl
 
--- ---- `REPLACE INTO t DEFAULT VALUES`: the triggers of its deletes come behind its own
-replacing : actions_of (writing [] (trigger (codes "p") None [] ∷ trigger (codes "q") (Some (e.Column 0 0)) [] ∷ trigger (codes "r") (Some (e.Column 1 1)) [] ∷ []) (record (write t_item Defaulted (2 ∷ [])) { replaces = 1 ∷ 0 ∷ [] })) ≡ action None kind.Insert (codes "t") [] ∷ read (Some (codes "r")) (codes "t") (codes "b") ∷ read (Some (codes "q")) (codes "t") (codes "a") ∷ []
+-- ---- `REPLACE INTO t DEFAULT VALUES`: its own triggers and those of its deletes, in order of creation
+replacing : actions_of (writing [] (trigger (codes "p") None [] ∷ trigger (codes "q") (Some (e.Column 0 0)) [] ∷ trigger (codes "r") (Some (e.Column 1 1)) [] ∷ []) (write t_item Defaulted (2 ∷ 1 ∷ 0 ∷ []))) ≡ action None kind.Insert (codes "t") [] ∷ read (Some (codes "r")) (codes "t") (codes "b") ∷ read (Some (codes "q")) (codes "t") (codes "a") ∷ []
 replacing = refl
 
 -- ---- `INSERT INTO t DEFAULT VALUES ON CONFLICT DO UPDATE SET a = excluded.b WHERE t.a RETURNING rowid`

@@ -90,11 +90,10 @@ abbrev pub fired : Opening → List ℕ → List ℕ → Listed → Listed
 fired opening table [] so_far = so_far
 fired opening table (place ∷ places) so_far = fired opening table places (opening table place so_far)
 
--- with what its trigger hands over to it; REPLACE's deletes come behind
+-- with what its trigger hands over to it
 abbrev pub write_listed : Opening → List (List Piece) → Option (List ℕ) → List (List Piece) → BoundWrite → Listed → Listed
 write_listed opening u within handed w so_far =
-    fired opening (target_name w.target.item) w.replaces
-    (fired opening (target_name w.target.item) w.fires (more (filled handed (write_pieces u (target_spot within w.target.item) w)) so_far))
+    fired opening (target_name w.target.item) w.fires (more (filled handed (write_pieces u (target_spot within w.target.item) w)) so_far)
 
 -- ---- a trigger: OLD and NEW are rows of the table
 

@@ -102,15 +102,6 @@ pub(crate) fn list_write(
         table,
         write.fires.as_slice(),
         listed,
-    )?;
-    list_fired(
-        alloc,
-        units,
-        all,
-        left,
-        table,
-        write.replaces.as_slice(),
-        listed,
     )
 }
 

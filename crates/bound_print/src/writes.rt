@@ -38,7 +38,6 @@ pub(crate) fn print_write(page: &mut Page, write: &BoundWrite) {
     print_all(page, "captures ", write.captures.as_slice());
     print_change(page, &write.change);
     print_places(page, "fires ", write.fires.as_slice());
-    print_places(page, "replaces ", write.replaces.as_slice());
     if let Some(upsert) = &write.upsert {
         print_upsert(page, upsert);
     }

@@ -119,10 +119,9 @@ pub struct BoundWrite {
     /// What a trigger's row hands over to it.
     pub captures: Items<BoundExpr>,
     pub change: BoundChange,
-    /// The triggers that it can fire, by their places in the statement's list.
+    /// The triggers that it can fire, by their places in the statement's list, in order of creation. In another write than a DELETE those
+    /// of deletes are for the rows that REPLACE takes away.
     pub fires: Items<u32>,
-    /// Those of REPLACE's deletes.
-    pub replaces: Items<u32>,
     pub upsert: Option<BoundUpsert>,
     pub returning: Option<BoundReturning>,
     /// Whether its rows count.
@@ -137,7 +136,6 @@ impl Drop for BoundWrite {
             captures,
             change,
             fires,
-            replaces,
             upsert,
             returning,
             counts: _,
@@ -146,7 +144,6 @@ impl Drop for BoundWrite {
         drop(captures);
         drop(change);
         drop(fires);
-        drop(replaces);
         drop(upsert);
         drop(returning);
     }
@@ -173,9 +170,10 @@ pub enum FiringEvent {
     AtUpdate,
 }
 
-/// A trigger: its rows are OLD and NEW, the items 0 and 1 of WHEN and of what its body is handed.
+/// A trigger of a table or a view: its rows are OLD and NEW, the items 0 and 1 of WHEN and of what its body is handed.
 pub struct BoundTrigger {
     pub name: Text,
+    pub table: Text,
     pub time: TriggerTime,
     pub event: FiringEvent,
     pub rows: Items<BoundItem>,
@@ -187,6 +185,7 @@ impl Drop for BoundTrigger {
     fn drop(self) {
         let BoundTrigger {
             name,
+            table,
             time: _,
             event: _,
             rows,
@@ -194,6 +193,7 @@ impl Drop for BoundTrigger {
             body,
         } = self;
         drop(name);
+        drop(table);
         drop(rows);
         drop(condition);
         drop(body);

@@ -238,7 +238,7 @@ called_by text (Some t) name = Some (name_at text t)
 abbrev pub one_of : List ℕ → List ScopeColumn → Checked ScopeColumn
 one_of name [] = Err (Unknown kind.Column name)
 one_of name (c ∷ []) = Ok c
-one_of name (c ∷ d ∷ others) = Err (Ambiguous c.name)
+one_of name (c ∷ d ∷ others) = Err (Ambiguous name)
 
 -- USING joins by any column, NATURAL passes over those that are hidden
 abbrev pub is_any : ScopeColumn → Bool

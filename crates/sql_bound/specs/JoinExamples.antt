@@ -47,7 +47,7 @@ unfolding all_statement_rules count tokens_of word_kind the_text_test
 not_on_both_sides = refl
 
 -- two columns on the left that are not joined
-two_on_the_left : refused (codes "SELECT * FROM t, u NATURAL JOIN u x") (λ t. query (core (All ∷ []) (named t 3 ∷ named t 5 ∷ natural t 8 ∷ []) None)) ≡ Some (Ambiguous (codes "B"))
+two_on_the_left : refused (codes "SELECT * FROM t, u NATURAL JOIN u x") (λ t. query (core (All ∷ []) (named t 3 ∷ named t 5 ∷ natural t 8 ∷ []) None)) ≡ Some (Ambiguous (codes "b"))
 unfolding all_statement_rules count tokens_of word_kind the_text_test
 two_on_the_left = refl
 

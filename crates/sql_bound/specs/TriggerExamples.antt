@@ -189,18 +189,18 @@ abbrev with_deletes : Bool → Around
 with_deletes recursive =
     record (around_of (codes "CREATE TABLE t(a UNIQUE)" ∷ []) (codes "CREATE TRIGGER g AFTER DELETE ON t BEGIN SELECT 1; END" ∷ [])) { facts = record no_facts { recursive_triggers = recursive } }
 
-abbrev replaced : Bool → Option (List ℕ × List ℕ)
-replaced recursive = both_lists (write_bound (opening_of (λ entry. Some (record h_parts { event = event.Delete; body = [] })) (with_deletes recursive) 1) (with_deletes recursive) true (insert_begun (outer_at (with_deletes recursive) (full_depth (with_deletes recursive)) (codes "REPLACE INTO t VALUES(1)") [] in_statement) (an_insert (insert (tokens_of (codes "REPLACE INTO t VALUES(1)")) choice.Replace 2 [] (Some (values ((lit (tokens_of (codes "REPLACE INTO t VALUES(1)")) 5 ∷ []) ∷ []))))) (begun [])) nothing_opened)
+abbrev replaced : Bool → Option (List ℕ)
+replaced recursive = all_fired (write_bound (opening_of (λ entry. Some (record h_parts { event = event.Delete; body = [] })) (with_deletes recursive) 1) (with_deletes recursive) true (insert_begun (outer_at (with_deletes recursive) (full_depth (with_deletes recursive)) (codes "REPLACE INTO t VALUES(1)") [] in_statement) (an_insert (insert (tokens_of (codes "REPLACE INTO t VALUES(1)")) choice.Replace 2 [] (Some (values ((lit (tokens_of (codes "REPLACE INTO t VALUES(1)")) 5 ∷ []) ∷ []))))) (begun [])) nothing_opened)
   where
-    both_lists : Checked (BoundWrite × Opened) → Option (List ℕ × List ℕ)
-    both_lists (Ok w) = Some (w.0.fires, w.0.replaces)
-    both_lists (Err reason) = None
+    all_fired : Checked (BoundWrite × Opened) → Option (List ℕ)
+    all_fired (Ok w) = Some w.0.fires
+    all_fired (Err reason) = None
 
     an_insert : RowParts → InsertParts
     an_insert (Inserts i) = i
     an_insert other = record { choice = choice.Abort; table = no_token; columns = []; source = None }
 
-replaces : (replaced true ≡ Some ([], 0 ∷ [])) × (replaced false ≡ Some ([], []))
+replaces : (replaced true ≡ Some (0 ∷ [])) × (replaced false ≡ Some [])
 unfolding all_statement_rules count tokens_of word_kind the_text_test
 replaces = (refl, refl)
 

@@ -1,5 +1,5 @@
 -- Triggers: WHEN and the body are bound where the trigger can fire, over OLD and NEW; each stands once in a statement's list (CREATE TRIGGER).
-use Rattle.std.specs.Prelude.{ℕ, zero, suc, true, false, List, [], ◌∷◌, ◌++◌, length, position, slice_set, Option, Some, None, Ok, Err, codes}
+use Rattle.std.specs.Prelude.{ℕ, zero, suc, true, false, List, [], ◌∷◌, ◌++◌, length, position, slice_set, Option, Some, None, Ok, Err, codes, unwrap_or}
 use Rattle.std.specs.Option.{option_map}
 use Rattle.eng_entry.specs.Names.{is_same_name}
 use Rattle.eng_entry.specs.declared.entry.Entry.{Entry}
@@ -80,7 +80,7 @@ steps_bound opening around o (c ∷ cs) opened =
 
 abbrev pub header_of : Entry → Sourced → TriggerParts → BoundTrigger
 header_of entry s t =
-    record { name = entry.name; time = t.time; event = event_of t.event; rows = row_item (codes "old") s ∷ row_item (codes "new") s ∷ []; condition = None; body = [] }
+    record { name = entry.name; table = unwrap_or s.name []; time = t.time; event = event_of t.event; rows = row_item (codes "old") s ∷ row_item (codes "new") s ∷ []; condition = None; body = [] }
 
 abbrev pub with_trigger : ℕ → BoundTrigger → Opened → Opened
 with_trigger place t opened = record opened { triggers = slice_set opened.triggers place t }

@@ -1,5 +1,5 @@
 -- INSERT, UPDATE and DELETE: the target, the columns, the source or SET and WHERE, and then the triggers that it can fire.
-use Rattle.std.specs.Prelude.{ℕ, suc, nat_eq, Bool, true, false, ◌&&◌, List, [], ◌∷◌, ◌++◌, map, length, position, Option, Some, None, Ok}
+use Rattle.std.specs.Prelude.{ℕ, suc, nat_eq, Bool, true, false, not, ◌&&◌, ◌||◌, List, [], ◌∷◌, ◌++◌, map, length, position, Option, Some, None, Ok}
 use Rattle.std.specs.List.{range_with_len}
 use Rattle.eng_entry.specs.declared.entry.Entry.{Entry}
 use Rattle.sql_tree.specs.declared.statement.ConflictChoice.TheVariants as choice
@@ -130,42 +130,36 @@ is_table other = false
 abbrev pub replaces_with : Around → Begun → Bool
 replaces_with around b = is_replace b.choice && around.facts.recursive_triggers && is_table b.target.source.source
 
--- those that it fires, and those of REPLACE's deletes
-pub record Fired : Type 0 where
-  pub fires : List ℕ
-  pub replaces : List ℕ
+-- by what it does itself, or by REPLACE's deletes
+abbrev pub fires : Around → Begun → Entry → Bool
+fires around b entry =
+    can_fire b.target.name b.target.source b.firing entry || (replaces_with around b && can_fire b.target.name b.target.source deleting entry)
 
-abbrev pub added_if : Bool → ℕ → List ℕ → List ℕ
-added_if false place places = places
-added_if true place places = places ++ place ∷ []
+abbrev pub fired_one : Opening → Begun → Bool → Entry → List ℕ × Opened → Checked (List ℕ × Opened)
+fired_one opening b false entry so_far = Ok so_far
+fired_one opening b true entry so_far = opening b.target.source entry so_far.1 >>= λ p. Ok (so_far.0 ++ p.0 ∷ [], p.1)
 
-abbrev pub fired_one : Opening → Begun → Bool → Bool → Entry → Fired × Opened → Checked (Fired × Opened)
-fired_one opening b false false entry so_far = Ok so_far
-fired_one opening b fires replaces entry so_far =
-    opening b.target.source entry so_far.1 >>= λ p.
-    Ok (record { fires = added_if fires p.0 so_far.0.fires; replaces = added_if replaces p.0 so_far.0.replaces }, p.1)
-
-abbrev pub fired_all : Opening → Around → Begun → List Entry → Fired × Opened → Checked (Fired × Opened)
+abbrev pub fired_all : Opening → Around → Begun → List Entry → List ℕ × Opened → Checked (List ℕ × Opened)
 fired_all opening around b [] so_far = Ok so_far
 fired_all opening around b (entry ∷ entries) so_far =
-    fired_one opening b (can_fire b.target.name b.target.source b.firing entry)
-    (replaces_with around b && can_fire b.target.name b.target.source deleting entry) entry so_far >>= λ next.
-    fired_all opening around b entries next
+    fired_one opening b (fires around b entry) entry so_far >>= λ next. fired_all opening around b entries next
 
 -- ---- the whole: what is handed over to it comes of the row of the trigger in whose body it stands
 
 abbrev pub captures_of : List Need → List BoundExpr
 captures_of needs = map (λ (n : Need). n.tree) needs
 
-abbrev pub write_with : Begun → List Need → Fired → Bool → BoundWrite
-write_with b needs f counts =
-    record { target = b.target.target; choice = b.choice; captures = captures_of needs; change = b.change; fires = f.fires; replaces = f.replaces; upsert = None; returning = None; counts = counts }
+-- rows that a view's triggers take do not count
+abbrev pub is_view : BoundSource → Bool
+is_view (bound_source.View name unit) = true
+is_view other = false
 
-abbrev pub none_fired : Fired
-none_fired = record { fires = []; replaces = [] }
+abbrev pub write_with : Begun → List Need → List ℕ → Bool → BoundWrite
+write_with b needs fires counts =
+    record { target = b.target.target; choice = b.choice; captures = captures_of needs; change = b.change; fires = fires; upsert = None; returning = None; counts = counts && not (is_view b.target.source.source) }
 
 -- once it is bound itself
 abbrev pub write_bound : Opening → Around → Bool → Answer Begun → Opened → Checked (BoundWrite × Opened)
 write_bound opening around counts begun_write opened =
-    begun_write >>= λ b. fired_all opening around b.0 around.catalog.triggers (none_fired, record opened { units = b.1.units }) >>= λ f.
+    begun_write >>= λ b. fired_all opening around b.0 around.catalog.triggers ([], record opened { units = b.1.units }) >>= λ f.
     Ok (write_with b.0 b.1.needs f.0 counts, f.1)

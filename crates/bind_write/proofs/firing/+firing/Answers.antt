@@ -1,16 +1,15 @@
-use Rattle.std.proofs.Common.{rules, length, None, ◌++◌, ◌≡◌, ◌&&◌, ◌∷◌, [], map, List, Ok, Err, refl, sym, ap, ◌∙◌, arith, subst}
+use Rattle.std.proofs.Common.{ℕ, rules, length, None, ◌++◌, ◌≡◌, ◌∷◌, [], map, List, Ok, Err, refl, sym, ap, ◌∙◌, arith, subst}
 use Rattle.std.proofs.lemmas.Grind.{common_steps}
 use Rattle.std.proofs.lemmas.Result.{err_from_is_err_and}
 use Rattle.bind_query.specs.Scopes.{around_of, outer_of}
-use Rattle.bind_target.specs.Meant.{begun_meant, fired_meant, opened_meant}
+use Rattle.bind_target.specs.Meant.{begun_meant, opened_meant}
 use Rattle.bind_write.specs.Turns.{in_turn}
 use Rattle.bound_tree.specs.declared.writes.BoundStep.{BoundStep}
 use Rattle.bound_tree.specs.declared.writes.BoundTrigger.{BoundTrigger}
 use Rattle.eng_entry.specs.declared.entry.Entry.{Entry}
-use Rattle.sql_bound.specs.Targets.{can_fire}
 use Rattle.sql_bound.specs.Trees.{of_rows, of_trigger}
 use Rattle.sql_bound.specs.Triggers.{header_of, opening_of, step_bound, steps_bound, trigger_at_place, trigger_of}
-use Rattle.sql_bound.specs.Writes.{Fired, Opened, deleting, fired_all, fired_one, none_fired, replaces_with}
+use Rattle.sql_bound.specs.Writes.{Opened, fired_all, fired_one, fires}
 use Rattle.sql_tree.specs.declared.statement.RowCommand.{RowCommand}
 use Rattle.bind_write.proofs.OpenLaws.{body-refused, condition-refused, open-next, open-there, query-step, trigger-opened}
 use Rattle.bind_write.proofs.StepLaws.{comes-refused}
@@ -66,11 +65,11 @@ fire_all-loop-entry-preserved t c =
     let around = around_of c.args.scope.now in
     let opening = opening_of trigger_of around c.args.left in
     let b = begun_meant c.args.begun.now in
-    let step = λ (entry : Entry) (f : Fired × Opened). fired_one opening b (can_fire b.target.name b.target.source b.firing entry) (replaces_with around b && can_fire b.target.name b.target.source deleting entry) entry f in
+    let step = λ (entry : Entry) (f : List ℕ × Opened). fired_one opening b (fires around b entry) entry f in
     let x = c.entry-item.result in
-    let so_far : Fired × Opened = (fired_meant c.loop-entry.fired, opened_meant c.loop-entry.opened) in
+    let so_far : List ℕ × Opened = (c.loop-entry.fired, opened_meant c.loop-entry.opened) in
     c.loop-entry.invariant
-    ∙ fold-passed (fired_all opening around b) step (λ y ys f. refl) c.args.entries.now c.loop-entry.entry-index x so_far (fired_meant c.fire_one.new.fired, opened_meant c.fire_one.new.opened) c.loop-entry-test.true
+    ∙ fold-passed (fired_all opening around b) step (λ y ys f. refl) c.args.entries.now c.loop-entry.entry-index x so_far (c.fire_one.new.fired, opened_meant c.fire_one.new.opened) c.loop-entry-test.true
     (ap (λ (y : Entry). step y so_far) (sym c.entry-item.is) ∙ c.in_ok-fire_one.ensures)
 
 pub fire_all-returns-in_err-fire_one : goal.fire_all-returns-in_err-fire_one
@@ -78,11 +77,11 @@ fire_all-returns-in_err-fire_one t c =
     let around = around_of c.args.scope.now in
     let opening = opening_of trigger_of around c.args.left in
     let b = begun_meant c.args.begun.now in
-    let step = λ (entry : Entry) (f : Fired × Opened). fired_one opening b (can_fire b.target.name b.target.source b.firing entry) (replaces_with around b && can_fire b.target.name b.target.source deleting entry) entry f in
+    let step = λ (entry : Entry) (f : List ℕ × Opened). fired_one opening b (fires around b entry) entry f in
     let x = c.entry-item.result in
-    let so_far : Fired × Opened = (fired_meant c.loop-entry.fired, opened_meant c.loop-entry.opened) in
+    let so_far : List ℕ × Opened = (c.loop-entry.fired, opened_meant c.loop-entry.opened) in
     let why = c.in_err-fire_one.field-0.0 in
-    let refused : step x so_far ≡ Err why → fired_all opening around b c.args.entries.now (none_fired, opened_meant c.args.opened.now) ≡ Err why = λ is.
+    let refused : step x so_far ≡ Err why → fired_all opening around b c.args.entries.now ([], opened_meant c.args.opened.now) ≡ Err why = λ is.
     c.loop-entry.invariant
     ∙ fold-refused (fired_all opening around b) step (λ y ys f. refl) c.args.entries.now c.loop-entry.entry-index x so_far why c.loop-entry-test.true
     (ap (λ (y : Entry). step y so_far) (sym c.entry-item.is) ∙ is) in
@@ -93,9 +92,9 @@ fire_all-returns t c =
     let around = around_of c.args.scope.now in
     let opening = opening_of trigger_of around c.args.left in
     let b = begun_meant c.args.begun.now in
-    let step = λ (entry : Entry) (f : Fired × Opened). fired_one opening b (can_fire b.target.name b.target.source b.firing entry) (replaces_with around b && can_fire b.target.name b.target.source deleting entry) entry f in
+    let step = λ (entry : Entry) (f : List ℕ × Opened). fired_one opening b (fires around b entry) entry f in
     c.loop-entry.invariant
-    ∙ fold-end (fired_all opening around b) step (λ y ys f. refl) c.args.entries.now c.loop-entry.entry-index (fired_meant c.loop-entry.fired, opened_meant c.loop-entry.opened) c.loop-entry-test.false
+    ∙ fold-end (fired_all opening around b) step (λ y ys f. refl) c.args.entries.now c.loop-entry.entry-index (c.loop-entry.fired, opened_meant c.loop-entry.opened) c.loop-entry-test.false
 
 -- ---- bodies and opening
 

@@ -1,17 +1,14 @@
 use Rattle.std.proofs.Common.{◌≡◌, ◌+◌, ◌*◌, map, drop, []}
 use Rattle.bind_query.specs.Scopes.{around_of, outer_of}
-use Rattle.bind_target.specs.Meant.{begun_meant, fired_meant, opened_meant}
+use Rattle.bind_target.specs.Meant.{begun_meant, opened_meant}
 use Rattle.bind_write.specs.Turns.{in_turn}
 use Rattle.sql_bound.specs.Trees.{of_rows}
 use Rattle.sql_bound.specs.Triggers.{opening_of, step_bound, steps_bound, trigger_of}
-use Rattle.sql_bound.specs.Writes.{fired_all, none_fired}
+use Rattle.sql_bound.specs.Writes.{fired_all}
 use Rattle.bind_write.proofs.firing.+firing.Given as goal
 
 abbrev pub decreases-open : goal.decreases-open
 decreases-open l = l.left * 16 + 6
-
-abbrev pub decreases-put_fired : goal.decreases-put_fired
-decreases-put_fired l = l.left * 16 + 7
 
 abbrev pub decreases-fire_one : goal.decreases-fire_one
 decreases-fire_one l = l.left * 16 + 8
@@ -45,8 +42,8 @@ decreases-open_now l = l.left * 16 + 15
 
 abbrev pub invariant-fire_all-loop-entry : goal.invariant-fire_all-loop-entry
 invariant-fire_all-loop-entry l =
-    fired_all (opening_of trigger_of (around_of l.scope) l.left) (around_of l.scope) (begun_meant l.begun) l.entries (none_fired, opened_meant l.fn.opened)
-    ≡ fired_all (opening_of trigger_of (around_of l.scope) l.left) (around_of l.scope) (begun_meant l.begun) (drop l.entry-index l.entries) (fired_meant l.fired, opened_meant l.opened)
+    fired_all (opening_of trigger_of (around_of l.scope) l.left) (around_of l.scope) (begun_meant l.begun) l.entries ([], opened_meant l.fn.opened)
+    ≡ fired_all (opening_of trigger_of (around_of l.scope) l.left) (around_of l.scope) (begun_meant l.begun) (drop l.entry-index l.entries) (l.fired, opened_meant l.opened)
 
 abbrev pub invariant-bind_steps-loop-command : goal.invariant-bind_steps-loop-command
 invariant-bind_steps-loop-command l =
