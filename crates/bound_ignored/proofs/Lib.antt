@@ -1,0 +1,4 @@
+pub mod ErasedLists
+mod ErasedTrees
+pub mod ErasedLaws
+mod Marks

@@ -1,0 +1,7 @@
+use Rattle.std.proofs.Common.{◌≡◌, drop}
+use Rattle.std.specs.List.{list_any}
+use Rattle.bound_ignored.specs.Erased.{same_place}
+use Rattle.bound_ignored.proofs.erasing.is_among.Given as goal
+
+abbrev pub invariant-loop-other : goal.invariant-loop-other
+invariant-loop-other l = list_any (same_place l.place) l.places ≡ list_any (same_place l.place) (drop l.other-index l.places)
