@@ -1,10 +1,9 @@
 -- What is built is plain.
-use Rattle.std.proofs.Common.{◌≡◌, ℕ, Bool, true, false, ◌&&◌, not, List, [], ◌∷◌, length, map, Option, Some, None, is_some, refl, subst}
+use Rattle.std.proofs.Common.{◌≡◌, ℕ, Bool, true, ◌&&◌, not, List, [], ◌∷◌, length, map, Option, Some, None, is_some, refl, subst}
 use Rattle.std.specs.List.{list_all}
 use Rattle.std.specs.Option.{option_map}
 use Rattle.sql_tree.specs.Folds.{ExprStep, Q}
-use Rattle.sql_tree.specs.Layers.{ExprLayer, PartLayer, QueryLayer, ResultLayer, SelectLayer, of_part, of_query, of_result, of_select}
-use Rattle.sql_tree.specs.declared.expr.Arguments.{Arguments}
+use Rattle.sql_tree.specs.Layers.{ExprLayer, PartLayer, ResultLayer, of_part, of_query, of_result, of_select}
 use Rattle.sql_tree.specs.declared.expr.Arm.{Arm, fold-roll-Arm, map-Arm, roll-Arm}
 use Rattle.sql_tree.specs.declared.expr.Expr.TheOpen.{Arm-F, Expr-F, QueryPart-F, ResultColumn-F}
 use Rattle.sql_tree.specs.declared.expr.Expr.{Expr, fold-roll-Expr, ind-Expr, map-Expr, roll-Expr}
@@ -20,10 +19,9 @@ use Rattle.sql_tree.specs.declared.query.RowLimit.{RowLimit}
 use Rattle.sql_tree.specs.declared.query.SelectCore.{SelectCore}
 use Rattle.sql_tree.specs.declared.query.Source.{Source}
 use Rattle.sql_tree.specs.declared.query.SpannedExpr.{SpannedExpr}
-use Rattle.sql_tree.specs.declared.token.Token.{Token}
 use Rattle.sql_words.specs.Spelled.{name_bytes}
-use Rattle.sql_meaning.specs.Built.{Test, all_pass, are_built_rows, built_arm_step, built_step, is_aggregate, is_built_arm, is_built_expr, is_built_filter, is_built_from, is_built_part, is_built_query, is_built_result, is_built_row, is_built_select, is_built_values, is_empty, is_plain_select, option_passes, result_is_built, stands_alone}
-use Rattle.bound_size.specs.Plain.{all_plain, is_alone, is_plain, is_plain_arm, is_plain_core, is_plain_filter, is_plain_part, is_plain_query, is_plain_result, is_plain_row, option_plain, plain_step, result_is_plain}
+use Rattle.sql_meaning.specs.Built.{Test, all_pass, are_built_rows, built_step, is_aggregate, is_built_arm, is_built_expr, is_built_filter, is_built_from, is_built_part, is_built_query, is_built_result, is_built_row, is_built_values, is_empty, is_plain_select, option_passes, result_is_built, stands_alone}
+use Rattle.bound_size.specs.Plain.{all_plain, is_alone, is_plain, is_plain_arm, is_plain_filter, is_plain_part, is_plain_query, is_plain_result, is_plain_row, option_plain, plain_step, result_is_plain}
 use Rattle.bound_size.proofs.BoundLaws.{both_hold, three_hold}
 use Rattle.bound_size.proofs.RollLaws.{is_plain-roll, plain_layer}
 

@@ -1,6 +1,9 @@
 pub mod BuiltLaws
 pub mod Steps
 pub mod Sizing
+pub mod MarkedRuns
+pub mod IgnoredLaws
+pub mod ErasedSizes
 pub mod BuiltPlain
 pub mod Whole
 pub mod Places

@@ -1,10 +1,9 @@
 -- What an INSERT that runs at once is meant to be.
-use Rattle.std.proofs.Common.{◌≡◌, ◌≤◌, ℕ, nat_eq, nat_le, Bool, true, false, ◌&&◌, if◌then◌else◌, List, [], ◌∷◌, length, Option, Some, None, Result, Ok, Err, inl, IfOk, IfSome, refl, sym, ap, subst, ◌∙◌}
+use Rattle.std.proofs.Common.{◌≡◌, ◌≤◌, ℕ, nat_eq, nat_le, Bool, true, false, ◌&&◌, if◌then◌else◌, List, [], ◌∷◌, length, Option, Some, None, Result, Ok, Err, IfOk, IfSome, refl, sym, ap, subst, ◌∙◌}
 use Rattle.std.proofs.lemmas.Bool.{eqb-true, leb-true}
 use Rattle.eng_entry.specs.Entries.{Entries}
 use Rattle.eng_entry.specs.declared.entry.EntryKind.TheVariants as entry_kind
 use Rattle.eng_entry.specs.declared.entry.EntryKind.{EntryKind}
-use Rattle.eng_value.specs.declared.cause.Cause.TheVariants.{Mem}
 use Rattle.eng_value.specs.declared.limits.TheConstants.{MAX_COLUMNS}
 use Rattle.sql_tree.specs.Layers.{PartLayer, of_part, of_query}
 use Rattle.sql_tree.specs.declared.expr.Expr.TheOpen.{QueryPart-F}
@@ -22,6 +21,8 @@ use Rattle.sql_bound.specs.Declarations.{definition_of, table_in}
 use Rattle.bound_size.proofs.BoundLaws.{both_hold}
 use Rattle.sql_meaning.specs.Built.{is_built, is_built_table, is_empty, stands_alone}
 use Rattle.sql_meaning.specs.Declarations.{tables_of}
+use Rattle.sql_meaning.specs.Permits.{asked_by}
+use Rattle.sql_meaning.proofs.PermitLaws.{permitted-all}
 use Rattle.sql_meaning.specs.Running.{places_of}
 use Rattle.sql_meaning.specs.Runnables.{Puts}
 use Rattle.sql_meaning.specs.declared.bound.BoundInsert.{BoundInsert}
@@ -115,7 +116,7 @@ read-definition (Some t) width e =
 -- ---- the whole
 
 pub plain-binds : (catalog : Entries) (number : ℕ) (text : List ℕ) (s : Statement) (i : Insert) (rows : List (List Expr)) (b : BoundInsert) → insert_of s ≡ Some i → rows_of i ≡ Some rows → PutsPlain catalog (tables_of catalog) text i.table rows b
-    → is_built text s ≡ true → catalog.triggers ≡ [] → Binds catalog number text s (Ok (bound.Insert b))
+    → is_built text s ≡ true → catalog.triggers ≡ [] → Binds (asked_by None) catalog number text s (Ok (bound.Insert b))
 plain-binds catalog number text s i rows b at puts p built untriggered =
     let r = read s i rows at puts in
     let put = p.put in
@@ -127,7 +128,7 @@ plain-binds catalog number text s i rows b at puts p built untriggered =
     let few : length d.table.columns ≤ MAX_COLUMNS = subst (λ n. n ≤ MAX_COLUMNS) (sym d.wide) (leb-true (length put.columns) MAX_COLUMNS two.0) in
     let are : AreRows text (length d.table.columns) (r.first ∷ r.rest) b.rows = subst (λ n. AreRows text n (r.first ∷ r.rest) b.rows) (sym d.wide) (subst (λ rs. AreRows text (length put.columns) rs b.rows) r.all p.rows) in
     let runs = statement-runs catalog text s i.table r.first r.rest b.rows entry d.table (tables_of catalog) put r.inserts p.table.named (read-kind entry.kind two.1) d.is d.plain third.1 few are untriggered p.table.called in
-    bound_so catalog number text s runs.statement (Ok (bound.Insert b)) untriggered built runs.bound (
+    bound_so (asked_by None) catalog number text s runs.statement runs.statement (Ok (bound.Insert b)) untriggered built runs.bound (permitted-all runs.statement) (
       Puts (put_as put (length d.table.columns) b.rows),
       runs.runs number,
       record {
@@ -141,13 +142,8 @@ plain-binds catalog number text s i rows b at puts p built untriggered =
 -- what is found of a statement's INSERT and rows
 pub found-binds : {E : Type 0} (catalog : Entries) (tables : List TableEntry) (number : ℕ) (text : List ℕ) (s : Statement) (i : Insert) (rows written : List (List Expr)) (r : Result (Option BoundInsert) E) → tables ≡ tables_of catalog → insert_of s ≡ Some i → rows_of i ≡ Some rows
     → written ≡ rows → is_built text s ≡ true → catalog.triggers ≡ [] → IfOk r (λ found. IfSome found (λ b. PutsPlain catalog tables text i.table written b))
-    → IfOk r (λ found. IfSome found (λ b. Binds catalog number text s (Ok (bound.Insert b))))
+    → IfOk r (λ found. IfSome found (λ b. Binds (asked_by None) catalog number text s (Ok (bound.Insert b))))
 found-binds catalog tables number text s i rows written (Err why) of at puts same built untriggered h = tt
 found-binds catalog tables number text s i rows written (Ok None) of at puts same built untriggered h = tt
 found-binds catalog tables number text s i rows written (Ok (Some b)) of at puts same built untriggered h =
     plain-binds catalog number text s i rows b at puts (subst (λ ts. PutsPlain catalog ts text i.table rows b) of (subst (λ rs. PutsPlain catalog tables text i.table rs b) same h)) built untriggered
-
--- memory may be wanting
-pub no-memory : (catalog : Entries) (number : ℕ) (text : List ℕ) (s : Statement) → Binds catalog number text s (Err Mem)
-unfolding Binds
-no-memory catalog number text s = inl refl

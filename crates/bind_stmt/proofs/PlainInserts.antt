@@ -43,7 +43,7 @@ use Rattle.sql_bound.specs.Statements.{bound_of, command_bound, nothing_opened, 
 use Rattle.sql_bound.specs.Targets.{Target, target_bound}
 use Rattle.sql_bound.specs.Trees.{depth_of, full_depth, of_insert_source, of_query, of_rows, outer_at}
 use Rattle.sql_bound.specs.Triggers.{opening}
-use Rattle.sql_bound.specs.Writes.{Begun, Fired, Opened, Opening, fired_all, insert_begun, inserted_from, inserting, insertion, is_place, none_fired, places_named, write_with}
+use Rattle.sql_bound.specs.Writes.{Begun, Opened, Opening, fired_all, insert_begun, inserted_from, inserting, insertion, is_place, places_named, write_with}
 use Rattle.sql_bound.specs.declared.scopes.Asked.{Asked}
 use Rattle.sql_bound.specs.declared.scopes.Work.{Work}
 use Rattle.sql_meaning.specs.Built.{is_built_table, stands_alone}
@@ -132,7 +132,7 @@ module _ (o : Outer) (views : List ℕ → List ℕ → Tree → List BoundUnit 
         record { source = target.2.source; change = put.2 },
       )
 
-  none_fires : (open_it : Opening) (b : Begun) (so_far : Fired × Opened) → o.around.catalog.triggers ≡ [] → fired_all open_it o.around b o.around.catalog.triggers so_far ≡ Ok so_far
+  none_fires : (open_it : Opening) (b : Begun) (so_far : List ℕ × Opened) → o.around.catalog.triggers ≡ [] → fired_all open_it o.around b o.around.catalog.triggers so_far ≡ Ok so_far
   none_fires open_it b so_far none = ap (λ ts. fired_all open_it o.around b ts so_far) none
 
   pub write-is : o.around.catalog.triggers ≡ [] → (b : BoundCommand × Opened) × (rows_bound o (of_rows (rows_by.Insert i)) ≡ Ok b) × Writes entry width made b
@@ -140,13 +140,13 @@ module _ (o : Outer) (views : List ℕ → List ℕ → Tree → List BoundUnit 
       let g = begun-is in
       let b = g.0 in
       let opened : Opened = record nothing_opened { units = b.1.units } in
-      let write = write_with b.0 b.1.needs none_fired true in
-      let fires : Begun × Work → Checked (Fired × Opened) = λ b. fired_all (opening o.around) o.around b.0 o.around.catalog.triggers (none_fired, record nothing_opened { units = b.1.units }) in
-      let done : Begun × Work → Fired × Opened → BoundWrite × Opened = λ b f. (write_with b.0 b.1.needs f.0 true, f.1) in
+      let write = write_with b.0 b.1.needs [] true in
+      let fires : Begun × Work → Checked (List ℕ × Opened) = λ b. fired_all (opening o.around) o.around b.0 o.around.catalog.triggers ([], record nothing_opened { units = b.1.units }) in
+      let done : Begun × Work → List ℕ × Opened → BoundWrite × Opened = λ b f. (write_with b.0 b.1.needs f.0 true, f.1) in
       let told : BoundWrite × Opened → BoundCommand × Opened = λ w. (Written w.0, w.1) in (
         (Written write, opened),
         ap (λ r. (r >>= λ b. fires b >>= λ f. Ok (done b f)) >>= λ w. Ok (told w)) g.1
-            ∙ ap (λ r. (r >>= λ f. Ok (done b f)) >>= λ w. Ok (told w)) (none_fires (opening o.around) b.0 (none_fired, opened) untriggered),
+            ∙ ap (λ r. (r >>= λ f. Ok (done b f)) >>= λ w. Ok (told w)) (none_fires (opening o.around) b.0 ([], opened) untriggered),
         record { write = write; command = refl; source = g.2.source; change = g.2.change },
       )
 

@@ -1,20 +1,17 @@
 -- What single steps come to.
-use Rattle.std.proofs.Common.{◌≡◌, ◌≤◌, nat_le, is_some, subst, if◌then◌else◌, ℕ, List, [], ◌∷◌, true, length, nat_eq, Option, Some, None, Result, Ok, Err, flat_map, slice_get, refl, ap, sym, ◌∙◌}
+use Rattle.std.proofs.Common.{◌≡◌, ◌≤◌, nat_le, is_some, subst, if◌then◌else◌, ℕ, List, [], ◌∷◌, true, length, Some, None, Result, Ok, flat_map, slice_get, refl, ap, sym}
 use Rattle.std.proofs.lemmas.Bool.{le-leb}
 use Rattle.std.proofs.lemmas.List.{length-map}
 use Rattle.eng_value.specs.declared.cause.Cause.{Cause}
 use Rattle.eng_value.specs.declared.limits.TheConstants.{MAX_COLUMNS}
-use Rattle.bound_tree.specs.Exprs.{BoundExpr}
 use Rattle.bound_tree.specs.declared.units.BoundCore.{BoundCore}
 use Rattle.bound_tree.specs.declared.units.BoundItem.{BoundItem}
 use Rattle.bound_tree.specs.declared.units.BoundPart.{BoundPart}
-use Rattle.bound_tree.specs.declared.units.BoundPart.TheVariants as part
 use Rattle.bound_tree.specs.declared.units.BoundUnit.{BoundUnit}
 use Rattle.bound_tree.specs.declared.writes.BoundWrite.{BoundWrite}
 use Rattle.sql_meaning.specs.declared.column.TableEntry.{TableEntry}
-use Rattle.sql_meaning.specs.Running.{first_part, found_table, from_of, is_plain_core, part_of, put_into, put_of, query_of, select_of, table_of_source}
-use Rattle.sql_meaning.specs.Runnables.{Drops, FromItem, Put, Puts, Queries, Query, Runnable, Shows}
-use Rattle.sql_words.specs.Refusals.{◌>>=◌}
+use Rattle.sql_meaning.specs.Running.{first_part, from_of, is_plain_core, part_of, put_into, put_of, query_of, select_of, table_of_source}
+use Rattle.sql_meaning.specs.Runnables.{FromItem, Put, Puts, Queries, Query, Runnable}
 use Rattle.bound_tree.specs.Conditions.{conditions_of}
 use Rattle.bound_tree.specs.declared.statements.BoundCreation.{BoundCreation}
 use Rattle.sql_meaning.specs.Declarations.{column_of, columns_created, columns_of}
@@ -26,8 +23,8 @@ use Rattle.sql_tree.specs.declared.statement.Definition.TheVariants as definitio
 use Rattle.sql_tree.specs.declared.statement.Statement.{Statement}
 use Rattle.sql_tree.specs.declared.statement.TableDefinition.{TableDefinition}
 
-pub item-is : (tables : List TableEntry) (i : BoundItem) (t : TableEntry) → nat_eq (length i.ignored) 0 ≡ true → table_of_source tables i.source ≡ Ok t → from_of tables (i ∷ []) ≡ Ok (record { table = t; width = length i.columns; ignored = [] } ∷ [])
-item-is tables i t none is = rw (none, is) refl
+pub item-is : (tables : List TableEntry) (i : BoundItem) (t : TableEntry) → table_of_source tables i.source ≡ Ok t → from_of tables (i ∷ []) ≡ Ok (record { table = t; width = length i.columns; ignored = i.ignored } ∷ [])
+item-is tables i t is = rw is refl
 
 abbrev pub query_over : BoundCore → List FromItem → Query
 query_over c from = record { from = from; conjuncts = flat_map conditions_of c.conjuncts; results = c.results }

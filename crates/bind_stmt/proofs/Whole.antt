@@ -13,12 +13,10 @@ use Rattle.sql_tree.specs.declared.statement.Command.TheVariants as command
 use Rattle.sql_tree.specs.declared.statement.Create.{Create}
 use Rattle.sql_tree.specs.declared.statement.Definition.{Definition}
 use Rattle.sql_tree.specs.declared.statement.Definition.TheVariants as definition
-use Rattle.sql_tree.specs.declared.statement.Explain.{Explain}
 use Rattle.sql_tree.specs.declared.statement.Insert.{Insert}
 use Rattle.sql_tree.specs.declared.statement.InsertSource.{InsertSource}
 use Rattle.sql_tree.specs.declared.statement.InsertSource.TheVariants as source
 use Rattle.sql_tree.specs.declared.statement.ObjectKind.{ObjectKind}
-use Rattle.sql_tree.specs.declared.statement.RowCommand.{RowCommand}
 use Rattle.sql_tree.specs.declared.statement.RowCommand.TheVariants as rows_by
 use Rattle.sql_tree.specs.declared.statement.Statement.{Statement}
 use Rattle.sql_tree.specs.declared.query.Query.{Query as Tree}
@@ -36,29 +34,31 @@ use Rattle.bound_size.proofs.StatementLaws.{insert_small, query_small}
 use Rattle.sql_bound.specs.Carriers.{InsertParts}
 use Rattle.sql_bound.specs.Creates.{create_bound, create_there, created_by, entries_beside, is_free, name_of_entry, nothing_created}
 use Rattle.sql_bound.specs.Refusals.{Checked}
-use Rattle.sql_bound.specs.Scopes.{Around, Outer, begun, in_statement}
+use Rattle.sql_bound.specs.Scopes.{Outer, begun, in_statement}
 use Rattle.sql_bound.specs.Statements.{bound_of, command_bound, entries_of, nothing_opened, plain, pragma_bound, remove_bound, removed, rows_bound, statement_with, thing_there}
 use Rattle.sql_bound.specs.Targets.{Target, target_bound}
 use Rattle.sql_bound.specs.Trees.{full_depth, of_insert_source, of_rows, outer_at}
 use Rattle.sql_bound.specs.Triggers.{opening}
-use Rattle.sql_bound.specs.Writes.{Begun, Fired, Opened, fired_all, insert_begun, inserted_from, inserting, none_fired, places_named, write_bound, write_with}
+use Rattle.sql_bound.specs.Writes.{Begun, Opened, fired_all, insert_begun, inserted_from, inserting, places_named, write_bound, write_with}
 use Rattle.sql_bound.specs.declared.scopes.Work.{Work}
 use Rattle.sql_meaning.specs.Built.{is_abort, is_built, is_built_command, is_built_rows, is_built_rows_source, is_built_values}
 use Rattle.sql_meaning.specs.Declarations.{tables_of}
-use Rattle.sql_meaning.specs.Running.{command_of, creation_of, entry_with, found_table, if_built, put_into, put_of, removal_of, runnable_of, table_of_source}
+use Rattle.sql_meaning.specs.Running.{command_of, entry_with, found_table, if_built, put_into, put_of, removal_of, runnable_of, table_of_source}
 use Rattle.sql_meaning.specs.Runnables.{Creates, DoesNothing, Drops, Put, Puts, Queries, Runnable, Shows}
-use Rattle.sql_meaning.specs.Statement.{around, statement_bound}
+use Rattle.sql_meaning.specs.Statement.{around}
 use Rattle.sql_meaning.specs.declared.column.TableEntry.{TableEntry}
 use Rattle.sql_meaning.specs.Declarations.{columns_created, table_called}
 use Rattle.sql_meaning.proofs.ValidLaws.{if_built-ok, same-ok, then-ok}
 use Rattle.sql_words.specs.Refusals.{◌>>=◌}
 use Rattle.sql_words.specs.Spelled.{name_at}
 use Rattle.bind_stmt.specs.declared.statement.Bound.{Bound}
-use Rattle.bind_stmt.specs.declared.statement.Bound.TheVariants as bound
-use Rattle.bind_stmt.specs.Binds.{AnswersBy, Binds, BindsTo, IsBound}
+use Rattle.bind_stmt.specs.Binds.{AnswersBy, Binds, IsBound, IsRefusal}
 use Rattle.bind_stmt.specs.Small.{AreFew, IsSmall}
 use Rattle.bind_stmt.proofs.BuiltPlain.{built_query_plain, built_values_plain}
-use Rattle.bind_stmt.proofs.Sizing.{defaulted-small, inserted-small, of_insert_as, query-small}
+use Rattle.sql_meaning.specs.Permits.{Asking, Denies, Ignores, Permit, permitted}
+use Rattle.bound_ignored.specs.Marked.{ignoring}
+use Rattle.bind_stmt.proofs.MarkedRuns.{marked-small}
+use Rattle.bind_stmt.proofs.Sizing.{defaulted-small, inserted-small, query-small}
 
 -- ---- what neither reads nor puts rows
 
@@ -68,28 +68,13 @@ IsAside (Drops t) = ⊤
 IsAside DoesNothing = ⊤
 IsAside other = ⊥
 
-aside-small : (size : ℕ) (x : Runnable) (b : Bound) → 1 ≤ size → IsAside x → IsBound x b → IsSmall size x b
-aside-small size (Creates e) (bound.CreateTable b) le a is = le
-aside-small size (Creates e) (bound.DropTable b) le a is = absurd is
-aside-small size (Creates e) (bound.Insert b) le a is = absurd is
-aside-small size (Creates e) (bound.Select b) le a is = absurd is
-aside-small size (Creates e) (bound.Values b) le a is = absurd is
-aside-small size (Creates e) bound.Nothing le a is = absurd is
-aside-small size (Drops t) (bound.CreateTable b) le a is = absurd is
-aside-small size (Drops t) (bound.DropTable b) le a is = le
-aside-small size (Drops t) (bound.Insert b) le a is = absurd is
-aside-small size (Drops t) (bound.Select b) le a is = absurd is
-aside-small size (Drops t) (bound.Values b) le a is = absurd is
-aside-small size (Drops t) bound.Nothing le a is = absurd is
-aside-small size DoesNothing (bound.CreateTable b) le a is = absurd is
-aside-small size DoesNothing (bound.DropTable b) le a is = absurd is
-aside-small size DoesNothing (bound.Insert b) le a is = absurd is
-aside-small size DoesNothing (bound.Select b) le a is = absurd is
-aside-small size DoesNothing (bound.Values b) le a is = absurd is
-aside-small size DoesNothing bound.Nothing le a is = le
-aside-small size (Puts p) b le a is = absurd a
-aside-small size (Queries q) b le a is = absurd a
-aside-small size (Shows rows) b le a is = absurd a
+aside-small : (size : ℕ) (x : Runnable) → 1 ≤ size → IsAside x → IsSmall size x
+aside-small size (Creates e) le a = le
+aside-small size (Drops t) le a = le
+aside-small size DoesNothing le a = le
+aside-small size (Puts p) le a = absurd a
+aside-small size (Queries q) le a = absurd a
+aside-small size (Shows rows) le a = absurd a
 
 abbrev IsAsideCommand : BoundCommand → Type 0
 IsAsideCommand (made.Asked place) = ⊥
@@ -150,9 +135,9 @@ defaults_placed o i r from h =
     let parts : InsertParts = record { choice = i.choice; table = i.table; columns = i.columns; source = of_insert_source i.source } in
     let open_it = opening o.around in
     let opened : (Begun × Work) → Opened = λ g. record nothing_opened { units = g.1.units } in
-    let write : (Begun × Work) → Fired × Opened → BoundWrite × Opened = λ g f. (write_with g.0 g.1.needs f.0 true, f.1) in
+    let write : (Begun × Work) → List ℕ × Opened → BoundWrite × Opened = λ g f. (write_with g.0 g.1.needs f.0 true, f.1) in
     let told : BoundWrite × Opened → BoundCommand × Opened = λ b. (made.Written b.0, b.1) in
-    let fires : (Begun × Work) → Checked (Fired × Opened) = λ g. fired_all open_it o.around g.0 o.around.catalog.triggers (none_fired, opened g) in
+    let fires : (Begun × Work) → Checked (List ℕ × Opened) = λ g. fired_all open_it o.around g.0 o.around.catalog.triggers ([], opened g) in
     let b = bound_by (write_bound open_it o.around true (insert_begun o parts (begun [])) nothing_opened) (λ b. Ok (told b)) r h in
     let g = bound_by (insert_begun o parts (begun [])) (λ g. fires g >>= λ f. Ok (write g f)) b.0 b.1 in
     let f = bound_by (fires g.0) (λ f. Ok (write g.0 f)) b.0 g.2 in
@@ -174,16 +159,16 @@ defaults_placed o i r from h =
 
 -- ---- INSERT
 
-put-small : (size : ℕ) (tables : List TableEntry) (units : List BoundUnit) (w : BoundWrite) (x : Runnable) (b : Bound) → ((t : TableEntry) (p : Put) → put_into t units w.change ≡ Ok p → AreFew size p.rows) → put_of tables units w ≡ Ok x → IsBound x b → IsSmall size x b
-put-small size tables units w x b few e is =
+put-small : (size : ℕ) (tables : List TableEntry) (units : List BoundUnit) (w : BoundWrite) (x : Runnable) → ((t : TableEntry) (p : Put) → put_into t units w.change ≡ Ok p → AreFew size p.rows) → put_of tables units w ≡ Ok x → IsSmall size x
+put-small size tables units w x few e =
     let puts : Put → Result Runnable Cause = λ put. Ok (Puts put) in
     let table = then-ok (table_of_source tables w.target.item.source) (λ t. put_into t units w.change >>= puts) x e in
     let put = then-ok (put_into table.0 units w.change) puts x table.2 in
-    subst (λ y. IsBound y b → IsSmall size y b) (same-ok (Puts put.0) x put.2) (λ held. of_insert_as size put.0 b held (few table.0 put.0 put.1)) is
+    subst (IsSmall size) (same-ok (Puts put.0) x put.2) (few table.0 put.0 put.1)
 
 -- ---- every statement
 
-module _ (catalog : Entries) (number : ℕ) (text : List ℕ) (s : Statement) (made_of : BoundStatement) (x : Runnable) (b : Bound) (none : catalog.triggers ≡ []) (is : bound_of (around catalog) text s ≡ Ok made_of) (runs : runnable_of (tables_of catalog) number text s made_of ≡ Ok x) (held : IsBound x b) where
+module _ (catalog : Entries) (number : ℕ) (text : List ℕ) (s : Statement) (made_of : BoundStatement) (x : Runnable) (none : catalog.triggers ≡ []) (is : bound_of (around catalog) text s ≡ Ok made_of) (runs : runnable_of (tables_of catalog) number text s made_of ≡ Ok x) where
   outer : Outer
   outer = outer_at (around catalog) (full_depth (around catalog)) text [] in_statement
 
@@ -194,11 +179,11 @@ module _ (catalog : Entries) (number : ℕ) (text : List ℕ) (s : Statement) (m
       let c = bound_by (command_bound outer s.command) (λ c. Ok (statement_with s.explain c)) made_of is in
       (c.0, subst (λ (y : Command). command_bound outer y ≡ Ok c.0) at c.1, ap (λ (y : BoundStatement). y.command) (sym (same_answer (statement_with s.explain c.0) made_of c.2)))
 
-  aside_is : (k : BoundCommand) (size : ℕ) → 1 ≤ size → made_of.command ≡ k → IsAsideCommand k → IsSmall size x b
+  aside_is : (k : BoundCommand) (size : ℕ) → 1 ≤ size → made_of.command ≡ k → IsAsideCommand k → IsSmall size x
   aside_is k size le at a =
-      aside-small size x b le (command-aside (tables_of catalog) number text s made_of.units made_of.command x (subst IsAsideCommand (sym at) a) runs) held
+      aside-small size x le (command-aside (tables_of catalog) number text s made_of.units made_of.command x (subst IsAsideCommand (sym at) a) runs)
 
-  opening_is : (size : ℕ) (r : Checked BoundCommand) (c : BoundCommand × Opened) → 1 ≤ size → made_of.command ≡ c.0 → ((k : BoundCommand) → r ≡ Ok k → IsAsideCommand k) → (r >>= λ k. Ok (plain k)) ≡ Ok c → IsSmall size x b
+  opening_is : (size : ℕ) (r : Checked BoundCommand) (c : BoundCommand × Opened) → 1 ≤ size → made_of.command ≡ c.0 → ((k : BoundCommand) → r ≡ Ok k → IsAsideCommand k) → (r >>= λ k. Ok (plain k)) ≡ Ok c → IsSmall size x
   opening_is size r c le at aside e =
       let one = bound_by r (λ k. Ok (plain k)) c e in
       let same : one.0 ≡ c.0 = ap (λ (y : BoundCommand × Opened). y.0) (same_answer (plain one.0) c one.2) in
@@ -211,28 +196,28 @@ module _ (catalog : Entries) (number : ℕ) (text : List ℕ) (s : Statement) (m
   definition_size (definition.Trigger t) = omega arith
   definition_size (definition.VirtualTable v) = omega arith
 
-  query_is : (q : Tree) → s.command ≡ command.Rows (rows_by.Query q) → is_built_rows text (rows_by.Query q) ≡ true → IsSmall (size_of_command (command.Rows (rows_by.Query q))) x b
+  query_is : (q : Tree) → s.command ≡ command.Rows (rows_by.Query q) → is_built_rows text (rows_by.Query q) ≡ true → IsSmall (size_of_command (command.Rows (rows_by.Query q))) x
   query_is q at built =
       let m = query_small (around catalog) text s q made_of at (built_query_plain text q built) is in
-      query-small (size_of_command (command.Rows (rows_by.Query q))) (tables_of catalog) q made_of.units m.0 x b (omega arith) m.2
-      (subst (λ k. command_of (tables_of catalog) number text s made_of.units k ≡ Ok x) m.1 runs) held
+      query-small (size_of_command (command.Rows (rows_by.Query q))) (tables_of catalog) q made_of.units m.0 x (omega arith) m.2
+      (subst (λ k. command_of (tables_of catalog) number text s made_of.units k ≡ Ok x) m.1 runs)
 
-  insert_is : (i : Insert) (from : InsertSource) → i.source ≡ from → s.command ≡ command.Rows (rows_by.Insert i) → is_built_rows text (rows_by.Insert i) ≡ true → IsSmall (size_of_command (command.Rows (rows_by.Insert i))) x b
+  insert_is : (i : Insert) (from : InsertSource) → i.source ≡ from → s.command ≡ command.Rows (rows_by.Insert i) → is_built_rows text (rows_by.Insert i) ≡ true → IsSmall (size_of_command (command.Rows (rows_by.Insert i))) x
   insert_is i (source.Query q) from at built =
       let values : is_built_values text (of_query q) ≡ true = subst (λ y. is_built_rows_source text y ≡ true) from (both_hold (is_abort i.choice) (is_built_rows_source text i.source) built).1 in
       let m = insert_small (around catalog) text s i q made_of at from none (built_values_plain text q values) is in
       let size : size_of_command (command.Rows (rows_by.Insert i)) ≡ 2 + size_of_query q = ap (λ y. 2 + size_of_source y) from in
-      put-small (size_of_command (command.Rows (rows_by.Insert i))) (tables_of catalog) made_of.units m.0 x b
+      put-small (size_of_command (command.Rows (rows_by.Insert i))) (tables_of catalog) made_of.units m.0 x
       (λ t p e. inserted-small (size_of_command (command.Rows (rows_by.Insert i))) t q made_of.units m.2.columns m.2.rowid m.2.source m.2.arguments p (omega (arith, size)) m.2.makes (subst (λ c. put_into t made_of.units c ≡ Ok p) m.2.change e))
-      (subst (λ k. command_of (tables_of catalog) number text s made_of.units k ≡ Ok x) m.1 runs) held
+      (subst (λ k. command_of (tables_of catalog) number text s made_of.units k ≡ Ok x) m.1 runs)
   insert_is i source.Defaults from at built =
       let c = command_was (command.Rows (rows_by.Insert i)) at in
       let m = defaults_placed outer i c.0 from c.1 in
-      put-small (size_of_command (command.Rows (rows_by.Insert i))) (tables_of catalog) made_of.units m.0 x b
+      put-small (size_of_command (command.Rows (rows_by.Insert i))) (tables_of catalog) made_of.units m.0 x
       (λ t p e. defaulted-small (size_of_command (command.Rows (rows_by.Insert i))) t made_of.units p (omega arith) (subst (λ d. put_into t made_of.units d ≡ Ok p) m.2 e))
-      (subst (λ k. command_of (tables_of catalog) number text s made_of.units k ≡ Ok x) (c.2 ∙ m.1) runs) held
+      (subst (λ k. command_of (tables_of catalog) number text s made_of.units k ≡ Ok x) (c.2 ∙ m.1) runs)
 
-  by_command : (k : Command) → s.command ≡ k → is_built_command text k ≡ true → IsSmall (size_of_command k) x b
+  by_command : (k : Command) → s.command ≡ k → is_built_command text k ≡ true → IsSmall (size_of_command k) x
   by_command (command.Rows (rows_by.Query q)) at built = query_is q at built
   by_command (command.Rows (rows_by.Insert i)) at built = insert_is i i.source refl at built
   by_command (command.Rows (rows_by.Update u)) at built = absurd (let bad : false ≡ true = built in cc)
@@ -250,7 +235,7 @@ module _ (catalog : Entries) (number : ℕ) (text : List ℕ) (s : Statement) (m
       let w = command_was (command.Pragma p) at in
       opening_is 1 (pragma_bound outer p) w.0 (omega arith) w.2 (λ k e. pragma-aside _ (codes "foreign_keys") (cause.Unknown name_kind.Pragma (name_at outer.text p.name)) k e) w.1
 
-  pub small : is_built text s ≡ true → IsSmall (size_of_statement s) x b
+  pub small : is_built text s ≡ true → IsSmall (size_of_statement s) x
   small built = by_command s.command refl (both_hold (not (is_some s.explain)) (is_built_command text s.command) built).1
 
 -- ---- what `bind` answers
@@ -264,19 +249,56 @@ if_refused t r f why built is = ap (λ u. if_built u (r >>= f)) built ∙ ap (λ
 if_came : {A B : Type 0} (t : Bool) (r : Result A Cause) (f : A → Result B Cause) (a : A) (b : Result B Cause) → t ≡ true → r ≡ Ok a → f a ≡ b → if_built t (r >>= f) ≡ b
 if_came t r f a b built is e = ap (λ u. if_built u (r >>= f)) built ∙ ap (λ x. x >>= f) is ∙ e
 
-module _ (catalog : Entries) (number : ℕ) (text : List ℕ) (s : Statement) where
-  pub not_built : is_built text s ≡ false → Binds catalog number text s (Err cause.NotYet)
-  unfolding Binds
-  not_built not_so = inr (if_none (is_built text s) (bound_of (around catalog) text s) (runnable_of (tables_of catalog) number text s) not_so)
+same-cause : {A : Type 0} (k l : Cause) (x : Result A Cause) → x ≡ Err k → x ≡ Err l → k ≡ l
+same-cause {A} k l x p q = let e : Err k ≡ Err l = sym p ∙ q in cc
 
-  pub refused : (why : Cause) → is_built text s ≡ true → (why ≡ cause.Mem) ⊎ (bound_of (around catalog) text s ≡ Err why) → Binds catalog number text s (Err why)
+if_names : {A B : Type 0} (t : Bool) (r : Result A Cause) (f : A → Result B Cause) (why : Cause) → if_built t r ≡ Err why → if_built t (r >>= f) ≡ Err why
+if_names true r f why is = ap (λ x. x >>= f) is
+if_names false r f why is = ap (λ k. Err k) (same-cause cause.NotYet why (if_built false r) refl is)
+
+module _ (asked : Asking) (catalog : Entries) (number : ℕ) (text : List ℕ) (s : Statement) where
+  abbrev meant : BoundStatement → Result Runnable Cause
+  meant b = permitted b (asked b) >>= runnable_of (tables_of catalog) number text s
+
+  pub not_built : is_built text s ≡ false → Binds asked catalog number text s (Err cause.NotYet)
+  unfolding Binds
+  not_built not_so = inr (if_none (is_built text s) (bound_of (around catalog) text s) meant not_so)
+
+  pub refused : (why : Cause) → is_built text s ≡ true → (why ≡ cause.Mem) ⊎ (bound_of (around catalog) text s ≡ Err why) → Binds asked catalog number text s (Err why)
   unfolding Binds
   refused why built (inl mem) = inl mem
-  refused why built (inr is) = inr (if_refused (is_built text s) (bound_of (around catalog) text s) (runnable_of (tables_of catalog) number text s) why built is)
+  refused why built (inr is) = inr (if_refused (is_built text s) (bound_of (around catalog) text s) meant why built is)
 
-  pub bound_so : (b : BoundStatement) (r : Result Bound Cause) → catalog.triggers ≡ [] → is_built text s ≡ true → bound_of (around catalog) text s ≡ Ok b → AnswersBy IsBound (runnable_of (tables_of catalog) number text s b) r → Binds catalog number text s r
+  -- memory may be wanting
+  pub no-memory : Binds asked catalog number text s (Err cause.Mem)
   unfolding Binds
-  bound_so b (Ok c) none built is (x, runs, held) =
-      (x, if_came (is_built text s) (bound_of (around catalog) text s) (runnable_of (tables_of catalog) number text s) b (Ok x) built is runs, held, small catalog number text s b x c none is runs held built)
-  bound_so b (Err why) none built is (inl mem) = inl mem
-  bound_so b (Err why) none built is (inr runs) = inr (if_came (is_built text s) (bound_of (around catalog) text s) (runnable_of (tables_of catalog) number text s) b (Err why) built is runs)
+  no-memory = inl refl
+
+  -- as `bind_names` refuses it
+  pub names-refused : (why : Cause) → IsRefusal (if_built (is_built text s) (bound_of (around catalog) text s)) why → Binds asked catalog number text s (Err why)
+  unfolding Binds
+  names-refused why (inl mem) = inl mem
+  names-refused why (inr is) = inr (if_names (is_built text s) (bound_of (around catalog) text s) meant why is)
+
+  pub denied : (b : BoundStatement) (why : Cause) → is_built text s ≡ true → bound_of (around catalog) text s ≡ Ok b → permitted b (asked b) ≡ Err why → Binds asked catalog number text s (Err why)
+  unfolding Binds
+  denied b why built is may_not =
+      inr (if_came (is_built text s) (bound_of (around catalog) text s) meant b (Err why) built is (ap (λ r. r >>= runnable_of (tables_of catalog) number text s) may_not))
+
+  may-small : (b : BoundStatement) (p : Permit) (allowed : BoundStatement) (x : Runnable) → catalog.triggers ≡ [] → is_built text s ≡ true → bound_of (around catalog) text s ≡ Ok b → permitted b p ≡ Ok allowed
+      → runnable_of (tables_of catalog) number text s allowed ≡ Ok x → IsSmall (size_of_statement s) x
+  may-small b (Denies action) allowed x none built is may runs = absurd (let bad : Err (cause.Denied action) ≡ Ok allowed = may in cc)
+  may-small b (Ignores []) allowed x none built is may runs =
+      small catalog number text s b x none is (subst (λ y. runnable_of (tables_of catalog) number text s y ≡ Ok x) (sym (same-ok b allowed may)) runs) built
+  may-small b (Ignores (a ∷ ignored)) allowed x none built is may runs =
+      marked-small (size_of_statement s) (tables_of catalog) number text s (a ∷ ignored) b x (λ y goes. small catalog number text s b y none is goes built)
+      (subst (λ y. runnable_of (tables_of catalog) number text s y ≡ Ok x) (sym (same-ok (ignoring (a ∷ ignored) b) allowed may)) runs)
+
+  pub bound_so : (b allowed : BoundStatement) (r : Result Bound Cause) → catalog.triggers ≡ [] → is_built text s ≡ true → bound_of (around catalog) text s ≡ Ok b → permitted b (asked b) ≡ Ok allowed
+      → AnswersBy IsBound (runnable_of (tables_of catalog) number text s allowed) r → Binds asked catalog number text s r
+  unfolding Binds
+  bound_so b allowed (Ok c) none built is may (x, runs, held) =
+      (x, if_came (is_built text s) (bound_of (around catalog) text s) meant b (Ok x) built is (ap (λ r. r >>= runnable_of (tables_of catalog) number text s) may ∙ runs), held, may-small b (asked b) allowed x none built is may runs)
+  bound_so b allowed (Err why) none built is may (inl mem) = inl mem
+  bound_so b allowed (Err why) none built is may (inr runs) =
+      inr (if_came (is_built text s) (bound_of (around catalog) text s) meant b (Err why) built is (ap (λ r. r >>= runnable_of (tables_of catalog) number text s) may ∙ runs))

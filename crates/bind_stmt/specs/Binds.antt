@@ -1,20 +1,20 @@
 -- How what was bound stands to what the definitions bind.
-use Rattle.std.specs.Prelude.{◌≡◌, ◌⊎◌, ⊤, ℕ, List, [], ◌∷◌, Option, Some, None, Result, Ok, Err}
+use Rattle.std.specs.Prelude.{◌≡◌, ◌⊎◌, ⊤, ℕ, List, [], ◌∷◌, Option, Some, None, Result, Ok, Err, map}
 use Rattle.std.specs.List.{flat_map}
 use Rattle.eng_value.specs.declared.cause.Cause.{Cause}
 use Rattle.eng_value.specs.declared.cause.Cause.TheVariants.{Mem}
 use Rattle.sql_tree.specs.Sizes.{size_of_statement}
 use Rattle.sql_tree.specs.declared.statement.Statement.{Statement}
-use Rattle.bound_tree.specs.Exprs.{BoundExpr}
 use Rattle.sql_meaning.specs.declared.bound.BoundInsert.{BoundInsert}
 use Rattle.sql_meaning.specs.declared.bound.BoundSelect.{BoundSelect}
 use Rattle.sql_meaning.specs.declared.bound.PutColumn.{PutColumn}
 use Rattle.sql_meaning.specs.declared.column.Column.{Column}
-use Rattle.sql_meaning.specs.declared.column.TableEntry.{TableEntry}
 use Rattle.sql_meaning.specs.Runnables.{Runnable, Creates, DoesNothing, Drops, FromItem, Put, Puts, Queries, Query, Shows}
 use Rattle.sql_meaning.specs.Declarations.{columns_created}
 use Rattle.eng_entry.specs.Entries.{Entries}
 use Rattle.bound_tree.specs.Conditions.{conditions_of}
+use Rattle.bound_ignored.specs.Erased.{Marks, erased}
+use Rattle.sql_meaning.specs.Permits.{Asking}
 use Rattle.sql_meaning.specs.Statement.{statement_bound}
 use Rattle.bind_stmt.specs.Small.{IsSmall}
 use Rattle.bind_stmt.specs.declared.statement.Bound.{Bound}
@@ -38,16 +38,21 @@ AnswersBy R meant (Err why) = IsRefusal meant why
 
 -- ---- what stands for what
 
--- no item, or one of which nothing is ignored, by the number of its table
+-- no item, or one by the number of its table
 abbrev pub IsFrom : List FromItem → Option ℕ → Type 0
 IsFrom [] None = ⊤
-IsFrom (i ∷ []) (Some number) = (number ≡ i.table.number) × (i.ignored ≡ [])
+IsFrom (i ∷ []) (Some number) = number ≡ i.table.number
 IsFrom _ _ = ⊥
 
+-- which columns of the items are ignored
+abbrev pub marks_in : List FromItem → Marks
+marks_in from = map (λ (i : FromItem). i.ignored) from
+
+-- NULL stands in place of what is ignored
 pub record IsQueryAs (q : Query) (b : BoundSelect) : Type 0 where
   pub from : IsFrom q.from b.table
-  pub conjuncts : flat_map conditions_of b.conjuncts ≡ q.conjuncts
-  pub results : b.results ≡ q.results
+  pub conjuncts : flat_map conditions_of b.conjuncts ≡ map (erased (marks_in q.from)) q.conjuncts
+  pub results : b.results ≡ map (erased (marks_in q.from)) q.results
 
 -- what each column takes, where its value stands in a row
 abbrev pub put_columns : List Column → List (Option ℕ) → List PutColumn
@@ -72,11 +77,11 @@ IsBound (Shows rows) (bound.Values b) = b ≡ rows
 IsBound DoesNothing bound.Nothing = ⊤
 IsBound _ _ = ⊥
 
--- the statement is bound, and what it is bound to is small beside its tree; or it is refused; and memory may be wanting
+-- the statement is bound, and what runs is small beside its tree; or it is refused; and memory may be wanting
 abbrev pub BindsTo : ℕ → Result Runnable Cause → Result Bound Cause → Type 0
-BindsTo size meant (Ok b) = (x : Runnable) × (meant ≡ Ok x) × IsBound x b × IsSmall size x b
+BindsTo size meant (Ok b) = (x : Runnable) × (meant ≡ Ok x) × IsBound x b × IsSmall size x
 BindsTo size meant (Err why) = IsRefusal meant why
 
--- over this catalog, where a new table gets this number
-unfoldable pub Binds : Entries → ℕ → List ℕ → Statement → Result Bound Cause → Type 0
-Binds catalog number text s r = BindsTo (size_of_statement s) (statement_bound catalog number text s) r
+-- over this catalog, where a new table gets this number, and this is said of what statements do
+unfoldable pub Binds : Asking → Entries → ℕ → List ℕ → Statement → Result Bound Cause → Type 0
+Binds asked catalog number text s r = BindsTo (size_of_statement s) (statement_bound asked catalog number text s) r

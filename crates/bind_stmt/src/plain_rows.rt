@@ -1,5 +1,5 @@
 // INSERTs of rows of values that name nothing into tables without constraints: what these run as is told at once.
-ghost use Rattle.std.specs.Prelude.{◌≡◌, ◌≤◌, ℕ, length, true, [], IfOk, IfSome};
+ghost use Rattle.std.specs.Prelude.{◌≡◌, ◌≤◌, ℕ, length, true, [], None, IfOk, IfSome};
 ghost use Rattle.std.specs.Option.{option_copied};
 ghost use Rattle.bind_stmt.specs.Binds.{Binds};
 ghost use Rattle.bind_stmt.specs.declared.statement.Bound.TheVariants as bound;
@@ -8,6 +8,7 @@ ghost use Rattle.bound_tree.specs.Exprs as e;
 ghost use Rattle.eng_value.specs.declared.limits.TheConstants.{MAX_COLUMNS};
 ghost use Rattle.sql_meaning.specs.Built.{is_built};
 ghost use Rattle.sql_meaning.specs.Declarations.{tables_of};
+ghost use Rattle.sql_meaning.specs.Permits.{asked_by};
 ghost use Rattle.sql_tree.specs.Layers.{of_part, of_query};
 ghost use Rattle.sql_tree.specs.declared.expr.Expr.TheVariants as x;
 ghost use Rattle.sql_tree.specs.declared.expr.UnaryOp.TheVariants as sign;
@@ -16,7 +17,7 @@ ghost use Rattle.sql_words.specs.Spelled.{literal_at};
 use crate::built::{is_built_table, stands_alone};
 use crate::tables::table_called;
 use bind_entry::{is_index_of, table_named, table_of};
-use bind_name::{is_least_magnitude, literal, name, slice_of};
+use bind_name::{is_least_magnitude, literal, plain_name, slice_of};
 use bound_tree::BoundExpr;
 use eng_catalog::Catalog;
 use eng_entry::{Entry, EntryKind, Space};
@@ -40,7 +41,7 @@ pub(crate) fn plain_rows(
     requires tables { tables.now ≡ tables_of catalog.now }
     requires untriggered { catalog.now.triggers ≡ [] }
     requires built { is_built text.now statement.now ≡ true }
-    ensures { (number : ℕ) → IfOk result (λ found. IfSome found (λ b. Binds catalog.now number text.now statement.now (Ok (bound.Insert b)))) }
+    ensures { (number : ℕ) → IfOk result (λ found. IfSome found (λ b. Binds (asked_by None) catalog.now number text.now statement.now (Ok (bound.Insert b)))) }
 {
     let Some(insert) = insert_of(statement) else {
         return Ok(None);
@@ -257,8 +258,10 @@ fn rows_put(
 ) -> Result<Option<BoundInsert>, AllocError>
     ensures { IfOk result (λ found. IfSome found (λ b. PutsPlain catalog.now tables.now text.now table.now rows.now b)) }
 {
-    let name = name(alloc, text, table)?;
-    let Some(table) = plain_table(catalog, tables, name.as_str()) else {
+    let Some(name) = plain_name(text, table) else {
+        return Ok(None);
+    };
+    let Some(table) = plain_table(catalog, tables, name) else {
         return Ok(None);
     };
     let Some(rows) = rows_bound(alloc, text, table.columns.len(), rows)? else {

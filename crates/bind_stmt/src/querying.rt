@@ -1,16 +1,19 @@
 // Queries that run.
-ghost use Rattle.std.specs.Prelude.{◌≡◌, ◌∷◌, [], slice_get};
+ghost use Rattle.std.specs.Prelude.{◌≡◌, ◌∷◌, [], map, slice_get, OnOk};
 ghost use Rattle.bind_stmt.specs.Binds.{Answers, AnswersBy, IsBound, IsFrom};
+ghost use Rattle.bind_stmt.specs.Ignored.{ignores, is_ignored};
 ghost use Rattle.bind_stmt.specs.declared.statement.Bound.TheVariants as bound;
+ghost use Rattle.bound_ignored.specs.Erased.{erased, marks_of};
 ghost use Rattle.sql_meaning.specs.Running.{first_part, from_of, is_plain_query, query_of, select_of};
 
 use crate::statement::Bound;
 use crate::tables::table_of_source;
+use bound_ignored::erased_all;
 use bound_tree::{BoundCore, BoundItem, BoundPart, BoundQuery, BoundUnit};
 use eng_value::Cause;
 use sql_meaning::{BoundSelect, TableEntry};
 use sqlite_items::Items;
-use std::alloc::Global;
+use std::alloc::{AllocError, Global};
 use std::mem;
 
 /// A query that was bound to the unit in this place.
@@ -68,6 +71,7 @@ fn select(alloc: Global, tables: &[TableEntry], core: &mut BoundCore) -> Result<
         return Err(Cause::NotYet);
     }
     let table = from_table(tables, core.items.as_slice())?;
+    erase(alloc, core)?;
     Ok(BoundSelect {
         table,
         conjuncts: mem::replace(&mut core.conjuncts, Items::new(alloc)),
@@ -86,13 +90,40 @@ fn from_table(tables: &[TableEntry], items: &[BoundItem]) -> Result<Option<u32>,
     }
 }
 
-/// The number of the table of the one item, of which no column is ignored.
 fn item_table(tables: &[TableEntry], item: &BoundItem) -> Result<Option<u32>, Cause>
     ensures { AnswersBy IsFrom (from_of tables.now (item.now ∷ [])) result }
 {
-    if !item.ignored.is_empty() {
-        return Err(Cause::NotYet);
-    }
     let table = table_of_source(tables, &item.source)?;
     Ok(Some(table.number))
+}
+
+// ---- columns that are ignored
+
+/// NULL comes in place of the columns that are ignored.
+fn erase(alloc: Global, core: &mut BoundCore) -> Result<(), AllocError>
+    ensures conjuncts { OnOk result (core.new.conjuncts ≡ map (erased (marks_of core.old.items)) core.old.conjuncts) }
+    ensures results { OnOk result (core.new.results ≡ map (erased (marks_of core.old.items)) core.old.results) }
+{
+    if !ignores(core.items.as_slice()) {
+        return Ok(());
+    }
+    let conjuncts = erased_all(alloc, core.items.as_slice(), core.conjuncts.as_slice())?;
+    let results = erased_all(alloc, core.items.as_slice(), core.results.as_slice())?;
+    core.conjuncts = conjuncts;
+    core.results = results;
+    Ok(())
+}
+
+/// Whether a column of the items is ignored.
+fn ignores(items: &[BoundItem]) -> bool
+    ensures { result ≡ ignores items.now }
+{
+    items.iter().any(|item| is_ignored(item))
+}
+
+/// Whether a column of the item is ignored.
+fn is_ignored(item: &BoundItem) -> bool
+    ensures { result ≡ is_ignored item.now }
+{
+    !item.ignored.is_empty()
 }

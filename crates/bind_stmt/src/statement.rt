@@ -1,11 +1,15 @@
 // Any statement.
-ghost use Rattle.std.specs.Prelude.{◌≡◌, ℕ, []};
+ghost use Rattle.std.specs.Prelude.{◌≡◌, ℕ, [], None};
 ghost use Rattle.bind_stmt.specs.Binds.{AnswersBy, Binds, IsBound};
 ghost use Rattle.bound_tree.specs.declared.statements.ThingKind.TheVariants as thing;
+ghost use Rattle.sql_bound.specs.Answers.{Answers};
 ghost use Rattle.sql_bound.specs.HostFacts.{facts_of};
+ghost use Rattle.sql_bound.specs.Statements.{bound_of};
+ghost use Rattle.sql_meaning.specs.Built.{is_built};
 ghost use Rattle.sql_meaning.specs.Declarations.{tables_of};
-ghost use Rattle.sql_meaning.specs.Running.{removal_of, runnable_of};
-ghost use Rattle.sql_meaning.specs.Statement.{nobody_tells};
+ghost use Rattle.sql_meaning.specs.Permits.{asked_by};
+ghost use Rattle.sql_meaning.specs.Running.{if_built, removal_of, runnable_of};
+ghost use Rattle.sql_meaning.specs.Statement.{around, nobody_tells};
 
 use crate::built::is_built;
 use crate::creating::{NewTable, created};
@@ -43,9 +47,9 @@ pub enum Bound {
     Nothing,
 }
 
-/// Binds the names of a statement in a text (SQL As Understood By SQLite), or says why it is refused: of several causes that which
-/// comes first in the order of work. The statement's tokens are places in the text, and a table is told by its number. Bound
-/// expressions are at most a few times as large as those of the tree, beside the columns that a `*` shows.
+/// What runs of a statement in a text where nobody is asked whether it may (SQL As Understood By SQLite), or why it is refused: of several
+/// causes that which comes first in the order of work. The statement's tokens are places in the text, and a table is told by its number.
+/// Bound expressions are at most a few times as large as those of the tree, beside the columns that a `*` shows.
 ///
 /// Errors: `NotYet` where a part of the statement is not built; those of binding; and `Mem` where memory is wanting, whatever else
 /// there is.
@@ -58,7 +62,7 @@ pub fn bind(
 ) -> Result<Bound, Cause>
     requires tables { tables.now ≡ tables_of catalog.now }
     requires untriggered { catalog.now.triggers ≡ [] }
-    ensures { (number : ℕ) → Binds catalog.now number text.now statement.now result }
+    ensures { (number : ℕ) → Binds (asked_by None) catalog.now number text.now statement.now result }
 {
     if !is_built(text, statement) {
         return Err(Cause::NotYet);
@@ -66,9 +70,37 @@ pub fn bind(
     if let Some(insert) = plain_rows(alloc, catalog, tables, text, statement)? {
         return Ok(Bound::Insert(insert));
     }
-    let facts = nobody_tells(alloc);
-    let bound = binder::bind(alloc, text, catalog, &facts, statement)?;
+    let bound = named(alloc, catalog, text, statement)?;
     runnable(alloc, tables, text, statement, bound)
+}
+
+/// The statement of a text with its names bound, where all of it is built: what it may do can be asked about before it runs.
+///
+/// Errors: as those of `bind`.
+pub fn bind_names(
+    alloc: Global,
+    catalog: &Catalog,
+    body: &str,
+    statement: &Statement,
+) -> Result<BoundStatement, Cause>
+    ensures { Answers (if_built (is_built body.now statement.now) (bound_of (around catalog.now) body.now statement.now)) result }
+{
+    if !is_built(body, statement) {
+        return Err(Cause::NotYet);
+    }
+    named(alloc, catalog, body, statement)
+}
+
+fn named(
+    alloc: Global,
+    catalog: &Catalog,
+    text: &str,
+    statement: &Statement,
+) -> Result<BoundStatement, Cause>
+    ensures { Answers (bound_of (around catalog.now) text.now statement.now) result }
+{
+    let facts = nobody_tells(alloc);
+    binder::bind(alloc, text, catalog, &facts, statement)
 }
 
 /// There are no hosts.
@@ -87,8 +119,8 @@ fn nobody_tells(alloc: Global) -> HostFacts
     }
 }
 
-/// What runs of a statement whose names are bound.
-fn runnable(
+/// What runs of a statement whose names are bound. Columns that are ignored read NULL.
+pub fn runnable(
     alloc: Global,
     tables: &[TableEntry],
     text: &str,

@@ -1,5 +1,5 @@
 -- What statements that are ready to run come to is what the definitions say of what was bound.
-use Rattle.std.proofs.Common.{◌≡◌, ◌⊎◌, inl, inr, ◌||◌, ℕ, ◌<◌, true, List, [], ◌∷◌, ◌++◌, ℤ, length, map, option_map, Option, Some, None, Result, Ok, Err, refl, ap, ◌∙◌}
+use Rattle.std.proofs.Common.{◌≡◌, ◌⊎◌, inl, inr, ◌||◌, ℕ, ◌<◌, true, List, [], ◌∷◌, ◌++◌, ℤ, length, map, option_map, Option, Some, None, Result, Ok, Err, refl, sym, ap, ◌∙◌}
 use Rattle.std.specs.List.{flat_map}
 use Rattle.std.specs.FinSet as set
 use Rattle.std.specs.Cmp.Lexicographic.{nat_list_cmp_total}
@@ -20,7 +20,9 @@ use Rattle.sql_meaning.specs.Runnables.{FromItem, Put, Query}
 use Rattle.sql_meaning.specs.Statement.{Item, Row, Failed as Bad, IsNamed, causes_of, with_others, drop_outcome, Outcome, query_outcome, items_of, items_at, product, put_outcome, put_source, all_put, source_of as source_meant, shown, refusal_of, given_of, rows_put}
 use Rattle.sql_meaning.specs.World.{Context, State, context, environment_at, rows_at}
 use Rattle.vm_code.specs.Machine.{ending_by, World as Lists, IsSound, Shared}
-use Rattle.bind_stmt.specs.Binds.{IsFrom, IsQueryAs, IsPutAs}
+use Rattle.bind_stmt.specs.Binds.{IsFrom, IsQueryAs, IsPutAs, marks_in}
+use Rattle.bound_ignored.specs.Erased.{erased}
+use Rattle.sql_meaning.proofs.ErasedValues.{items_at-erased, items_at-erased_one}
 use Rattle.bind_stmt.specs.declared.statement.DroppedTable.{DroppedTable}
 use Rattle.eng_entry.specs.Entries.{Entries}
 use Rattle.engine.specs.Held.{state_of}
@@ -48,10 +50,13 @@ bad_sides (Bad causes ∷ items) =
 
 -- ---- the product of one item, and the lists of tables
 
--- a row of a single item is an environment's only row
-one_item : (f : List ItemRow → List Item) (rows : List StoredRow) → flat_map f (flat_map (λ r. (r ∷ []) ∷ []) (map (λ r. ignoring [] (table_row r)) rows)) ≡ flat_map f (map (λ r. table_row r ∷ []) rows)
-one_item f [] = refl
-one_item f (r ∷ rows) = ap (λ items. f (table_row r ∷ []) ++ items) (one_item f rows)
+-- a row of a single item is an environment's only row; where columns of it are ignored, it is as if they read NULL
+one_item : (f g : List ItemRow → List Item) (places : List (Option ℕ)) → ((row : ItemRow) → f (ignoring places row ∷ []) ≡ g (row ∷ [])) → (rows : List StoredRow)
+    → flat_map f (flat_map (λ r. (r ∷ []) ∷ []) (map (λ r. ignoring places (table_row r)) rows)) ≡ flat_map g (map (λ r. table_row r ∷ []) rows)
+one_item f g places same [] = refl
+one_item f g places same (r ∷ rows) =
+    ap (λ items. items ++ flat_map f (flat_map (λ r. (r ∷ []) ∷ []) (map (λ r. ignoring places (table_row r)) rows))) (same (table_row r))
+    ∙ ap (λ items. g (table_row r ∷ []) ++ items) (one_item f g places same rows)
 
 -- the run of a query ends as the query is refused
 pub query_ended : (state : State) (items : List Item) → ending_by (refusal_of items) ≡ ended_by (query_outcome state items).refusal
@@ -73,11 +78,15 @@ module _ (hosts : HostMeanings) (entries : Entries) (lists : Lists) (changes : �
 
   -- ---- SELECT
 
-  -- the items of a FROM are those of the rows of its table
+  -- the items of a FROM are those of the rows of its table, with NULL in place of what is ignored
   from_same : (conjuncts results : List BoundExpr) (from : List FromItem) (number : Option ℕ) → IsFrom from number
-      → flat_map (λ rows. items_at conjuncts results (environment_at ctx rows)) (product ctx from []) ≡ flat_map (λ rows. items_at conjuncts results (environment around [] [] rows)) (rows_in number lists)
-  from_same conjuncts results [] None at = refl
-  from_same conjuncts results (i ∷ []) (Some number) at = rw (at.1, at.0) (one_item (λ rows. items_at conjuncts results (environment_at ctx rows)) (rows_at lists i.table.number))
+      → flat_map (λ rows. items_at conjuncts results (environment_at ctx rows)) (product ctx from [])
+      ≡ flat_map (λ rows. items_at (map (erased (marks_in from)) conjuncts) (map (erased (marks_in from)) results) (environment around [] [] rows)) (rows_in number lists)
+  from_same conjuncts results [] None at = ap (λ items. items ++ []) (sym (items_at-erased [] (environment around [] [] []) [] (λ item. refl) conjuncts results refl))
+  from_same conjuncts results (i ∷ []) (Some number) at =
+      rw at (one_item (λ rows. items_at conjuncts results (environment_at ctx rows))
+      (λ rows. items_at (map (erased (i.ignored ∷ [])) conjuncts) (map (erased (i.ignored ∷ [])) results) (environment around [] [] rows)) i.ignored
+      (λ row. sym (items_at-erased_one i.ignored row (environment around [] [] []) conjuncts results)) (rows_at lists i.table.number))
   from_same conjuncts results [] (Some number) at = absurd at
   from_same conjuncts results (i ∷ []) None at = absurd at
   from_same conjuncts results (i ∷ j ∷ from) None at = absurd at

@@ -1,11 +1,13 @@
 -- The programs of statements run within the bound that size and work give.
-use Rattle.std.proofs.Common.{◌≡◌, ℕ, ◌+◌, ◌*◌, ◌-◌, ◌≤◌, List, [], ◌∷◌, ℤ, length, flat_map, sum_by, Option, Some, None, Ok, refl, ap, subst, arith}
+use Rattle.std.proofs.Common.{◌≡◌, ℕ, ◌+◌, ◌*◌, ◌-◌, ◌≤◌, List, [], ◌∷◌, ℤ, length, flat_map, map, sum_by, Option, Some, None, Ok, refl, sym, ap, subst, ◌∙◌, arith}
 use Rattle.std.proofs.Math.Nat.{mul-le-mul_left}
 use Rattle.std.proofs.lemmas.List.{length-map}
 use Rattle.std.proofs.lemmas.List.Concat.{flat_map-cons}
 use Rattle.std.proofs.lemmas.List.Sums.{sum_by-cons}
-use Rattle.bind_stmt.specs.Binds.{IsBound, IsFrom, IsPutAs, put_columns}
+use Rattle.bind_stmt.proofs.ErasedSizes.{all_nodes-erased}
+use Rattle.bind_stmt.specs.Binds.{IsBound, IsFrom, IsPutAs, marks_in, put_columns}
 use Rattle.bind_stmt.specs.Small.{AreFew, IsSmall, IsSmallQuery, columns_in, from_size as table_tokens}
+use Rattle.bound_ignored.specs.Erased.{Marks, erased}
 use Rattle.bound_size.proofs.NodeLaws.{all_nodes-append}
 use Rattle.bound_size.specs.Counts.{rows_size}
 use Rattle.bound_size.specs.Sizes.{all_nodes, nodes_of}
@@ -30,8 +32,9 @@ use Rattle.sql_meaning.proofs.ValidLaws.{FitsIn, text-fits}
 use Rattle.sql_meaning.specs.Declarations.{tables_of}
 use Rattle.sql_meaning.specs.Valid.{IsWorld}
 use Rattle.sql_meaning.specs.Runnables.{Runnable, Creates, DoesNothing, Drops, FromItem, Put, Puts, Queries, Query, Shows}
+use Rattle.sql_meaning.specs.Permits.{Asking}
 use Rattle.sql_meaning.specs.Statement.{causes_of, given_of, source_of, text_bound}
-use Rattle.sql_meaning.specs.Work.{bound_within, from_size, from_work, instruction_bound, opened_size, repeated_size, source_work, work_of}
+use Rattle.sql_meaning.specs.Work.{bound_where, bound_within, from_size, from_work, opened_size, repeated_size, source_work, work_of}
 use Rattle.sql_meaning.specs.World.{Context, context, rows_at}
 use Rattle.vm_code.specs.Machine.{World as Lists}
 use Rattle.engine.specs.Held.{state_of, world_in}
@@ -89,7 +92,7 @@ placed_few [] places = omega arith
 placed_few (c ∷ columns) [] = omega arith
 placed_few (c ∷ columns) (p ∷ places) = omega (arith, placed_few columns places)
 
-module _ (hosts : HostMeanings) (entries : Entries) (lists : Lists) (changes : ℕ) (last : ℤ) (params : List Value) (text : List ℕ) (valid : IsWorld (world_in entries lists)) where
+module _ (asked : Asking) (hosts : HostMeanings) (entries : Entries) (lists : Lists) (changes : ℕ) (last : ℤ) (params : List Value) (text : List ℕ) (valid : IsWorld (world_in entries lists)) where
   abbrev ctx : Context
   ctx = context hosts (state_of entries lists changes last) params
 
@@ -105,46 +108,49 @@ module _ (hosts : HostMeanings) (entries : Entries) (lists : Lists) (changes : �
   rows_same : (i : FromItem) (number : ℕ) → IsFrom (i ∷ []) (Some number) → from_work ctx (i ∷ []) ≡ 1 + rows_seen (Some number) lists
   rows_same i number at =
       let many = length-map (rows_at lists i.table.number) (λ (r : StoredRow). ignoring i.ignored (table_row r)) in
-      let rows = ap (λ k. length (rows_at lists k)) at.0 in
+      let rows = ap (λ k. length (rows_at lists k)) at in
       omega (arith, many, rows)
 
-  query_few : (q : Query) (b : BoundSelect) (from : List FromItem) (number : Option ℕ) → q.from ≡ from → b.table ≡ number → flat_map conditions_of b.conjuncts ≡ q.conjuncts → IsFrom from number → IsSmallQuery tokens q b
+  query_few : (q : Query) (b : BoundSelect) (from : List FromItem) (number : Option ℕ) → q.from ≡ from → b.table ≡ number → (m : Marks) → flat_map conditions_of b.conjuncts ≡ map (erased m) q.conjuncts → b.results ≡ map (erased m) q.results → IsFrom from number → IsSmallQuery tokens q
       → query_steps b around ≤ 256 * (tokens + from_size from + repeated_size tokens (Queries q)) * (from_work ctx from + 1)
-  query_few q b [] None none bare tests at small =
+  query_few q b [] None none bare m tests shows at small =
       let more = repeated_size tokens (Queries q) in
-      let split : all_nodes (flat_map conditions_of b.conjuncts) ≡ all_nodes q.conjuncts = ap all_nodes tests in
+      let split : all_nodes (flat_map conditions_of b.conjuncts) ≡ all_nodes q.conjuncts = ap all_nodes tests ∙ all_nodes-erased m q.conjuncts in
+      let results : all_nodes b.results ≤ 2 * small.shown + small.stars = subst (λ n. n ≤ 2 * small.shown + small.stars) (sym (ap all_nodes shows ∙ all_nodes-erased m q.results)) small.results in
       let conjuncts : all_nodes b.conjuncts ≤ 16 * tokens + more = omega (arith, unsplit_few b.conjuncts, split, within_beyond (all_nodes q.conjuncts) (16 * tokens)) in
       let stars : small.stars ≤ 0 = subst (λ items. small.stars ≤ 100 * columns_in items) none small.of_table in
       let within : 1 + small.shown + 0 + small.filter ≤ tokens = subst (λ items. 1 + small.shown + table_tokens items + small.filter ≤ tokens) none small.within in
       let rows : rows_seen b.table lists ≡ 0 = ap (λ t. rows_seen t lists) bare in
       let few : query_steps b around ≤ 16 + (1 + 0) * (6 * (all_nodes b.conjuncts + all_nodes b.results) + 6) = subst (λ r. query_steps b around ≤ 16 + (1 + r) * (6 * (all_nodes b.conjuncts + all_nodes b.results) + 6)) rows (steps-few b around) in
-      within_size (query_steps b around) tokens (from_size []) more (from_work ctx []) (omega (arith, few, stars, within, conjuncts, small.results))
-  query_few q b (i ∷ []) (Some number) one some tests at small =
+      within_size (query_steps b around) tokens (from_size []) more (from_work ctx []) (omega (arith, few, stars, within, conjuncts, results))
+  query_few q b (i ∷ []) (Some number) one some m tests shows at small =
       let more = repeated_size tokens (Queries q) in
-      let split : all_nodes (flat_map conditions_of b.conjuncts) ≡ all_nodes q.conjuncts = ap all_nodes tests in
+      let split : all_nodes (flat_map conditions_of b.conjuncts) ≡ all_nodes q.conjuncts = ap all_nodes tests ∙ all_nodes-erased m q.conjuncts in
+      let results : all_nodes b.results ≤ 2 * small.shown + small.stars = subst (λ n. n ≤ 2 * small.shown + small.stars) (sym (ap all_nodes shows ∙ all_nodes-erased m q.results)) small.results in
       let conjuncts : all_nodes b.conjuncts ≤ 16 * tokens + more = omega (arith, unsplit_few b.conjuncts, split, within_beyond (all_nodes q.conjuncts) (16 * tokens)) in
       let each = 6 * (all_nodes b.conjuncts + all_nodes b.results) + 6 in
       let narrow : small.stars ≤ 100 * i.width = omega (arith, subst (λ items. small.stars ≤ 100 * columns_in items) one small.of_table) in
       let within : 1 + small.shown + 2 + small.filter ≤ tokens = subst (λ items. 1 + small.shown + table_tokens items + small.filter ≤ tokens) one small.within in
       let few : query_steps b around ≤ 16 + (1 + rows_seen (Some number) lists) * each = subst (λ t. query_steps b around ≤ 16 + (1 + rows_seen t lists) * each) some (steps-few b around) in
-      let enough = within_rows each tokens (from_size (i ∷ [])) more (rows_seen (Some number) lists) (from_work ctx (i ∷ [])) (rows_same i number at) (omega (arith, within, small.hundred, narrow, conjuncts, small.results)) in
+      let enough = within_rows each tokens (from_size (i ∷ [])) more (rows_seen (Some number) lists) (from_work ctx (i ∷ [])) (rows_same i number at) (omega (arith, within, small.hundred, narrow, conjuncts, results)) in
       omega (arith, few, enough)
-  query_few q b [] (Some number) none some tests at small = absurd at
-  query_few q b (i ∷ []) None one none tests at small = absurd at
-  query_few q b (i ∷ j ∷ from) None many none tests at small = absurd at
-  query_few q b (i ∷ j ∷ from) (Some number) many some tests at small = absurd at
+  query_few q b [] (Some number) none some m tests shows at small = absurd at
+  query_few q b (i ∷ []) None one none m tests shows at small = absurd at
+  query_few q b (i ∷ j ∷ from) None many none m tests shows at small = absurd at
+  query_few q b (i ∷ j ∷ from) (Some number) many some m tests shows at small = absurd at
 
   -- ---- an INSERT
 
-  put_few : (p : Put) (b : BoundInsert) → IsPutAs p b → IsNarrow p.table → AreFew tokens b.rows → put_steps b around ≤ 512 * tokens
-  put_few p b at narrow small =
+  put_few : (p : Put) (b : BoundInsert) → IsPutAs p b → IsNarrow p.table → AreFew tokens p.rows → put_steps b around ≤ 512 * tokens
+  put_few p b at narrow few =
+      let small : AreFew tokens b.rows = subst (AreFew tokens) (sym at.rows) few in
       let wide : length b.columns ≤ 100 = omega (arith, ap (λ columns. length columns) at.columns, placed_few p.table.columns p.places, narrow) in
       let each : length b.rows * (3 * length b.columns + 8) ≤ length b.rows * 308 = mul-le-mul_left (length b.rows) (omega (arith, wide)) in
       omega (arith, puts_few b around, each, rows_nodes b.rows, small.nodes, small.count)
 
   -- ---- any statement
 
-  few_for : (x : Runnable) (r : Ready) → 1 ≤ tokens → FitsIn (tables_of entries) (length lists) x → IsBound x (bound_in r) → IsSmall tokens x (bound_in r) → steps_in around r ≤ 256 * (tokens + opened_size x + repeated_size tokens x) * (work_of ctx x + 1)
+  few_for : (x : Runnable) (r : Ready) → 1 ≤ tokens → FitsIn (tables_of entries) (length lists) x → IsBound x (bound_in r) → IsSmall tokens x → steps_in around r ≤ 256 * (tokens + opened_size x + repeated_size tokens x) * (work_of ctx x + 1)
   few_for (Creates e) (ready.Create n) some fits at small = within_size 2 tokens 0 0 0 (omega (arith, small))
   few_for (Creates e) (ready.Drop d) some fits at small = absurd at
   few_for (Creates e) (ready.Insert b) some fits at small = absurd at
@@ -168,14 +174,16 @@ module _ (hosts : HostMeanings) (entries : Entries) (lists : Lists) (changes : �
   few_for (Queries q) (ready.Create n) some fits at small = absurd at
   few_for (Queries q) (ready.Drop d) some fits at small = absurd at
   few_for (Queries q) (ready.Insert b) some fits at small = absurd at
-  few_for (Queries q) (ready.Select b) some fits at small = query_few q b q.from b.table refl refl at.conjuncts at.from small
+  few_for (Queries q) (ready.Select b) some fits at small = query_few q b q.from b.table refl refl (marks_in q.from) at.conjuncts at.results at.from small
   few_for (Queries q) (ready.Values b) some fits at small = absurd at
   few_for (Queries q) ready.Nothing some fits at small = absurd at
   few_for (Shows rows) (ready.Create n) some fits at small = absurd at
   few_for (Shows rows) (ready.Drop d) some fits at small = absurd at
   few_for (Shows rows) (ready.Insert b) some fits at small = absurd at
   few_for (Shows rows) (ready.Select b) some fits at small = absurd at
-  few_for (Shows rows) (ready.Values b) some fits at small = within_size (values_steps b around) tokens 0 0 1 (omega (arith, values-few b around, rows_nodes b, small, some))
+  few_for (Shows rows) (ready.Values b) some fits at small =
+      let few : rows_size b ≤ 2 * tokens = subst (λ r. rows_size r ≤ 2 * tokens) (sym at) small in
+      within_size (values_steps b around) tokens 0 0 1 (omega (arith, values-few b around, rows_nodes b, few, some))
   few_for (Shows rows) ready.Nothing some fits at small = absurd at
   few_for DoesNothing (ready.Create n) some fits at small = absurd at
   few_for DoesNothing (ready.Drop d) some fits at small = absurd at
@@ -185,5 +193,5 @@ module _ (hosts : HostMeanings) (entries : Entries) (lists : Lists) (changes : �
   few_for DoesNothing ready.Nothing some fits at small = within_size 1 tokens 0 0 0 (omega (arith, small))
 
   -- what is ready runs within what its text may run
-  pub runs_within : (x : Runnable) (r : Ready) → text_bound (world_in entries lists) text ≡ Ok x → IsBound x (bound_in r) → IsSmall tokens x (bound_in r) → steps_in around r ≤ instruction_bound ctx text
-  runs_within x r is at small = rw (ap (bound_within ctx tokens) is) (few_for x r (has_tokens (world_in entries lists) text x is) (text-fits (world_in entries lists) text x is) at small)
+  pub runs_within : (x : Runnable) (r : Ready) → text_bound asked (world_in entries lists) text ≡ Ok x → IsBound x (bound_in r) → IsSmall tokens x → steps_in around r ≤ bound_where asked ctx text
+  runs_within x r is at small = rw (ap (bound_within ctx tokens) is) (few_for x r (has_tokens asked (world_in entries lists) text x is) (text-fits asked (world_in entries lists) text x is) at small)

@@ -34,6 +34,8 @@ use Rattle.sql_meaning.specs.Built.{is_built}
 use Rattle.sql_meaning.specs.Declarations.{columns_created, table_called, table_with, tables_of}
 use Rattle.sql_meaning.specs.Runnables.{Creates, DoesNothing, Drops, FromItem, Put, Puts, Queries, Runnable, Shows}
 use Rattle.sql_meaning.specs.Running.{command_of, creation_of, entry_with, first_part, found_table, from_of, is_plain_core, part_of, put_into, put_of, query_of, removal_of, runnable_of, table_of_source}
+use Rattle.bound_tree.specs.declared.statements.BoundStatement.{BoundStatement}
+use Rattle.sql_meaning.specs.Permits.{Asking, permitted}
 use Rattle.sql_meaning.specs.Statement.{around, statement_bound}
 
 not_nothing : (e : Entry) → let r : Result Runnable Cause = Ok DoesNothing in r ≡ Ok (Creates e) → ⊥
@@ -95,26 +97,28 @@ command-entry tables number text s units (made.Transacted t) e h = absurd (not_r
 command-entry tables number text s units (made.Pragma name) e h = absurd (not_nothing e h)
 command-entry tables number text s units (made.Nothing kind name owner) e h = absurd (not_nothing e h)
 
-statement-entry : (catalog : Entries) (number : ℕ) (text : List ℕ) (s : Statement) (e : Entry) → statement_bound catalog number text s ≡ Ok (Creates e) → IsEntryFor number text s e
-statement-entry catalog number text s e h =
-    let built = if_built-ok (is_built text s) (bound_of (around catalog) text s >>= runnable_of (tables_of catalog) number text s) (Creates e) h in
-    let one = then-ok (bound_of (around catalog) text s) (runnable_of (tables_of catalog) number text s) (Creates e) built.1 in
-    command-entry (tables_of catalog) number text s one.0.units one.0.command e one.2
+statement-entry : (asked : Asking) (catalog : Entries) (number : ℕ) (text : List ℕ) (s : Statement) (e : Entry) → statement_bound asked catalog number text s ≡ Ok (Creates e) → IsEntryFor number text s e
+statement-entry asked catalog number text s e h =
+    let run : BoundStatement → Result Runnable Cause = runnable_of (tables_of catalog) number text s in
+    let built = if_built-ok (is_built text s) (bound_of (around catalog) text s >>= λ b. permitted b (asked b) >>= run) (Creates e) h in
+    let one = then-ok (bound_of (around catalog) text s) (λ b. permitted b (asked b) >>= run) (Creates e) built.1 in
+    let may = then-ok (permitted one.0 (asked one.0)) run (Creates e) one.2 in
+    command-entry (tables_of catalog) number text s may.0.units may.0.command e may.2
 
 -- ---- what is ready
 
-module _ (size : ℕ) (catalog : Entries) (number : ℕ) (text : List ℕ) (s : Statement) where
+module _ (size : ℕ) (asked : Asking) (catalog : Entries) (number : ℕ) (text : List ℕ) (s : Statement) where
   abbrev meant : Result Runnable Cause
-  meant = statement_bound catalog number text s
+  meant = statement_bound asked catalog number text s
 
   -- the table with its entry
   pub create-readies : (new : NewTable) (n : NewEntry) → BindsTo size meant (Ok (bound.CreateTable new)) → n.entry ≡ entry_with number text new.name s
       → n.table ≡ record { name = new.name; columns = new.columns; number = number; tokens = length (tokens_of text) } → Readies size meant (Ok (ready.Create n))
   create-readies new n binds entry table = by binds.0 binds.1 binds.2 binds.3
     where
-      by : (x : Runnable) → meant ≡ Ok x → IsBound x (bound.CreateTable new) → IsSmall size x (bound.CreateTable new) → Readies size meant (Ok (ready.Create n))
+      by : (x : Runnable) → meant ≡ Ok x → IsBound x (bound.CreateTable new) → IsSmall size x → Readies size meant (Ok (ready.Create n))
       by (Creates e) is at small =
-          let own = statement-entry catalog number text s e is in
+          let own = statement-entry asked catalog number text s e is in
           let same : n.entry ≡ e = entry ∙ ap (λ name. entry_with number text name s) at.0 ∙ sym own in
           let declared : table_with e new.columns ≡ n.table = ap (λ (x : Entry). table_with x new.columns) own ∙ ap (λ name. table_with (entry_with number text name s) new.columns) (sym at.0) ∙ sym table in
           let named : n.table.name ≡ e.name = ap (λ (t : TableEntry). t.name) table ∙ at.0 in

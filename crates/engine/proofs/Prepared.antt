@@ -1,7 +1,6 @@
 -- A text is prepared as the definitions say: what its tokens' answer tells, and how its statement was bound.
 use Rattle.std.proofs.Common.{◌≡◌, ◌≤◌, inl, inr, ℕ, ◌+◌, arith, List, length, drop, Result, Ok, Err, refl, sym, ap, ◌∙◌, subst}
 use Rattle.bind_stmt.specs.declared.statement.Bound.{Bound}
-use Rattle.bind_stmt.specs.declared.statement.Bound.TheVariants as bound
 use Rattle.bind_stmt.specs.Binds.{Binds, BindsTo, IsRefusal}
 use Rattle.bind_stmt.specs.Small.{IsSmall}
 use Rattle.eng_entry.specs.Entries.{Entries}
@@ -18,6 +17,7 @@ use Rattle.sql_lex.specs.Cutting.{start_of}
 use Rattle.sql_lex.specs.Tokens.{tokens_of}
 use Rattle.sql_meaning.specs.Runnables.{Runnable, Creates, DoesNothing, Drops, Puts, Queries, Shows as ShowsRows}
 use Rattle.sql_words.specs.Bodies.{answer_of, body_of}
+use Rattle.sql_meaning.specs.Permits.{Asking}
 use Rattle.sql_meaning.specs.Statement.{answer_bound, limit_kind, statement_bound, text_bound, text_bound_from}
 use Rattle.sql_meaning.specs.World.{World}
 use Rattle.sql_tree.specs.declared.statement.Statement.{Statement}
@@ -25,33 +25,15 @@ use Rattle.sql_tree.specs.Sizes.{size_of_statement}
 use Rattle.vm_code.specs.Machine.{World as Lists}
 use Rattle.engine.specs.declared.preparing.Ready.{Ready}
 use Rattle.engine.specs.Held.{world_in}
-use Rattle.engine.specs.Prepared.{Readies, bound_in, cause_of}
+use Rattle.engine.specs.Prepared.{Readies, cause_of}
 use Rattle.engine.proofs.Bodies.{tokens_kept}
 
 -- what is small beside a tree is small beside one that is no smaller
-small_more : (size more : ℕ) (x : Runnable) (b : Bound) → size ≤ more → IsSmall size x b → IsSmall more x b
-small_more size more (Creates e) (bound.CreateTable t) le small = omega (arith, small)
-small_more size more (Creates e) (bound.DropTable d) le small = omega (arith, small)
-small_more size more (Creates e) (bound.Insert b) le small = record { nodes = omega (arith, small.nodes); count = omega (arith, small.count) }
-small_more size more (Creates e) (bound.Select q') le small = omega (arith, small)
-small_more size more (Creates e) (bound.Values vs) le small = omega (arith, small)
-small_more size more (Creates e) bound.Nothing le small = omega (arith, small)
-small_more size more (Drops t) (bound.CreateTable n) le small = omega (arith, small)
-small_more size more (Drops t) (bound.DropTable d) le small = omega (arith, small)
-small_more size more (Drops t) (bound.Insert b) le small = record { nodes = omega (arith, small.nodes); count = omega (arith, small.count) }
-small_more size more (Drops t) (bound.Select q') le small = omega (arith, small)
-small_more size more (Drops t) (bound.Values vs) le small = omega (arith, small)
-small_more size more (Drops t) bound.Nothing le small = omega (arith, small)
-small_more size more (Puts p) (bound.CreateTable t) le small = omega (arith, small)
-small_more size more (Puts p) (bound.DropTable d) le small = omega (arith, small)
-small_more size more (Puts p) (bound.Insert b) le small = record { nodes = omega (arith, small.nodes); count = omega (arith, small.count) }
-small_more size more (Puts p) (bound.Select q') le small = omega (arith, small)
-small_more size more (Puts p) (bound.Values vs) le small = omega (arith, small)
-small_more size more (Puts p) bound.Nothing le small = omega (arith, small)
-small_more size more (Queries q) (bound.CreateTable t) le small = omega (arith, small)
-small_more size more (Queries q) (bound.DropTable d) le small = omega (arith, small)
-small_more size more (Queries q) (bound.Insert b) le small = record { nodes = omega (arith, small.nodes); count = omega (arith, small.count) }
-small_more size more (Queries q) (bound.Select q') le small = record {
+small_more : (size more : ℕ) (x : Runnable) → size ≤ more → IsSmall size x → IsSmall more x
+small_more size more (Creates e) le small = omega (arith, small)
+small_more size more (Drops t) le small = omega (arith, small)
+small_more size more (Puts p) le small = record { nodes = omega (arith, small.nodes); count = omega (arith, small.count) }
+small_more size more (Queries q) le small = record {
   filter = small.filter;
   shown = small.shown;
   stars = small.stars;
@@ -60,46 +42,34 @@ small_more size more (Queries q) (bound.Select q') le small = record {
   of_table = small.of_table;
   results = small.results;
 }
-small_more size more (Queries q) (bound.Values vs) le small = omega (arith, small)
-small_more size more (Queries q) bound.Nothing le small = omega (arith, small)
-small_more size more (ShowsRows rows) (bound.CreateTable t) le small = omega (arith, small)
-small_more size more (ShowsRows rows) (bound.DropTable d) le small = omega (arith, small)
-small_more size more (ShowsRows rows) (bound.Insert b) le small = record { nodes = omega (arith, small.nodes); count = omega (arith, small.count) }
-small_more size more (ShowsRows rows) (bound.Select q') le small = omega (arith, small)
-small_more size more (ShowsRows rows) (bound.Values vs) le small = omega (arith, small)
-small_more size more (ShowsRows rows) bound.Nothing le small = omega (arith, small)
-small_more size more DoesNothing (bound.CreateTable t) le small = omega (arith, small)
-small_more size more DoesNothing (bound.DropTable d) le small = omega (arith, small)
-small_more size more DoesNothing (bound.Insert b) le small = record { nodes = omega (arith, small.nodes); count = omega (arith, small.count) }
-small_more size more DoesNothing (bound.Select q') le small = omega (arith, small)
-small_more size more DoesNothing (bound.Values vs) le small = omega (arith, small)
-small_more size more DoesNothing bound.Nothing le small = omega (arith, small)
+small_more size more (ShowsRows rows) le small = omega (arith, small)
+small_more size more DoesNothing le small = omega (arith, small)
 
 pub readies_more : (size more : ℕ) (meant : Result Runnable Cause) (r : Result Ready Cause) → size ≤ more → Readies size meant r → Readies more meant r
-readies_more size more meant (Ok r) le p = (p.0, p.1, p.2, small_more size more p.0 (bound_in r) le p.3, p.4)
+readies_more size more meant (Ok r) le p = (p.0, p.1, p.2, small_more size more p.0 le p.3, p.4)
 readies_more size more meant (Err why) le p = p
 
 -- ---- how a statement was bound
 
-pub bound_to : (catalog : Entries) (number : ℕ) (text : List ℕ) (s : Statement) (b : Bound) → Binds catalog number text s (Ok b) → BindsTo (size_of_statement s) (statement_bound catalog number text s) (Ok b)
+pub bound_to : (asked : Asking) (catalog : Entries) (number : ℕ) (text : List ℕ) (s : Statement) (b : Bound) → Binds asked catalog number text s (Ok b) → BindsTo (size_of_statement s) (statement_bound asked catalog number text s) (Ok b)
 unfolding Binds
-bound_to catalog number text s b binds = binds
+bound_to asked catalog number text s b binds = binds
 
-pub refused_to : (catalog : Entries) (number : ℕ) (text : List ℕ) (s : Statement) (why : Cause) → Binds catalog number text s (Err why) → IsRefusal (statement_bound catalog number text s) why
+pub refused_to : (asked : Asking) (catalog : Entries) (number : ℕ) (text : List ℕ) (s : Statement) (why : Cause) → Binds asked catalog number text s (Err why) → IsRefusal (statement_bound asked catalog number text s) why
 unfolding Binds
-refused_to catalog number text s why binds = binds
+refused_to asked catalog number text s why binds = binds
 
 -- ---- texts
 
 -- a text whose first token stands there
-pub from_first : (w : World) (text : List ℕ) (first many : ℕ) (r : Result Ready Cause) → first ≡ start_of (tokens_of text) 0 → many ≡ length (tokens_of (drop first text)) → Readies many (text_bound_from w first text) r → Readies (length (tokens_of text)) (text_bound w text) r
-from_first w text first many r at is p =
+pub from_first : (asked : Asking) (w : World) (text : List ℕ) (first many : ℕ) (r : Result Ready Cause) → first ≡ start_of (tokens_of text) 0 → many ≡ length (tokens_of (drop first text)) → Readies many (text_bound_from asked w first text) r → Readies (length (tokens_of text)) (text_bound asked w text) r
+from_first asked w text first many r at is p =
     let kept : length (tokens_of (drop first text)) ≤ length (tokens_of text) = subst (λ k. length (tokens_of (drop k text)) ≤ length (tokens_of text)) (sym at) (tokens_kept text) in
-    readies_more many (length (tokens_of text)) (text_bound w text) r (omega (arith, is, kept)) (subst (λ k. Readies many (text_bound_from w k text) r) at p)
+    readies_more many (length (tokens_of text)) (text_bound asked w text) r (omega (arith, is, kept)) (subst (λ k. Readies many (text_bound_from asked w k text) r) at p)
 
-module _ (entries : Entries) (lists : Lists) (before : ℕ) (text : List ℕ) where
+module _ (asked : Asking) (entries : Entries) (lists : Lists) (before : ℕ) (text : List ℕ) where
   abbrev Bounds : Answer Statement → Result Runnable Cause
-  Bounds = answer_bound (world_in entries lists) before text
+  Bounds = answer_bound asked (world_in entries lists) before text
 
   -- the tree of a text, which is no larger than it
   abbrev pub IsTreeOf : Statement → Type 0
@@ -133,12 +103,12 @@ module _ (entries : Entries) (lists : Lists) (before : ℕ) (text : List ℕ) wh
   failed f why is shows = let a = an_answer (tokens_of text) in rw is (failed_in a.0 a.1 f (shows a.0 a.1))
 
   -- a statement that is refused
-  pub prepared_refusal : (s : Statement) (why : Cause) → IsTreeOf s → IsRefusal (statement_bound entries (length lists) (body_of text) s) why → IsRefusal (Bounds (answer_of text)) why
+  pub prepared_refusal : (s : Statement) (why : Cause) → IsTreeOf s → IsRefusal (statement_bound asked entries (length lists) (body_of text) s) why → IsRefusal (Bounds (answer_of text)) why
   prepared_refusal s why is (inl memory) = inl memory
   prepared_refusal s why is (inr refused) = inr (ap Bounds is.0 ∙ refused)
 
   -- a statement that is ready or was refused
-  pub prepared : (s : Statement) (r : Result Ready Cause) → IsTreeOf s → Readies (size_of_statement s) (statement_bound entries (length lists) (body_of text) s) r → Readies (length (tokens_of text)) (Bounds (answer_of text)) r
+  pub prepared : (s : Statement) (r : Result Ready Cause) → IsTreeOf s → Readies (size_of_statement s) (statement_bound asked entries (length lists) (body_of text) s) r → Readies (length (tokens_of text)) (Bounds (answer_of text)) r
   prepared s (Ok r) is p =
-      (p.0, ap Bounds is.0 ∙ p.1, p.2, small_more (size_of_statement s) (length (tokens_of text)) p.0 (bound_in r) is.1 p.3, p.4)
+      (p.0, ap Bounds is.0 ∙ p.1, p.2, small_more (size_of_statement s) (length (tokens_of text)) p.0 is.1 p.3, p.4)
   prepared s (Err why) is p = prepared_refusal s why is p

@@ -10,7 +10,8 @@ use Rattle.sql_meaning.proofs.TableLaws.{IsElse, found-all, none-named}
 use Rattle.sql_meaning.proofs.ValidLaws.{FitsIn, text-fits}
 use Rattle.sql_meaning.specs.Runnables.{Runnable, Creates, DoesNothing, Drops, Puts, Queries, Shows}
 use Rattle.sql_meaning.specs.Declarations.{table_of, tables_of}
-use Rattle.sql_meaning.specs.Statement.{Outcome, bound_outcome, create_outcome, outcome_of, text_bound, text_outcome}
+use Rattle.sql_meaning.specs.Permits.{Asking}
+use Rattle.sql_meaning.specs.Statement.{Outcome, bound_outcome, create_outcome, outcome_of, outcome_where, text_bound}
 use Rattle.sql_meaning.specs.Valid.{IsTable, IsWorld}
 use Rattle.sql_meaning.specs.World.{Context, State, context}
 use Rattle.vm_code.specs.Machine.{World as Lists, IsSound}
@@ -32,7 +33,7 @@ none_found name [] others = refl
 none_found name (e ∷ entries) others =
     ap (λ b. cond b (Some e) (entry_named name entries)) (All-head (IsElse name) e entries others) ∙ none_found name entries (All-tail (IsElse name) e entries others)
 
-module _ (hosts : HostMeanings) (entries : Entries) (lists : Lists) (changes : ℕ) (last : ℤ) (params : List Value) (text : List ℕ) (valid : IsWorld (world_in entries lists)) where
+module _ (asked : Asking) (hosts : HostMeanings) (entries : Entries) (lists : Lists) (changes : ℕ) (last : ℤ) (params : List Value) (text : List ℕ) (valid : IsWorld (world_in entries lists)) where
   abbrev state : State
   state = state_of entries lists changes last
 
@@ -64,8 +65,8 @@ module _ (hosts : HostMeanings) (entries : Entries) (lists : Lists) (changes : �
   by_ready x (ready.Values b) fits at has = tt
   by_ready x ready.Nothing fits at has = tt
 
-  pub may_run : (x : Runnable) (r : Ready) → text_bound (world_in entries lists) text ≡ Ok x → IsBound x (bound_in r) → HasEntry x r → MayRun entries r
-  may_run x r is at has = by_ready x r (text-fits (world_in entries lists) text x is) at has
+  pub may_run : (x : Runnable) (r : Ready) → text_bound asked (world_in entries lists) text ≡ Ok x → IsBound x (bound_in r) → HasEntry x r → MayRun entries r
+  may_run x r is at has = by_ready x r (text-fits asked (world_in entries lists) text x is) at has
 
   bound_stands : (x : Runnable) (r : Ready) → IsSound lists → Fits x → IsBound x (bound_in r) → HasEntry x r → StandsFor (outcome_of ctx x) (outcome_in hosts entries lists changes last params r)
   bound_stands (Creates e) (ready.Create n) sound fits at has = stands_same _ _ (ap (create_outcome state) (sym has.0))
@@ -105,15 +106,15 @@ module _ (hosts : HostMeanings) (entries : Entries) (lists : Lists) (changes : �
   bound_stands DoesNothing (ready.Values b) sound fits at has = absurd at
   bound_stands DoesNothing ready.Nothing sound fits at has = stands_same _ _ refl
 
-  pub text_stands : (x : Runnable) (r : Ready) → IsSound lists → text_bound (world_in entries lists) text ≡ Ok x → IsBound x (bound_in r) → HasEntry x r → StandsFor (text_outcome ctx text) (outcome_in hosts entries lists changes last params r)
+  pub text_stands : (x : Runnable) (r : Ready) → IsSound lists → text_bound asked (world_in entries lists) text ≡ Ok x → IsBound x (bound_in r) → HasEntry x r → StandsFor (outcome_where asked ctx text) (outcome_in hosts entries lists changes last params r)
   text_stands x r sound is at has =
-      subst (λ (o : Outcome). StandsFor o (outcome_in hosts entries lists changes last params r)) (sym (ap (bound_outcome ctx) is)) (bound_stands x r sound (text-fits (world_in entries lists) text x is) at has)
+      subst (λ (o : Outcome). StandsFor o (outcome_in hosts entries lists changes last params r)) (sym (ap (bound_outcome ctx) is)) (bound_stands x r sound (text-fits asked (world_in entries lists) text x is) at has)
 
   -- ---- a text that is not run
 
-  pub refusal_carries : (why : Cause) → IsRefusal (text_bound (world_in entries lists) text) why → (budget bound steps : ℕ) (t : Option Rows) (rose : Type 0) → CarriesOut (text_outcome ctx text) state state budget bound (steps - steps) t t rose (Err why)
+  pub refusal_carries : (why : Cause) → IsRefusal (text_bound asked (world_in entries lists) text) why → (budget bound steps : ℕ) (t : Option Rows) (rose : Type 0) → CarriesOut (outcome_where asked ctx text) state state budget bound (steps - steps) t t rose (Err why)
   refusal_carries why (inl memory) budget bound steps t rose =
-      subst (λ k. CarriesOut (text_outcome ctx text) state state budget bound (steps - steps) t t rose (Err k)) (sym memory)
-      (carries_Mem (text_outcome ctx text) state budget bound steps t rose)
+      subst (λ k. CarriesOut (outcome_where asked ctx text) state state budget bound (steps - steps) t t rose (Err k)) (sym memory)
+      (carries_Mem (outcome_where asked ctx text) state budget bound steps t rose)
   refusal_carries why (inr is) budget bound steps t rose =
-      carries_refused (text_outcome ctx text) state budget bound steps t rose why (ap (bound_outcome ctx) is)
+      carries_refused (outcome_where asked ctx text) state budget bound steps t rose why (ap (bound_outcome ctx) is)

@@ -1,12 +1,13 @@
 -- What a connection holds, what a statement's run says where all hosts that it names tell, and why a statement is refused.
-use Rattle.std.specs.Prelude.{◌≡◌, ◌<◌, ℕ, List, Bool, true, false, length, Option, Some}
+use Rattle.std.specs.Prelude.{◌≡◌, ◌<◌, ℕ, List, length, Option, Some}
 use Rattle.eng_value.specs.HostMeanings.{HostMeanings}
 use Rattle.eng_value.specs.declared.cause.Cause.{Cause}
 use Rattle.eng_value.specs.declared.cause.Cause.TheVariants as cause
 use Rattle.eng_value.specs.declared.value.Value.{Value}
 use Rattle.sql_meaning.specs.Named.{TextIsTold}
-use Rattle.sql_meaning.specs.Statement.{IsNamed, MayGive, Outcome, text_outcome}
-use Rattle.sql_meaning.specs.Work.{instruction_bound}
+use Rattle.sql_meaning.specs.Permits.{WhereAsked}
+use Rattle.sql_meaning.specs.Statement.{IsNamed, MayGive, Outcome, outcome_where, text_outcome}
+use Rattle.sql_meaning.specs.Work.{bound_where, instruction_bound}
 use Rattle.sql_meaning.specs.World.{State, context}
 use Rattle.engine.specs.Taking.{Rows, Adds, AddsFront}
 
@@ -19,6 +20,11 @@ pub record Held : Type 0 where
 abbrev pub WhereTold : HostMeanings → State → List Value → List ℕ → (Outcome → ℕ → Type 0) → Type 0
 WhereTold hosts state params text P =
     TextIsTold (context hosts state params) text → P (text_outcome (context hosts state params) text) (instruction_bound (context hosts state params) text)
+
+-- so it is of what the text means and of the most instructions that it runs, by what the authorizer said
+abbrev pub WhereSaid : HostMeanings → State → List Value → List ℕ → (Outcome → ℕ → Type 0) → Type 0
+WhereSaid hosts state params text P =
+    WhereAsked hosts.authorizer (λ asked. P (outcome_where asked (context hosts state params) text) (bound_where asked (context hosts state params) text))
 
 -- ---- the rows of a statement
 
@@ -45,10 +51,3 @@ pub data IsCause (o : Outcome) (old now : State) (budget bound ran : ℕ) (t0 t 
   sink_failed : now ≡ old → rose → IsCause o old now budget bound ran t0 t rose cause.SinkFault
   -- one of the causes that the statement means, and all rows in front of it were taken
   meant : (why : Cause) → now ≡ o.next → IsNamed o.refusal (Some why) → GivesAll o t0 t → IsCause o old now budget bound ran t0 t rose why
-
--- no statement means it: memory is wanting, the sink failed, or the budget is used up
-abbrev pub is_accident : Cause → Bool
-is_accident cause.Mem = true
-is_accident cause.SinkFault = true
-is_accident (cause.Interrupted n) = true
-is_accident other = false

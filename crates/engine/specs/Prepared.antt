@@ -55,7 +55,7 @@ HasEntry x r = ⊤
 
 -- the statement is bound and ready, and small beside its tokens; or it is refused; and memory may be wanting
 abbrev pub Readies : ℕ → Result Runnable Cause → Result Ready Cause → Type 0
-Readies size meant (Ok r) = (x : Runnable) × (meant ≡ Ok x) × IsBound x (bound_in r) × IsSmall size x (bound_in r) × HasEntry x r
+Readies size meant (Ok r) = (x : Runnable) × (meant ≡ Ok x) × IsBound x (bound_in r) × IsSmall size x × HasEntry x r
 Readies size meant (Err why) = IsRefusal meant why
 
 -- ---- what may run

@@ -1,7 +1,7 @@
 // A connection.
-ghost use Rattle.std.specs.Prelude.{◌≡◌, ◌≤◌, ◌+◌, ◌-◌, map, true, None, Some, OnOk, IfOk, IfErr};
+ghost use Rattle.std.specs.Prelude.{◌≡◌, ◌≤◌, ◌+◌, ◌-◌, map, None, Some, OnOk, OnErr, IfOk, IfErr};
 ghost use Rattle.eng_value.specs.declared.cause.Cause.TheVariants.{Mem};
-ghost use Rattle.engine.specs.Causes.{GivesCounted, GivesFront, IsCause, WhereTold, is_accident};
+ghost use Rattle.engine.specs.Causes.{GivesCounted, GivesFront, IsCause, WhereTold};
 ghost use Rattle.std.specs.Option.{option_map};
 ghost use Rattle.sql_meaning.specs.Declarations.{table_called};
 ghost use Rattle.sql_meaning.specs.declared.column.TableEntry.{TableEntry as Declared};
@@ -74,8 +74,8 @@ impl Connection {
     /// - any other cause: that is one of those that it means, the rows in front of it were taken, and the connection holds what the
     ///   refusal means, which is what it held before.
     ///
-    /// After one of the three in the middle the connection is as it was, whatever the hosts do; the rows that were taken are a front of
-    /// what the statement means.
+    /// After any refusal the connection is as it was, whatever the hosts do. The rows that were taken are a front of what the statement
+    /// means, where the hosts tell.
     pub fn run<R: RowSink, L: Ledger>(
         &mut self,
         alloc: Global,
@@ -86,28 +86,28 @@ impl Connection {
         steps: &mut Steps<L>,
     ) -> Result<Done, Refusal>
         // Where each host that the text names tells: Ok is what the statement means,
-        ensures done { OnOk result (WhereTold (meant hosts.old) self.old.state params.now sql.now (λ o bound. o.refusal ≡ None)) }
-        ensures next { OnOk result (WhereTold (meant hosts.old) self.old.state params.now sql.now (λ o bound. self.new.state ≡ o.next)) }
-        ensures rows { IfOk result (λ d. WhereTold (meant hosts.old) self.old.state params.now sql.now
+        ensures done { OnOk result (WhereTold (meant (λ b. verdicts (b.vtable, b.value)) hosts.old) self.old.state params.now sql.now (λ o bound. o.refusal ≡ None)) }
+        ensures next { OnOk result (WhereTold (meant (λ b. verdicts (b.vtable, b.value)) hosts.old) self.old.state params.now sql.now (λ o bound. self.new.state ≡ o.next)) }
+        ensures rows { IfOk result (λ d. WhereTold (meant (λ b. verdicts (b.vtable, b.value)) hosts.old) self.old.state params.now sql.now
             (λ o bound. GivesCounted o (R.taken rows.old) (R.taken rows.new) d.given)) }
-        ensures changed { IfOk result (λ d. WhereTold (meant hosts.old) self.old.state params.now sql.now (λ o bound. d.changed ≡ o.changed)) }
+        ensures changed { IfOk result (λ d. WhereTold (meant (λ b. verdicts (b.vtable, b.value)) hosts.old) self.old.state params.now sql.now (λ o bound. d.changed ≡ o.changed)) }
 
         // a refusal has its cause, and leaves what it means, or all as it was,
-        ensures cause { IfErr result (λ r. WhereTold (meant hosts.old) self.old.state params.now sql.now
+        ensures cause { IfErr result (λ r. WhereTold (meant (λ b. verdicts (b.vtable, b.value)) hosts.old) self.old.state params.now sql.now
             (λ o bound. IsCause o self.old.state self.new.state self.old.budget bound (steps.new - steps.old)
             (R.taken rows.old) (R.taken rows.new) (Rose (R.fault_count rows.old) (R.fault_count rows.new)) r.cause)) }
 
         // and a front of the rows was taken, by no more instructions than it needs.
-        ensures front { WhereTold (meant hosts.old) self.old.state params.now sql.now (λ o bound. GivesFront o (R.taken rows.old) (R.taken rows.new)) }
-        ensures bound { WhereTold (meant hosts.old) self.old.state params.now sql.now (λ o bound. steps.new ≤ steps.old + bound) }
+        ensures front { WhereTold (meant (λ b. verdicts (b.vtable, b.value)) hosts.old) self.old.state params.now sql.now (λ o bound. GivesFront o (R.taken rows.old) (R.taken rows.new)) }
+        ensures bound { WhereTold (meant (λ b. verdicts (b.vtable, b.value)) hosts.old) self.old.state params.now sql.now (λ o bound. steps.new ≤ steps.old + bound) }
 
         // Whatever the hosts.
-        ensures kept { IfErr result (λ r. is_accident r.cause ≡ true → self.new ≡ self.old) }
+        ensures kept { OnErr result (self.new ≡ self.old) }
         ensures within { steps.new ≤ steps.old + self.old.budget }
         ensures ticks { steps.old ≤ steps.new }
         ensures faults { R.fault_count rows.old ≤ R.fault_count rows.new }
         ensures budget { self.new.budget ≡ self.old.budget }
-        ensures hosts { meant hosts.new ≡ meant hosts.old }
+        ensures hosts { meant (λ b. verdicts (b.vtable, b.value)) hosts.new ≡ meant (λ b. verdicts (b.vtable, b.value)) hosts.old }
         ensures valid { IsValid self.new.state }
     {
         match run_text(

@@ -1,6 +1,6 @@
 // What a connection holds, and how a statement changes it.
 ghost use Rattle.std.specs.Prelude.{◌≡◌, ◌≤◌, ◌+◌, ◌-◌, [], length, pos, IfOk, OnErr};
-ghost use Rattle.engine.specs.Causes.{WhereTold};
+ghost use Rattle.engine.specs.Causes.{WhereSaid, WhereTold};
 ghost use Rattle.engine.specs.Connected.{CarriesOut};
 ghost use Rattle.eng_entry.specs.Entries.{no_entries};
 ghost use Rattle.engine.specs.Held.{state_of, world_in};
@@ -91,7 +91,14 @@ pub(crate) fn run_text<R: RowSink, L: Ledger>(
 ) -> Result<Done, Cause>
     requires valid { IsWorld (world_in database.old.schema database.old.tables.world) }
     ensures marks { database.new.tables.marks ≡ database.old.tables.marks }
-    ensures carried { WhereTold (meant hosts.old)
+    ensures said { WhereSaid (meant (λ b. verdicts (b.vtable, b.value)) hosts.old)
+        (state_of database.old.schema database.old.tables.world database.old.changes database.old.last_rowid) params.now text.now
+        (λ o bound. CarriesOut o
+        (state_of database.old.schema database.old.tables.world database.old.changes database.old.last_rowid)
+        (state_of database.new.schema database.new.tables.world database.new.changes database.new.last_rowid)
+        budget bound (steps.new - steps.old) (R.taken rows.old) (R.taken rows.new)
+        (Rose (R.fault_count rows.old) (R.fault_count rows.new)) result) }
+    ensures carried { WhereTold (meant (λ b. verdicts (b.vtable, b.value)) hosts.old)
         (state_of database.old.schema database.old.tables.world database.old.changes database.old.last_rowid) params.now text.now
         (λ o bound. CarriesOut o
         (state_of database.old.schema database.old.tables.world database.old.changes database.old.last_rowid)
@@ -104,10 +111,11 @@ pub(crate) fn run_text<R: RowSink, L: Ledger>(
     ensures ticks { steps.old ≤ steps.new }
     ensures within { steps.new ≤ steps.old + budget }
     ensures faults { R.fault_count rows.old ≤ R.fault_count rows.new }
-    ensures hosts { meant hosts.new ≡ meant hosts.old }
+    ensures hosts { meant (λ b. verdicts (b.vtable, b.value)) hosts.new ≡ meant (λ b. verdicts (b.vtable, b.value)) hosts.old }
 {
     database.tables.order();
-    match prepare(alloc, &database.schema, database.tables.len(), text) {
+    let number = database.tables.len();
+    match prepare(alloc, hosts, &database.schema, number, text) {
         Ok(ready) => run_ready::<Brand, R, L>(
             alloc, database, hosts, budget, ready, params, rows, steps,
         ),
@@ -128,7 +136,7 @@ fn run_ready<M: Meanings, R: RowSink, L: Ledger>(
 ) -> Result<Done, Cause>
     requires runs { MayRun database.old.schema ready }
     requires sound { IsSound database.old.tables.world }
-    requires told { meant hosts.old ≡ M.hosts }
+    requires told { meant (λ b. verdicts (b.vtable, b.value)) hosts.old ≡ M.hosts }
     ensures marks { database.new.tables.marks ≡ database.old.tables.marks }
     ensures carried { CarriesOut
         (outcome_in M.hosts database.old.schema database.old.tables.world database.old.changes database.old.last_rowid params.now ready)
@@ -142,7 +150,7 @@ fn run_ready<M: Meanings, R: RowSink, L: Ledger>(
     ensures ticks { steps.old ≤ steps.new }
     ensures within { steps.new ≤ steps.old + budget }
     ensures faults { R.fault_count rows.old ≤ R.fault_count rows.new }
-    ensures told { meant hosts.new ≡ M.hosts }
+    ensures told { meant (λ b. verdicts (b.vtable, b.value)) hosts.new ≡ M.hosts }
 {
     match ready {
         Ready::Create(new) => {
@@ -166,7 +174,7 @@ fn run_create<M: Meanings, R: RowSink, L: Ledger>(
 ) -> Result<Done, Cause>
     requires new { IsNew database.old.schema new }
     requires sound { IsSound database.old.tables.world }
-    requires told { meant hosts.old ≡ M.hosts }
+    requires told { meant (λ b. verdicts (b.vtable, b.value)) hosts.old ≡ M.hosts }
     ensures marks { database.new.tables.marks ≡ database.old.tables.marks }
     ensures carried { CarriesOut
         (create_outcome (state_of database.old.schema database.old.tables.world database.old.changes database.old.last_rowid) new.entry)
@@ -180,7 +188,7 @@ fn run_create<M: Meanings, R: RowSink, L: Ledger>(
     ensures ticks { steps.old ≤ steps.new }
     ensures within { steps.new ≤ steps.old + budget }
     ensures faults { R.fault_count rows.old ≤ R.fault_count rows.new }
-    ensures told { meant hosts.new ≡ M.hosts }
+    ensures told { meant (λ b. verdicts (b.vtable, b.value)) hosts.new ≡ M.hosts }
 {
     let Ok(program) = compile_create(alloc) else {
         return Err(Cause::Mem);
@@ -222,7 +230,7 @@ fn run_other<M: Meanings, R: RowSink, L: Ledger>(
 ) -> Result<Done, Cause>
     requires other { IsOther ready.now }
     requires sound { IsSound database.old.tables.world }
-    requires told { meant hosts.old ≡ M.hosts }
+    requires told { meant (λ b. verdicts (b.vtable, b.value)) hosts.old ≡ M.hosts }
     ensures marks { database.new.tables.marks ≡ database.old.tables.marks }
     ensures carried { CarriesOut
         (outcome_in M.hosts database.old.schema database.old.tables.world database.old.changes database.old.last_rowid params.now ready.now)
@@ -236,7 +244,7 @@ fn run_other<M: Meanings, R: RowSink, L: Ledger>(
     ensures ticks { steps.old ≤ steps.new }
     ensures within { steps.new ≤ steps.old + budget }
     ensures faults { R.fault_count rows.old ≤ R.fault_count rows.new }
-    ensures told { meant hosts.new ≡ M.hosts }
+    ensures told { meant (λ b. verdicts (b.vtable, b.value)) hosts.new ≡ M.hosts }
 {
     let Ok(program) = compiled(alloc, ready) else {
         return Err(Cause::Mem);

@@ -40,14 +40,14 @@ pub(crate) fn execute<M: Meanings, R: RowSink, L: Ledger>(
     rows: &mut R,
     steps: &mut Steps<L>,
 ) -> Result<Completed, Cause>
-    requires told { meant hosts.old ≡ M.hosts }
+    requires told { meant (λ b. verdicts (b.vtable, b.value)) hosts.old ≡ M.hosts }
     ensures runs { ProgramIsTold M.hosts program → (ask : Oracle) (most : ℕ) (e : Ending) (x : Shared) →
         Ends (setting M.hosts ask params.now program) most (start program tables.old.world last_rowid) e x →
         ExecutesAs e x most budget (steps.new - steps.old) tables.new.world (R.taken rows.old) (R.taken rows.new)
         (Rose (R.fault_count rows.old) (R.fault_count rows.new)) result }
     ensures kept { OnErr result (tables.new.world ≡ tables.old.world) }
     ensures marks { tables.new.marks ≡ tables.old.marks }
-    ensures told { meant hosts.new ≡ M.hosts }
+    ensures told { meant (λ b. verdicts (b.vtable, b.value)) hosts.new ≡ M.hosts }
     ensures ticks { steps.old ≤ steps.new }
     ensures within { steps.new ≤ steps.old + budget }
     ensures faults { R.fault_count rows.old ≤ R.fault_count rows.new }

@@ -13,13 +13,16 @@ ghost use Rattle.sql_lex.specs.Tokens.{InOrder, slice_of, tokens_of};
 ghost use Rattle.sql_meaning.specs.Runnables.{Runnable};
 ghost use Rattle.sql_meaning.specs.Declarations.{tables_of};
 ghost use Rattle.sql_words.specs.Bodies.{end_of, without_end};
+ghost use Rattle.sql_meaning.specs.Permits.{Asking, WhereAsked};
 ghost use Rattle.sql_meaning.specs.Running.{entry_with};
 ghost use Rattle.sql_meaning.specs.Statement.{limit_kind, statement_bound, text_bound, text_bound_from};
 ghost use Rattle.sql_tree.specs.Sizes.{size_of_statement};
 ghost use Rattle.vm_code.specs.Machine.{World as Lists};
+ghost use Rattle.vm_core.specs.Meant.{meant};
 
 use crate::schema::Schema;
-use bind_stmt::{Bound, DroppedTable, NewTable, bind};
+use bind_asked::bind;
+use bind_stmt::{Bound, DroppedTable, NewTable};
 use bound_tree::BoundExpr;
 use eng_catalog::{Entry, EntryKind};
 use eng_value::{Cause, LimitKind, Text};
@@ -30,6 +33,7 @@ use sql_meaning::{BoundInsert, BoundSelect, TableEntry};
 use sql_tree::{Statement, Token, TokenKind};
 use sqlite_items::{Boxed, Items};
 use std::alloc::Global;
+use vm_core::Hosts;
 
 /// What a CREATE TABLE puts into the catalog: the entry, and what it declares.
 #[derive(Drop)]
@@ -53,24 +57,27 @@ pub(crate) enum Ready {
 /// not built, then for names.
 pub(crate) fn prepare(
     alloc: Global,
+    hosts: &mut Hosts,
     schema: &Schema,
     number: usize,
     text: &str,
 ) -> Result<Ready, Cause>
-    ensures { (lists : Lists) → length lists ≡ number → Readies (length (tokens_of text.now)) (text_bound (world_in schema.now lists) text.now) result }
+    ensures readies { WhereAsked (meant (λ b. verdicts (b.vtable, b.value)) hosts.old).authorizer (λ asked. (lists : Lists) → length lists ≡ number → Readies (length (tokens_of text.now)) (text_bound asked (world_in schema.now lists) text.now) result) }
+    ensures hosts { meant (λ b. verdicts (b.vtable, b.value)) hosts.new ≡ meant (λ b. verdicts (b.vtable, b.value)) hosts.old }
 {
     let found = tokens(alloc, text)?;
     let start = start_of(&found);
     if start == 0 {
-        return prepare_from(alloc, schema, number, text, 0, &found);
+        return prepare_from(alloc, hosts, schema, number, text, 0, &found);
     }
     let again = tokens(alloc, &text[start..])?;
-    prepare_from(alloc, schema, number, text, start, &again)
+    prepare_from(alloc, hosts, schema, number, text, start, &again)
 }
 
 /// The statement of a text from a byte on, where these are the tokens.
 fn prepare_from(
     alloc: Global,
+    hosts: &mut Hosts,
     schema: &Schema,
     number: usize,
     text: &str,
@@ -81,7 +88,8 @@ fn prepare_from(
     requires tokens { tokens.now ≡ tokens_of (drop start text.now) }
     requires order { InOrder 0 (length (drop start text.now)) tokens.now }
     requires characters { All (λ t. is_utf8 (slice_of (drop start text.now) t) ≡ true) tokens.now }
-    ensures { (lists : Lists) → length lists ≡ number → Readies (length tokens.now) (text_bound_from (world_in schema.now lists) start text.now) result }
+    ensures readies { WhereAsked (meant (λ b. verdicts (b.vtable, b.value)) hosts.old).authorizer (λ asked. (lists : Lists) → length lists ≡ number → Readies (length tokens.now) (text_bound_from asked (world_in schema.now lists) start text.now) result) }
+    ensures hosts { meant (λ b. verdicts (b.vtable, b.value)) hosts.new ≡ meant (λ b. verdicts (b.vtable, b.value)) hosts.old }
 {
     let from = &text[start..];
     let statement = match parse(alloc, tokens, from.len()) {
@@ -89,7 +97,14 @@ fn prepare_from(
         Err(failure) => return Err(cause_of(text, start, failure)),
     };
     let body = &from[..end_of(without_end(tokens))];
-    let bound = bind(alloc, schema.catalog(), schema.tables(), body, &statement)?;
+    let bound = bind(
+        alloc,
+        hosts,
+        schema.catalog(),
+        schema.tables(),
+        body,
+        &statement,
+    )?;
     readied(alloc, bound, number, body, statement)
 }
 
@@ -101,8 +116,8 @@ fn readied(
     body: &str,
     statement: Statement,
 ) -> Result<Ready, Cause>
-    ensures { (lists : Lists) (entries : Entries) → length lists ≡ number → BindsTo (size_of_statement statement) (statement_bound entries number body.now statement) (Ok bound)
-        → Readies (size_of_statement statement) (statement_bound entries number body.now statement) result }
+    ensures { (lists : Lists) (entries : Entries) → length lists ≡ number → (asked : Asking) → BindsTo (size_of_statement statement) (statement_bound asked entries number body.now statement) (Ok bound)
+        → Readies (size_of_statement statement) (statement_bound asked entries number body.now statement) result }
 {
     match bound {
         Bound::CreateTable(new) => created(alloc, new, number, body, statement),
@@ -134,8 +149,8 @@ fn created(
     body: &str,
     statement: Statement,
 ) -> Result<Ready, Cause>
-    ensures { (lists : Lists) (entries : Entries) → length lists ≡ number → BindsTo (size_of_statement statement) (statement_bound entries number body.now statement) (Ok (bound.CreateTable new))
-        → Readies (size_of_statement statement) (statement_bound entries number body.now statement) result }
+    ensures { (lists : Lists) (entries : Entries) → length lists ≡ number → (asked : Asking) → BindsTo (size_of_statement statement) (statement_bound asked entries number body.now statement) (Ok (bound.CreateTable new))
+        → Readies (size_of_statement statement) (statement_bound asked entries number body.now statement) result }
 {
     let entry = new_entry(alloc, new, number, body, statement)?;
     Ok(Ready::Create(Boxed::new(alloc, entry)?))

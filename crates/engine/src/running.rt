@@ -49,14 +49,14 @@ pub(crate) fn run_program<M: Meanings, R: RowSink, L: Ledger>(
     rows: &mut R,
     steps: &mut Steps<L>,
 ) -> Result<Completed, Stop>
-    requires told { meant hosts.old ≡ M.hosts }
+    requires told { meant (λ b. verdicts (b.vtable, b.value)) hosts.old ≡ M.hosts }
     ensures runs { ProgramIsTold M.hosts program → (ask : Oracle) (most : ℕ) (e : Ending) (x : Shared) →
         Ends (setting M.hosts ask params.now program) most (start program tables.old.world last_rowid) e x →
         RunsAs e x most budget (steps.new - steps.old) tables.new.world (R.taken rows.old) (R.taken rows.new)
         (Rose (R.fault_count rows.old) (R.fault_count rows.new)) result }
     ensures kept { OnErr result (tables.new.world ≡ tables.old.world) }
     ensures marks { tables.new.marks ≡ tables.old.marks }
-    ensures told { meant hosts.new ≡ M.hosts }
+    ensures told { meant (λ b. verdicts (b.vtable, b.value)) hosts.new ≡ M.hosts }
     ensures ticks { steps.old ≤ steps.new }
     ensures within { steps.new ≤ steps.old + budget }
     ensures faults { R.fault_count rows.old ≤ R.fault_count rows.new }
@@ -115,7 +115,7 @@ fn drive<M: Meanings, R: RowSink, L: Ledger>(
     rows: &mut R,
     steps: &mut Steps<L>,
 ) -> Result<u64, Stop>
-    requires told { meant hosts.old ≡ M.hosts }
+    requires told { meant (λ b. verdicts (b.vtable, b.value)) hosts.old ≡ M.hosts }
     ensures ticks { steps.old ≤ steps.new }
     ensures within { steps.new ≤ steps.old + budget }
     ensures marks { tables.new.marks ≡ tables.old.marks }
@@ -124,7 +124,7 @@ fn drive<M: Meanings, R: RowSink, L: Ledger>(
     ensures run { ProgramIsTold M.hosts machine.old.prog → (ask : Oracle) →
         DriveIs (setting M.hosts ask machine.old.params machine.old.prog) (steps.new - steps.old) (state_of machine.old tables.old.world []) (state_of machine.new tables.new.world)
         budget (Rose (R.fault_count rows.old) (R.fault_count rows.new)) (R.taken rows.old) (R.taken rows.new) result }
-    ensures told { meant hosts.new ≡ M.hosts }
+    ensures told { meant (λ b. verdicts (b.vtable, b.value)) hosts.new ≡ M.hosts }
     ensures faults { R.fault_count rows.old ≤ R.fault_count rows.new }
 {
     let mut budget = Budget {
@@ -149,7 +149,7 @@ fn next<M: Meanings, R: RowSink, L: Ledger>(
     steps: &mut Steps<L>,
 ) -> Result<bool, Stop>
     requires within { budget.old.ran ≤ budget.old.whole }
-    requires told { meant hosts.old ≡ M.hosts }
+    requires told { meant (λ b. verdicts (b.vtable, b.value)) hosts.old ≡ M.hosts }
     ensures ran { budget.old.ran ≤ budget.new.ran }
     ensures within { budget.new.ran ≤ budget.old.whole }
     ensures whole { budget.new.whole ≡ budget.old.whole }
@@ -162,7 +162,7 @@ fn next<M: Meanings, R: RowSink, L: Ledger>(
     ensures next { ProgramIsTold M.hosts machine.old.prog → (ask : Oracle) →
         NextIs (setting M.hosts ask machine.old.params machine.old.prog) (budget.new.ran - budget.old.ran) (state_of machine.old tables.old.world []) (state_of machine.new tables.new.world)
         budget.old.whole budget.new.ran (Rose (R.fault_count rows.old) (R.fault_count rows.new)) (R.taken rows.old) (R.taken rows.new) result }
-    ensures told { meant hosts.new ≡ M.hosts }
+    ensures told { meant (λ b. verdicts (b.vtable, b.value)) hosts.new ≡ M.hosts }
     ensures faults { R.fault_count rows.old ≤ R.fault_count rows.new }
 {
     match machine.step::<M, L>(alloc, tables, hosts, budget, steps) {

@@ -34,7 +34,7 @@ use Rattle.sql_meaning.specs.declared.column.Column.{Column}
 use Rattle.sql_meaning.specs.declared.column.TableEntry.{TableEntry}
 use Rattle.sql_words.specs.Refusals.{◌>>=◌}
 use Rattle.sql_meaning.specs.Expression.{arms_of, chosen_in, first_known, literal_out, matched_in, matches_of, parameter_of, unbuilt, value_of, values_of}
-use Rattle.sql_meaning.specs.Statement.{IsNamed, Item, Row, Failed, after_conjunct, all_put, begun, bound_outcome, causes_of, given_of, if_some, item_by, item_of, item_put, item_rows, items_at, items_of, outcome_of, product, put_source, refusal_of, row_put, row_under, rows_put, shown, shown_rows, sifted, source_of, stored, text_bound, text_outcome, values_placed, with_others}
+use Rattle.sql_meaning.specs.Statement.{IsNamed, Item, Row, Failed, after_conjunct, all_put, begun, bound_for, bound_outcome, causes_of, given_of, if_some, item_by, item_of, item_put, item_rows, items_at, items_of, outcome_of, product, put_source, refusal_of, row_put, row_under, rows_put, shown, shown_rows, sifted, source_of, stored, text_outcome, values_placed, with_others}
 use Rattle.sql_meaning.specs.World.{Context, State, environment_at, rows_at}
 use Rattle.sql_meaning.proofs.CausedOperators.{AreCaused, IsCaused, IsCausedSet, IsCausedTruth, and_of-caused, bad-caused, binary_of-caused, choice_of-caused, comparison_of-caused, function_by-caused, good, like_escaped_of-caused, made-caused, member_of-caused, merged-caused, only-caused, or_else-caused, store_as-caused, truth_in-caused, truth_of-caused, unary_of-caused}
 
@@ -346,4 +346,4 @@ by_name (Some causes) c = (Some c.0, c.1)
 
 -- a refusal has a cause that can be named
 pub text_outcome-named : (ctx : Context) (text : List ℕ) → (why : Option Cause) × IsNamed (text_outcome ctx text).refusal why
-text_outcome-named ctx text = by_name (text_outcome ctx text).refusal (bound_outcome-told ctx (text_bound ctx.state.world text))
+text_outcome-named ctx text = by_name (text_outcome ctx text).refusal (bound_outcome-told ctx (bound_for ctx text))

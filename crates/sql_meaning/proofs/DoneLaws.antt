@@ -10,7 +10,8 @@ use Rattle.sql_meaning.specs.declared.column.TableEntry.{TableEntry}
 use Rattle.sql_meaning.specs.Runnables.{Runnable, Creates, Drops, Put, Puts, Queries, Query, Shows}
 use Rattle.sql_meaning.specs.Declarations.{table_called, table_with}
 use Rattle.sql_meaning.specs.Effects.{AddsRows, AddsTable, DropsTable}
-use Rattle.sql_meaning.specs.Statement.{Item, Outcome, Row, Failed, all_put, begun, bound_outcome, causes_of, given_of, outcome_of, put_outcome, put_source, rows_put, source_of, text_bound, text_outcome, written}
+use Rattle.sql_meaning.specs.Permits.{asked_by}
+use Rattle.sql_meaning.specs.Statement.{Item, Outcome, Row, Failed, all_put, begun, bound_for, bound_outcome, causes_of, given_of, outcome_of, put_outcome, put_source, rows_put, source_of, text_outcome, written}
 use Rattle.sql_meaning.specs.Valid.{IsTable, IsValid}
 use Rattle.sql_meaning.specs.World.{Context, State, rows_at, tables_in}
 use Rattle.sql_meaning.proofs.EffectLaws.{PutsRows}
@@ -18,7 +19,7 @@ use Rattle.sql_meaning.proofs.TableLaws.{among-others, numbers-new, others-none,
 use Rattle.sql_meaning.proofs.ValidLaws.{IsPut, created-table, found-rows, source_put, text-fits}
 
 -- the outcome of a text is that of what it is bound to
-text-is : (ctx : Context) (text : List ℕ) (b : Runnable) → text_bound ctx.state.world text ≡ Ok b → text_outcome ctx text ≡ outcome_of ctx b
+text-is : (ctx : Context) (text : List ℕ) (b : Runnable) → bound_for ctx text ≡ Ok b → text_outcome ctx text ≡ outcome_of ctx b
 text-is ctx text b is = ap (bound_outcome ctx) is
 
 -- ---- INSERT
@@ -62,17 +63,17 @@ put-adds : (ctx : Context) (p : Put) → IsValid ctx.state → IsPut (tables_in 
 put-adds ctx p valid put e =
     put_source-adds ctx.state p (length p.rows) (causes_of (source_of ctx p)) (given_of (source_of ctx p)) valid put (λ none. given_each (source_of ctx p) none ∙ length-map p.rows _) e
 
-pub inserts : (ctx : Context) (text : List ℕ) (p : Put) → IsValid ctx.state → text_bound ctx.state.world text ≡ Ok (Puts p) → (text_outcome ctx text).refusal ≡ None → AddsRows ctx.state p.table (length p.rows) (text_outcome ctx text)
+pub inserts : (ctx : Context) (text : List ℕ) (p : Put) → IsValid ctx.state → bound_for ctx text ≡ Ok (Puts p) → (text_outcome ctx text).refusal ≡ None → AddsRows ctx.state p.table (length p.rows) (text_outcome ctx text)
 inserts ctx text p valid is e =
     let whole = text-is ctx text (Puts p) is in
     subst (AddsRows ctx.state p.table (length p.rows)) (sym whole)
-    (put-adds ctx p valid (text-fits ctx.state.world text (Puts p) is) (ap (λ (o : Outcome). o.refusal) (sym whole) ∙ e))
+    (put-adds ctx p valid (text-fits (asked_by ctx.hosts.authorizer) ctx.state.world text (Puts p) is) (ap (λ (o : Outcome). o.refusal) (sym whole) ∙ e))
 
 -- ---- CREATE TABLE
 
-pub creates : (ctx : Context) (text : List ℕ) (e : Entry) → IsValid ctx.state → text_bound ctx.state.world text ≡ Ok (Creates e) → AddsTable ctx.state e (text_outcome ctx text)
+pub creates : (ctx : Context) (text : List ℕ) (e : Entry) → IsValid ctx.state → bound_for ctx text ≡ Ok (Creates e) → AddsTable ctx.state e (text_outcome ctx text)
 creates ctx text e valid is =
-    let c = text-fits ctx.state.world text (Creates e) is in
+    let c = text-fits (asked_by ctx.hosts.authorizer) ctx.state.world text (Creates e) is in
     let lists = ctx.state.world.tables in
     let t = table_with e c.columns in
     subst (AddsTable ctx.state e) (sym (text-is ctx text (Creates e) is)) (record {
@@ -88,9 +89,9 @@ creates ctx text e valid is =
 
 -- ---- DROP TABLE
 
-pub drops : (ctx : Context) (text : List ℕ) (t : TableEntry) → IsValid ctx.state → text_bound ctx.state.world text ≡ Ok (Drops t) → DropsTable ctx.state t (text_outcome ctx text)
+pub drops : (ctx : Context) (text : List ℕ) (t : TableEntry) → IsValid ctx.state → bound_for ctx text ≡ Ok (Drops t) → DropsTable ctx.state t (text_outcome ctx text)
 drops ctx text t valid is =
-    let found = text-fits ctx.state.world text (Drops t) is in
+    let found = text-fits (asked_by ctx.hosts.authorizer) ctx.state.world text (Drops t) is in
     let held = found-rows ctx.state valid t found in
     subst (DropsTable ctx.state t) (sym (text-is ctx text (Drops t) is)) (record {
       found = found;
@@ -103,8 +104,8 @@ drops ctx text t valid is =
 
 -- ---- queries
 
-pub selects : (ctx : Context) (text : List ℕ) (q : Query) → text_bound ctx.state.world text ≡ Ok (Queries q) → (text_outcome ctx text).next ≡ ctx.state
+pub selects : (ctx : Context) (text : List ℕ) (q : Query) → bound_for ctx text ≡ Ok (Queries q) → (text_outcome ctx text).next ≡ ctx.state
 selects ctx text q is = ap (λ (o : Outcome). o.next) (text-is ctx text (Queries q) is)
 
-pub shows : (ctx : Context) (text : List ℕ) (rows : List (List BoundExpr)) → text_bound ctx.state.world text ≡ Ok (Shows rows) → (text_outcome ctx text).next ≡ ctx.state
+pub shows : (ctx : Context) (text : List ℕ) (rows : List (List BoundExpr)) → bound_for ctx text ≡ Ok (Shows rows) → (text_outcome ctx text).next ≡ ctx.state
 shows ctx text rows is = ap (λ (o : Outcome). o.next) (text-is ctx text (Shows rows) is)

@@ -8,6 +8,8 @@ pub mod StoringLaws
 pub mod EffectLaws
 pub mod TableLaws
 pub mod ValidLaws
+pub mod PermitLaws
+pub mod ErasedValues
 pub mod DoneLaws
 pub mod TellingLaws
 pub mod OutcomeLaws

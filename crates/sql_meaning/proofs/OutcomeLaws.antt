@@ -1,5 +1,5 @@
 -- What parts of a script come to that run one after another.
-use Rattle.std.proofs.Common.{◌≡◌, ◌≤◌, ℕ, ◌+◌, Bool, true, false, ◌||◌, List, [], ◌∷◌, ◌++◌, Some, None, refl, sym, ◌∙◌, ap, subst, append-nil, arith}
+use Rattle.std.proofs.Common.{◌≡◌, ◌≤◌, ℕ, ◌+◌, Bool, true, false, ◌||◌, List, [], ◌∷◌, ◌++◌, Some, None, refl, sym, ◌∙◌, ap, subst, append-nil, arith, ℤ}
 use Rattle.std.specs.List.{list_any}
 use Rattle.std.proofs.lemmas.List.Sums.{sum_by-append}
 use Rattle.std.specs.declared.option.Option.{Option}
@@ -9,7 +9,7 @@ use Rattle.eng_value.specs.declared.value.Value.{Value}
 use Rattle.sql_meaning.specs.declared.script.Options.{Options}
 use Rattle.sql_meaning.specs.Parts.{Part, Statement, DotLine, BadCharacter}
 use Rattle.sql_meaning.specs.Runs.{last_state, state_behind, AreAsMeant, IsAsMeant, IsEnough, IsEnoughFor, IsFrontOf, PartIsAsMeant}
-use Rattle.sql_meaning.specs.Script.{Came, Comes, Come, Follow, PartComes, as_meant, as_named, cut_off, ends, instructions}
+use Rattle.sql_meaning.specs.Script.{Came, Come, Comes, Follow, PartComes, as_meant, as_named, cut_off, ends, instructions, number_asked, row_of_number}
 use Rattle.sql_meaning.specs.Statement.{MayGive, Outcome, UnlessPlan, text_outcome}
 use Rattle.sql_meaning.specs.Work.{instruction_bound}
 use Rattle.sql_meaning.specs.World.{Context, State, context}
@@ -63,10 +63,14 @@ as_named-next : (m : Outcome) (why : Option Cause) (rows : List (List Value)) (r
 as_named-next m None rows ran = refl
 as_named-next m (Some why) rows ran = refl
 
+pub number-next : (state : State) (n : Option ℤ) → (row_of_number state n).next ≡ state
+number-next state None = refl
+number-next state (Some n) = refl
+
 part-next : (hosts : HostMeanings) (budget : ℕ) (state : State) (part : Part) (o : Came) → PartIsAsMeant hosts budget state part o → o.next ≡ state_behind hosts state part
 part-next hosts budget state (Statement text) o m =
     ap (λ (p : Came). p.next) m.7 ∙ as_named-next (text_outcome (context hosts state []) text) m.0 m.1 m.2
-part-next hosts budget state (DotLine line) o m = ap (λ (p : Came). p.next) m
+part-next hosts budget state (DotLine line) o m = ap (λ (p : Came). p.next) m ∙ number-next state (number_asked state line)
 part-next hosts budget state (BadCharacter place) o m = ap (λ (p : Came). p.next) m
 
 -- and so do parts

@@ -6,7 +6,7 @@ use Rattle.eng_value.specs.Written.{Written}
 use Rattle.eng_value.specs.declared.cause.Cause.{Cause}
 use Rattle.eng_value.specs.declared.value.Value.{Value}
 use Rattle.sql_meaning.specs.Runnables.{Runnable, Creates, DoesNothing, Drops, Put, Puts, Queries, Shows}
-use Rattle.sql_meaning.specs.Statement.{Outcome, all_put, begun, bound_outcome, causes_of, given_of, outcome_of, put_source, refused, rows_put, source_of, text_bound, text_outcome}
+use Rattle.sql_meaning.specs.Statement.{Outcome, all_put, begun, bound_for, bound_outcome, causes_of, given_of, outcome_of, put_source, refused, rows_put, source_of, text_outcome}
 use Rattle.sql_meaning.specs.World.{Context, State}
 
 -- where it is a refusal, it changes nothing
@@ -39,4 +39,4 @@ bound_outcome-keeps ctx (Err why) = refused-keeps ctx.state (only why)
 -- a statement that is refused changes no row, tells no hook of any, and leaves the state as it is
 pub text_outcome-refused : (ctx : Context) (text : List ℕ) (causes : CauseSet) → (text_outcome ctx text).refusal ≡ Some causes
     → ((text_outcome ctx text).next ≡ ctx.state) × ((text_outcome ctx text).changed ≡ 0) × ((text_outcome ctx text).told ≡ [])
-text_outcome-refused ctx text = (bound_outcome-keeps ctx (text_bound ctx.state.world text)).kept
+text_outcome-refused ctx text = (bound_outcome-keeps ctx (bound_for ctx text)).kept

@@ -1,11 +1,11 @@
--- Where there is no host, none is named that does not tell.
+-- Where there is no host, none is named that does not tell; and each text names the authorizer.
 use Rattle.std.proofs.Common.{ℕ, List, [], ◌∷◌, All}
 use Rattle.std.proofs.lemmas.List.Elements.{All-cons, All-nil}
-use Rattle.eng_value.specs.HostMeanings.{Aggregate, CollationAt, HostName, Module, NamesTold, Scalar, Tells, no_hosts}
+use Rattle.eng_value.specs.HostMeanings.{Aggregate, CollationAt, HostName, IsTold, Module, NamesTold, Scalar, Tells, no_hosts}
 use Rattle.eng_value.specs.declared.value.Value.{Value}
 use Rattle.sql_meaning.specs.Named.{TextIsTold, named_by}
-use Rattle.sql_meaning.specs.Statement.{text_bound}
-use Rattle.sql_meaning.specs.World.{State, context}
+use Rattle.sql_meaning.specs.Statement.{bound_for}
+use Rattle.sql_meaning.specs.World.{Context, State, context}
 
 tells : (name : HostName) → Tells no_hosts name
 tells (Scalar name) = tt
@@ -22,4 +22,8 @@ without_hosts names = record { each = all_tell names; authorizer = tt }
 
 pub text_is_told : (state : State) (params : List Value) (text : List ℕ) → TextIsTold (context no_hosts state params) text
 unfolding TextIsTold
-text_is_told state params text = without_hosts (named_by (text_bound state.world text))
+text_is_told state params text = without_hosts (named_by (bound_for (context no_hosts state params) text))
+
+pub authorizer_told : (ctx : Context) (text : List ℕ) → TextIsTold ctx text → IsTold ctx.hosts.authorizer
+unfolding TextIsTold
+authorizer_told ctx text told = told.authorizer

@@ -1,11 +1,9 @@
 -- States stay valid.
-use Rattle.std.proofs.Common.{◌≡◌, ◌≢◌, flat_map, slice_get, suc, ℕ, ◌+◌, List, [], ◌∷◌, ◌++◌, Bool, true, false, ◌&&◌, length, map, not, position, Option, Some, None, Result, Ok, Err, ℤ, nat_eq, is_some, if◌then◌else◌, All, AllPairs, drop, refl, sym, ap, ◌∙◌, subst}
+use Rattle.std.proofs.Common.{◌≡◌, ◌≢◌, flat_map, slice_get, suc, ℕ, ◌+◌, List, [], ◌∷◌, ◌++◌, Bool, true, false, ◌&&◌, length, not, Option, Some, None, Result, Ok, Err, ℤ, is_some, if◌then◌else◌, All, AllPairs, drop, refl, sym, ap, ◌∙◌, subst}
 use Rattle.std.specs.Bool.{⊤}
 use Rattle.std.specs.Option.{option_map}
 use Rattle.std.proofs.Math.Seq.{drop-append_seam}
-use Rattle.std.proofs.lemmas.List.{length-map}
 use Rattle.std.proofs.lemmas.List.Elements.{All-drop, All-filter, All-head, All-push, All-tail}
-use Rattle.std.proofs.lemmas.List.FromFn.{length-map-range_with_len}
 use Rattle.std.proofs.lemmas.List.Kept.{AllPairs-filter}
 use Rattle.std.proofs.lemmas.List.Quantifiers.{all_pairs_push}
 use Rattle.eng_entry.specs.Entries.{Entries, entry_named}
@@ -16,6 +14,7 @@ use Rattle.eng_number.specs.Numbers.{fits_integer}
 use Rattle.eng_value.specs.Causes.{CauseSet}
 use Rattle.eng_value.specs.StoredRows.{StoredRow}
 use Rattle.eng_value.specs.Written.{Written}
+use Rattle.eng_value.specs.declared.authorizing.Action.{Action}
 use Rattle.eng_value.specs.declared.cause.Cause.{Cause}
 use Rattle.eng_value.specs.declared.cause.Cause.TheVariants as cause
 use Rattle.eng_value.specs.declared.value.Value.{Value}
@@ -38,8 +37,9 @@ use Rattle.sql_meaning.specs.Valid.{IsRowOf, IsTable, IsValid, IsWorld}
 use Rattle.sql_meaning.specs.World.{Context, State, World, rows_at, tables_in}
 use Rattle.sql_meaning.proofs.EffectLaws.{PutsRows, rows_put-all}
 use Rattle.sql_meaning.proofs.TableLaws.{IsDeclared, among-others, among-push, found-all, found-own, is_other, none-called, none-named, numbers-more, tables-emptied, tables-more, tables-with, with_entry-names}
-use Rattle.sql_meaning.specs.Statement.{all_put, answer_bound, around, begun, bound_outcome, causes_of, given_of, limit_kind, outcome_of, put_source, rows_put, source_of, statement_bound, text_bound, text_outcome, with_created, without_table, written}
+use Rattle.sql_meaning.specs.Statement.{all_put, answer_bound, around, begun, bound_outcome, causes_of, given_of, limit_kind, outcome_of, outcome_where, put_source, rows_put, source_of, statement_bound, text_bound, text_outcome, with_created, without_table, written}
 use Rattle.sql_meaning.specs.Built.{is_built}
+use Rattle.sql_meaning.specs.Permits.{Asking, Denies, Ignores, Permit, asked_by, permitted}
 use Rattle.sql_meaning.specs.Declarations.{columns_created, columns_kept, columns_of, table_called, table_of, table_with, tables_among, tables_of}
 use Rattle.sql_meaning.specs.Running.{command_of, creation_of, entry_with, first_part, found_table, from_of, if_built, is_plain_core, part_of, places_of, put_into, put_of, query_of, removal_of, rows_of_part, runnable_of, table_of_source}
 use Rattle.sql_meaning.specs.Runnables.{FromItem}
@@ -56,6 +56,7 @@ use Rattle.bound_tree.specs.declared.statements.BoundStatement.{BoundStatement}
 use Rattle.bound_tree.specs.declared.statements.ThingKind.{ThingKind}
 use Rattle.bound_tree.specs.declared.statements.ThingKind.TheVariants.{ATable}
 use Rattle.bound_tree.specs.declared.statements.ThingKind.TheVariants as thing
+use Rattle.bound_ignored.specs.Marked.{ignoring, marked_command}
 use Rattle.bound_tree.specs.declared.units.BoundPart.{BoundPart}
 use Rattle.bound_tree.specs.declared.units.BoundPart.TheVariants as part
 use Rattle.bound_tree.specs.declared.units.BoundSource.{BoundSource}
@@ -302,27 +303,46 @@ command-fits catalog number text s units (bound.Transacted t) r free e = absurd 
 command-fits catalog number text s units (bound.Pragma name) r free e = subst (FitsIn (tables_of catalog) number) (same-ok DoesNothing r e) tt
 command-fits catalog number text s units (bound.Nothing kind name owner) r free e = subst (FitsIn (tables_of catalog) number) (same-ok DoesNothing r e) tt
 
+-- ---- what is permitted is the statement that was bound, but for what reads NULL
+
+marked-created : (ignored : List Action) (k : BoundCommand) (c : BoundCreation) → marked_command ignored k ≡ bound.Created c → k ≡ bound.Created c
+marked-created ignored (bound.Created d) c is = is
+marked-created ignored (bound.Asked place) c is = is
+marked-created ignored (bound.Written w) c is = absurd (cc)
+marked-created ignored (bound.Removed r) c is = is
+marked-created ignored (bound.Transacted t) c is = is
+marked-created ignored (bound.Pragma name) c is = is
+marked-created ignored (bound.Nothing kind name owner) c is = is
+
+pub permitted-created : (b : BoundStatement) (p : Permit) (allowed : BoundStatement) (c : BoundCreation) → permitted b p ≡ Ok allowed → allowed.command ≡ bound.Created c → b.command ≡ bound.Created c
+permitted-created b (Denies action) allowed c e is = absurd (let bad : Err (cause.Denied action) ≡ Ok allowed = e in cc)
+permitted-created b (Ignores []) allowed c e is = ap (λ (x : BoundStatement). x.command) (same-ok b allowed e) ∙ is
+permitted-created b (Ignores (a ∷ ignored)) allowed c e is =
+    marked-created (a ∷ ignored) b.command c (ap (λ (x : BoundStatement). x.command) (same-ok (ignoring (a ∷ ignored) b) allowed e) ∙ is)
+
 -- over any FROMs and depth, since these are never entered here
-bound-fits : (o : Outer) (number : ℕ) (text : List ℕ) (s : Statement) (b : BoundStatement) (r : Runnable) → command_bound o s.command >>= (λ x. Ok (statement_with s.explain x)) ≡ Ok b → runnable_of (tables_of o.around.catalog) number text s b ≡ Ok r
-    → FitsIn (tables_of o.around.catalog) number r
-bound-fits o number text s b r is e =
-    command-fits o.around.catalog number text s b.units b.command r (λ c here made. command-free o s.command s.explain b c made is here) e
+bound-fits : (o : Outer) (number : ℕ) (text : List ℕ) (s : Statement) (b : BoundStatement) (p : Permit) (allowed : BoundStatement) (r : Runnable) → command_bound o s.command >>= (λ x. Ok (statement_with s.explain x)) ≡ Ok b → permitted b p ≡ Ok allowed
+    → runnable_of (tables_of o.around.catalog) number text s allowed ≡ Ok r → FitsIn (tables_of o.around.catalog) number r
+bound-fits o number text s b p allowed r is may e =
+    command-fits o.around.catalog number text s allowed.units allowed.command r (λ c here made. command-free o s.command s.explain b c made is (permitted-created b p allowed c may here)) e
 
-pub statement-fits : (catalog : Entries) (number : ℕ) (text : List ℕ) (s : Statement) (r : Runnable) → statement_bound catalog number text s ≡ Ok r → FitsIn (tables_of catalog) number r
-statement-fits catalog number text s r e =
+pub statement-fits : (asked : Asking) (catalog : Entries) (number : ℕ) (text : List ℕ) (s : Statement) (r : Runnable) → statement_bound asked catalog number text s ≡ Ok r → FitsIn (tables_of catalog) number r
+statement-fits asked catalog number text s r e =
     let a = around catalog in
-    let built = if_built-ok (is_built text s) (bound_of a text s >>= runnable_of (tables_of catalog) number text s) r e in
-    let made = then-ok (bound_of a text s) (runnable_of (tables_of catalog) number text s) r built.1 in
-    bound-fits (outer_at a (full_depth a) text [] in_statement) number text s made.0 r made.1 made.2
+    let run : BoundStatement → Result Runnable Cause = runnable_of (tables_of catalog) number text s in
+    let built = if_built-ok (is_built text s) (bound_of a text s >>= λ b. permitted b (asked b) >>= run) r e in
+    let made = then-ok (bound_of a text s) (λ b. permitted b (asked b) >>= run) r built.1 in
+    let may = then-ok (permitted made.0 (asked made.0)) run r made.2 in
+    bound-fits (outer_at a (full_depth a) text [] in_statement) number text s made.0 (asked made.0) may.0 r made.1 may.1 may.2
 
-answer-fits : (w : World) (before : ℕ) (text : List ℕ) (x : Answer Statement) (b : Runnable) → answer_bound w before text x ≡ Ok b → FitsIn (tables_of w.catalog) (length w.tables) b
-answer-fits w before text (Tree s) b e = statement-fits w.catalog (length w.tables) (body_of text) s b e
-answer-fits w before text (Syntax rest) b e = absurd (let bad : Err (cause.Syntax (before + place (length text) rest)) ≡ Ok b = e in cc)
-answer-fits w before text (TooMuch l rest) b e = absurd (let bad : Err (cause.Limit (limit_kind l)) ≡ Ok b = e in cc)
+answer-fits : (asked : Asking) (w : World) (before : ℕ) (text : List ℕ) (x : Answer Statement) (b : Runnable) → answer_bound asked w before text x ≡ Ok b → FitsIn (tables_of w.catalog) (length w.tables) b
+answer-fits asked w before text (Tree s) b e = statement-fits asked w.catalog (length w.tables) (body_of text) s b e
+answer-fits asked w before text (Syntax rest) b e = absurd (let bad : Err (cause.Syntax (before + place (length text) rest)) ≡ Ok b = e in cc)
+answer-fits asked w before text (TooMuch l rest) b e = absurd (let bad : Err (cause.Limit (limit_kind l)) ≡ Ok b = e in cc)
 
-pub text-fits : (w : World) (text : List ℕ) (b : Runnable) → text_bound w text ≡ Ok b → FitsIn (tables_of w.catalog) (length w.tables) b
-text-fits w text b e =
-    let before = start_of (tokens_of text) 0 in answer-fits w before (drop before text) (answer_of (drop before text)) b e
+pub text-fits : (asked : Asking) (w : World) (text : List ℕ) (b : Runnable) → text_bound asked w text ≡ Ok b → FitsIn (tables_of w.catalog) (length w.tables) b
+text-fits asked w text b e =
+    let before = start_of (tokens_of text) 0 in answer-fits asked w before (drop before text) (answer_of (drop before text)) b e
 
 -- ---- states
 
@@ -426,5 +446,8 @@ bound-valid : (ctx : Context) (r : Result Runnable Cause) → IsValid ctx.state 
 bound-valid ctx (Ok b) valid fits = outcome-valid ctx b valid (fits b refl)
 bound-valid ctx (Err why) valid fits = valid
 
+pub outcome_where-valid : (asked : Asking) (ctx : Context) (text : List ℕ) → IsValid ctx.state → IsValid (outcome_where asked ctx text).next
+outcome_where-valid asked ctx text valid = bound-valid ctx (text_bound asked ctx.state.world text) valid (text-fits asked ctx.state.world text)
+
 pub text_outcome-valid : (ctx : Context) (text : List ℕ) → IsValid ctx.state → IsValid (text_outcome ctx text).next
-text_outcome-valid ctx text valid = bound-valid ctx (text_bound ctx.state.world text) valid (text-fits ctx.state.world text)
+text_outcome-valid ctx text valid = outcome_where-valid (asked_by ctx.hosts.authorizer) ctx text valid

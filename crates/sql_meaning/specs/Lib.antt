@@ -7,6 +7,7 @@ pub mod Built
 pub mod Expression
 pub mod Clauses
 pub mod ExpressionExamples
+pub mod Permits
 pub mod Runnables
 pub mod Running
 pub mod Statement

@@ -11,7 +11,7 @@ use Rattle.eng_value.specs.declared.operators.Sides.{Sides}
 use Rattle.bound_tree.specs.Exprs as e
 use Rattle.bound_tree.specs.Exprs.{BoundArms, BoundExpr, BoundExprs, BoundMatches, NoExprs, AnExpr, NoArms, AnArm, NoMatches, AMatch}
 use Rattle.sql_meaning.specs.Runnables.{Runnable, Creates, DoesNothing, Drops, Puts, Queries, Query, Shows}
-use Rattle.sql_meaning.specs.Statement.{text_bound}
+use Rattle.sql_meaning.specs.Statement.{bound_for}
 use Rattle.sql_meaning.specs.World.{Context}
 
 abbrev pub Names : Type 0
@@ -84,4 +84,4 @@ named_by (Err why) = []
 
 -- each host that a text names, where it is bound, tells what it means
 unfoldable pub TextIsTold : Context → List ℕ → Type 0
-TextIsTold ctx text = NamesTold ctx.hosts (named_by (text_bound ctx.state.world text))
+TextIsTold ctx text = NamesTold ctx.hosts (named_by (bound_for ctx text))

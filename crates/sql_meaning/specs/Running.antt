@@ -1,6 +1,6 @@
 -- What runs of a statement whose names are bound: a query over one table or none, rows of values, an INSERT of such rows, CREATE TABLE, DROP TABLE, and
 -- what does nothing. Anything else is not built.
-use Rattle.std.specs.Prelude.{ℕ, nat_eq, Bool, true, false, not, ◌&&◌, List, [], ◌∷◌, length, Option, Some, None, Result, Ok, Err, is_some, slice_get, if◌then◌else◌}
+use Rattle.std.specs.Prelude.{ℕ, nat_eq, Bool, true, false, not, ◌&&◌, List, [], ◌∷◌, length, Option, Some, None, Result, Ok, Err, is_some, slice_get}
 use Rattle.std.specs.List.{flat_map}
 use Rattle.eng_entry.specs.declared.entry.Entry.{Entry}
 use Rattle.eng_entry.specs.declared.entry.EntryKind.TheVariants as entry_kind
@@ -13,7 +13,6 @@ use Rattle.bound_tree.specs.Exprs.{BoundExpr}
 use Rattle.bound_tree.specs.declared.statements.BoundCommand.{BoundCommand}
 use Rattle.bound_tree.specs.declared.statements.BoundCommand.TheVariants as bound
 use Rattle.bound_tree.specs.declared.statements.BoundCreation.{BoundCreation}
-use Rattle.bound_tree.specs.declared.statements.BoundRemoval.{BoundRemoval}
 use Rattle.bound_tree.specs.declared.statements.BoundStatement.{BoundStatement}
 use Rattle.bound_tree.specs.declared.statements.ThingKind.{ThingKind}
 use Rattle.bound_tree.specs.declared.statements.ThingKind.TheVariants as thing
@@ -55,7 +54,7 @@ table_of_source tables other = not_built
 
 abbrev pub from_of : List TableEntry → List BoundItem → Result (List FromItem) Cause
 from_of tables [] = Ok []
-from_of tables (i ∷ []) = if_built (nat_eq (length i.ignored) 0) (table_of_source tables i.source >>= λ t. Ok (record { table = t; width = length i.columns; ignored = [] } ∷ []))
+from_of tables (i ∷ []) = table_of_source tables i.source >>= λ t. Ok (record { table = t; width = length i.columns; ignored = i.ignored } ∷ [])
 from_of tables (i ∷ other ∷ items) = not_built
 
 abbrev pub is_plain_core : BoundCore → Bool

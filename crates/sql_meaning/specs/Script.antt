@@ -1,7 +1,8 @@
 -- What a script writes, and its status.
-use Rattle.std.specs.Prelude.{◌≡◌, ◌≤◌, ◌<◌, ◌+◌, ℕ, List, [], ◌∷◌, ◌++◌, Bool, true, false, ◌&&◌, ◌||◌, if◌then◌else◌, map, sum_by, is_some, Some, None, codes}
+use Rattle.std.specs.Prelude.{◌≡◌, ◌≤◌, ◌<◌, ◌+◌, ℕ, List, [], ◌∷◌, ◌++◌, Bool, true, false, ◌&&◌, ◌||◌, if◌then◌else◌, map, sum_by, is_some, ℤ, pos, Some, None, codes}
 use Rattle.std.specs.List.{flat_map, list_any, join_with_byte}
 use Rattle.std.specs.Fmt.{decimal, signed_decimal}
+use Rattle.std.specs.Str.{bytes_eq}
 use Rattle.std.specs.declared.option.Option.{Option}
 use Rattle.eng_value.specs.CauseText.{code_of, text_of}
 use Rattle.eng_value.specs.HostMeanings.{HostMeanings}
@@ -48,10 +49,26 @@ pub data Comes (budget before : ℕ) (ctx : Context) (text : List ℕ) : Came �
   cut_off : (rows front rest : List (List Value)) (ran : ℕ) → MayGive (text_outcome ctx text) rows → front ++ rest ≡ rows
       → before + ran ≡ budget → budget < instruction_bound ctx text → Comes budget before ctx text (interrupted ctx.state budget front ran)
 
--- a statement that names only hosts that tell comes to something; so far each dot line is unknown
+-- ---- dot lines
+
+-- the number that a dot line asks for: how many rows the last write changed, or the rowid of the last row that was put
+abbrev pub number_asked : State → List ℕ → Option ℤ
+number_asked state line = if bytes_eq line (codes ".changes") then Some (pos state.changes) else if bytes_eq line (codes ".rowid") then Some state.last_rowid else None
+
+-- it is printed as a row; any other dot line is unknown
+abbrev pub row_of_number : State → Option ℤ → Came
+row_of_number state None = failed state UnknownDotLine
+row_of_number state (Some n) = record { failure = None; given = (Integer n ∷ []) ∷ []; ran = 0; next = state }
+
+abbrev pub dot_line_came : State → List ℕ → Came
+dot_line_came state line = row_of_number state (number_asked state line)
+
+-- ---- any part
+
+-- a statement that names only hosts that tell comes to something
 abbrev pub PartComes : HostMeanings → ℕ → State → Part → Came → Type 0
 PartComes hosts budget state (Statement text) o = TextIsTold (context hosts state []) text → Comes budget 0 (context hosts state []) text o
-PartComes hosts budget state (DotLine line) o = o ≡ failed state UnknownDotLine
+PartComes hosts budget state (DotLine line) o = o ≡ dot_line_came state line
 PartComes hosts budget state (BadCharacter place) o = o ≡ failed state (NotUtf8 place)
 
 -- ---- what a script comes to

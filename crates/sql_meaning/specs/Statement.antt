@@ -1,12 +1,10 @@
 -- The outcome of a statement.
-use Rattle.std.specs.Prelude.{◌≡◌, ⊤, ℕ, suc, nat_eq, Bool, true, false, ◌&&◌, List, [], ◌∷◌, ◌++◌, length, map, fold, ◌+◌, ◌-◌, ℤ, Option, Some, None, Result, Ok, Err, is_some, option_map, position, if◌then◌else◌, codes, drop, slice_get, slice_index_or, slice_set, take}
+use Rattle.std.specs.Prelude.{◌≡◌, ⊤, ℕ, Bool, true, false, List, [], ◌∷◌, ◌++◌, length, map, fold, ◌+◌, ℤ, Option, Some, None, Result, Ok, Err, option_map, drop, slice_index_or, slice_set}
 use Rattle.std.specs.FinSet as set
-use Rattle.std.specs.List.{flat_map, range_with_len}
+use Rattle.std.specs.List.{flat_map}
 use Rattle.std.specs.Option.{option_to_list}
 use Rattle.eng_entry.specs.Entries.{Entries, with_entry, without_name}
-use Rattle.eng_entry.specs.Names.{is_same_name}
 use Rattle.eng_entry.specs.declared.entry.Entry.{Entry}
-use Rattle.eng_entry.specs.declared.entry.EntryKind.TheVariants as entry_kind
 use Rattle.eng_entry.specs.declared.entry.Space.TheVariants as space
 use Rattle.eng_value.specs.Applied.{merged}
 use Rattle.eng_value.specs.Casts.{store_as}
@@ -19,7 +17,6 @@ use Rattle.eng_value.specs.declared.cause.Cause.{Cause}
 use Rattle.eng_value.specs.declared.cause.Cause.TheVariants as cause
 use Rattle.eng_value.specs.declared.cause.LimitKind.{LimitKind}
 use Rattle.eng_value.specs.declared.cause.LimitKind.TheVariants as limit
-use Rattle.eng_value.specs.declared.cause.NameKind.TheVariants as name_kind
 use Rattle.eng_value.specs.declared.out.Out.{Out}
 use Rattle.eng_value.specs.declared.out.Out.TheVariants.{Good, Bad}
 use Rattle.eng_value.specs.declared.truth.Truth.{Truth}
@@ -28,30 +25,10 @@ use Rattle.eng_value.specs.declared.value.Value.{Value}
 use Rattle.eng_value.specs.declared.value.Value.TheVariants as value
 use Rattle.sql_grammar.specs.declared.counts.Limit.{Limit}
 use Rattle.sql_grammar.specs.declared.counts.Limit.TheVariants as grammar_limit
-use Rattle.sql_grammar.specs.Answers.{Answer, Tree, Syntax, TooMuch, place, whole}
-use Rattle.sql_grammar.specs.Marks.{start}
-use Rattle.sql_grammar.specs.StatementTexts.{read_statement}
+use Rattle.sql_grammar.specs.Answers.{Answer, Tree, Syntax, TooMuch, place}
 use Rattle.sql_lex.specs.Cutting.{start_of}
-use Rattle.sql_lex.specs.Tokens.{slice_of, tokens_of}
-use Rattle.sql_tree.specs.declared.expr.Expr.{Expr}
-use Rattle.sql_tree.specs.declared.statement.Command.{Command}
-use Rattle.sql_tree.specs.declared.statement.Command.TheVariants as command
-use Rattle.sql_tree.specs.declared.statement.Create.{Create}
-use Rattle.sql_tree.specs.declared.statement.Insert.{Insert}
-use Rattle.sql_tree.specs.declared.statement.InsertSource.{InsertSource}
-use Rattle.sql_tree.specs.declared.statement.InsertSource.TheVariants as source
-use Rattle.sql_tree.specs.declared.statement.Pragma.{Pragma}
-use Rattle.sql_tree.specs.declared.statement.Remove.{Remove}
-use Rattle.sql_tree.specs.declared.statement.RowCommand.{RowCommand}
-use Rattle.sql_tree.specs.declared.statement.RowCommand.TheVariants as rows_by
-use Rattle.sql_tree.specs.declared.expr.Expr.TheOpen.{QueryPart-F, ResultColumn-F, Source-F}
-use Rattle.sql_tree.specs.declared.query.FromItem.{FromItem as SyntaxItem}
-use Rattle.sql_tree.specs.declared.query.ResultColumn.{ResultColumn}
+use Rattle.sql_lex.specs.Tokens.{tokens_of}
 use Rattle.sql_tree.specs.declared.statement.Statement.{Statement}
-use Rattle.sql_tree.specs.Kinds.{same_kind}
-use Rattle.sql_tree.specs.Layers.{ItemLayer, PartLayer, QueryLayer, ResultLayer, SelectLayer, SourceLayer, of_item, of_part, of_query, of_result, of_select, of_source}
-use Rattle.sql_tree.specs.declared.token.Token.{Token}
-use Rattle.sql_tree.specs.declared.token.TokenKind.TheVariants as kind
 use Rattle.bound_tree.specs.Exprs.{BoundExpr}
 use Rattle.sql_meaning.specs.declared.column.Column.{Column}
 use Rattle.sql_meaning.specs.declared.column.TableEntry.{TableEntry}
@@ -59,6 +36,7 @@ use Rattle.sql_words.specs.Bodies.{answer_of, body_of}
 use Rattle.sql_words.specs.Refusals.{◌>>=◌}
 use Rattle.sql_bound.specs.Scopes.{Around, Facts}
 use Rattle.sql_bound.specs.Statements.{bound_of}
+use Rattle.sql_meaning.specs.Permits.{Asking, asked_by, permitted}
 use Rattle.sql_meaning.specs.Running.{if_built, runnable_of}
 use Rattle.sql_meaning.specs.Runnables.{Runnable, Creates, DoesNothing, Drops, FromItem, Put, Puts, Queries, Query, Shows}
 use Rattle.sql_meaning.specs.Declarations.{tables_of}
@@ -290,10 +268,10 @@ nobody_tells = record {
 abbrev pub around : Entries → Around
 around catalog = record { catalog = catalog; facts = nobody_tells }
 
--- what is not built is refused before all else
-abbrev pub statement_bound : Entries → ℕ → List ℕ → Statement → Result Runnable Cause
-statement_bound catalog number text s =
-    if_built (is_built text s) (bound_of (around catalog) text s >>= runnable_of (tables_of catalog) number text s)
+-- what is not built is refused before all else; then names are bound, and then what is denied is refused
+abbrev pub statement_bound : Asking → Entries → ℕ → List ℕ → Statement → Result Runnable Cause
+statement_bound asked catalog number text s =
+    if_built (is_built text s) (bound_of (around catalog) text s >>= λ b. permitted b (asked b) >>= runnable_of (tables_of catalog) number text s)
 
 abbrev pub limit_kind : Limit → LimitKind
 limit_kind grammar_limit.Nestings = limit.Nestings
@@ -301,25 +279,33 @@ limit_kind grammar_limit.Operators = limit.Operators
 limit_kind grammar_limit.Parts = limit.Parts
 
 -- what a text with so many bytes in front of its first token is bound to; where the grammar derives nothing, or not within its limits, that is why
-abbrev pub answer_bound : World → ℕ → List ℕ → Answer Statement → Result Runnable Cause
-answer_bound w before text (Tree s) = statement_bound w.catalog (length w.tables) (body_of text) s
-answer_bound w before text (Syntax rest) = Err (cause.Syntax (before + place (length text) rest))
-answer_bound w before text (TooMuch l rest) = Err (cause.Limit (limit_kind l))
+abbrev pub answer_bound : Asking → World → ℕ → List ℕ → Answer Statement → Result Runnable Cause
+answer_bound asked w before text (Tree s) = statement_bound asked w.catalog (length w.tables) (body_of text) s
+answer_bound asked w before text (Syntax rest) = Err (cause.Syntax (before + place (length text) rest))
+answer_bound asked w before text (TooMuch l rest) = Err (cause.Limit (limit_kind l))
 
 -- what a text is bound to whose first token starts at a byte
-abbrev pub text_bound_from : World → ℕ → List ℕ → Result Runnable Cause
-text_bound_from w before text = answer_bound w before (drop before text) (answer_of (drop before text))
+abbrev pub text_bound_from : Asking → World → ℕ → List ℕ → Result Runnable Cause
+text_bound_from asked w before text = answer_bound asked w before (drop before text) (answer_of (drop before text))
 
-abbrev pub text_bound : World → List ℕ → Result Runnable Cause
-text_bound w text = text_bound_from w (start_of (tokens_of text) 0) text
+abbrev pub text_bound : Asking → World → List ℕ → Result Runnable Cause
+text_bound asked w text = text_bound_from asked w (start_of (tokens_of text) 0) text
 
 abbrev pub bound_outcome : Context → Result Runnable Cause → Outcome
 bound_outcome ctx (Ok b) = outcome_of ctx b
 bound_outcome ctx (Err why) = refused ctx.state (only why)
 
--- the outcome of a statement's text
+-- what a text is bound to for which the authorizer of these hosts is asked
+abbrev pub bound_for : Context → List ℕ → Result Runnable Cause
+bound_for ctx text = text_bound (asked_by ctx.hosts.authorizer) ctx.state.world text
+
+-- the outcome of a statement's text, where this is said of what statements do
+abbrev pub outcome_where : Asking → Context → List ℕ → Outcome
+outcome_where asked ctx text = bound_outcome ctx (text_bound asked ctx.state.world text)
+
+-- and where the authorizer is asked
 abbrev pub text_outcome : Context → List ℕ → Outcome
-text_outcome ctx text = bound_outcome ctx (text_bound ctx.state.world text)
+text_outcome ctx text = outcome_where (asked_by ctx.hosts.authorizer) ctx text
 
 -- the rows that it may give: its own, or any that show a plan
 abbrev pub UnlessPlan : Bool → Type 0 → Type 0

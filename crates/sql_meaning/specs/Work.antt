@@ -8,6 +8,7 @@ use Rattle.sql_lex.specs.Tokens.{tokens_of}
 use Rattle.sql_meaning.specs.declared.column.TableEntry.{TableEntry}
 use Rattle.sql_meaning.specs.Runnables.{Runnable, Creates, DoesNothing, Drops, FromItem, Put, Puts, Queries, Shows}
 use Rattle.bound_size.specs.Sizes.{all_nodes}
+use Rattle.sql_meaning.specs.Permits.{Asking, asked_by}
 use Rattle.sql_meaning.specs.Statement.{begun, causes_of, given_of, item_rows, row_put, source_of, text_bound}
 use Rattle.sql_meaning.specs.World.{Context, State}
 
@@ -76,6 +77,10 @@ abbrev pub bound_within : Context → ℕ → Result Runnable Cause → ℕ
 bound_within ctx tokens (Ok b) = 256 * (tokens + opened_size b + repeated_size tokens b) * (work_of ctx b + 1)
 bound_within ctx tokens (Err why) = 0
 
--- the most instructions that a text runs
+-- the most instructions that a text runs, where this is said of what statements do
+abbrev pub bound_where : Asking → Context → List ℕ → ℕ
+bound_where asked ctx text = bound_within ctx (length (tokens_of text)) (text_bound asked ctx.state.world text)
+
+-- and where the authorizer is asked
 abbrev pub instruction_bound : Context → List ℕ → ℕ
-instruction_bound ctx text = bound_within ctx (length (tokens_of text)) (text_bound ctx.state.world text)
+instruction_bound ctx text = bound_where (asked_by ctx.hosts.authorizer) ctx text

@@ -13,7 +13,7 @@ ghost use Rattle.sql_meaning.specs.declared.column.TableEntry.{TableEntry};
 ghost use Rattle.sql_meaning.specs.Effects.{AddsRows, AddsTable, DropsTable, IsFull};
 ghost use Rattle.sql_meaning.specs.Expression.{value_of};
 ghost use Rattle.sql_meaning.specs.Runnables.{Creates, Drops, Put, Puts, Queries, Query, Shows};
-ghost use Rattle.sql_meaning.specs.Statement.{Row, item_of, items_at, row_put, stored, text_bound, text_outcome, values_placed};
+ghost use Rattle.sql_meaning.specs.Statement.{Row, bound_for, item_of, items_at, row_put, stored, text_outcome, values_placed};
 ghost use Rattle.sql_meaning.specs.Valid.{AreRowsOf, IsValid};
 ghost use Rattle.sql_meaning.specs.World.{Context, new_state, rows_at};
 
@@ -28,16 +28,16 @@ pub fn states_stay_valid()
 /// touches another table; queries change nothing.
 pub fn statements_do_what_they_say()
     ensures inserts { (ctx : Context) (text : List ℕ) (p : Put)
-        → IsValid ctx.state → text_bound ctx.state.world text ≡ Ok (Puts p) → (text_outcome ctx text).refusal ≡ None
+        → IsValid ctx.state → bound_for ctx text ≡ Ok (Puts p) → (text_outcome ctx text).refusal ≡ None
         → AddsRows ctx.state p.table (length p.rows) (text_outcome ctx text) }
     ensures creates { (ctx : Context) (text : List ℕ) (e : Entry)
-        → IsValid ctx.state → text_bound ctx.state.world text ≡ Ok (Creates e) → AddsTable ctx.state e (text_outcome ctx text) }
+        → IsValid ctx.state → bound_for ctx text ≡ Ok (Creates e) → AddsTable ctx.state e (text_outcome ctx text) }
     ensures drops { (ctx : Context) (text : List ℕ) (t : TableEntry)
-        → IsValid ctx.state → text_bound ctx.state.world text ≡ Ok (Drops t) → DropsTable ctx.state t (text_outcome ctx text) }
+        → IsValid ctx.state → bound_for ctx text ≡ Ok (Drops t) → DropsTable ctx.state t (text_outcome ctx text) }
     ensures selects { (ctx : Context) (text : List ℕ) (q : Query)
-        → text_bound ctx.state.world text ≡ Ok (Queries q) → (text_outcome ctx text).next ≡ ctx.state }
+        → bound_for ctx text ≡ Ok (Queries q) → (text_outcome ctx text).next ≡ ctx.state }
     ensures shows { (ctx : Context) (text : List ℕ) (rows : List (List BoundExpr))
-        → text_bound ctx.state.world text ≡ Ok (Shows rows) → (text_outcome ctx text).next ≡ ctx.state }
+        → bound_for ctx text ≡ Ok (Shows rows) → (text_outcome ctx text).next ≡ ctx.state }
 {}
 
 /// A row whose values can be stored is refused exactly where the largest rowid is taken, as a full table and for nothing else.

@@ -1,7 +1,7 @@
-use Rattle.std.proofs.Common.{◌≡◌, ◌≤◌, length, arith, Some, ap, map, subst, sym, ◌∙◌}
+use Rattle.std.proofs.Common.{◌≤◌, length, arith, Some, ap, map, sym, ◌∙◌}
 use Rattle.std.proofs.lemmas.Grind.{common_steps}
 use Rattle.eng_value.specs.declared.limits.TheConstants.{MAX_COLUMNS}
-use Rattle.sql_meaning.specs.Declarations.{column_of, columns_of}
+use Rattle.sql_meaning.specs.Declarations.{column_of}
 use Rattle.sql_meaning.specs.Running.{entry_with}
 use Rattle.sql_meaning.specs.Runnables.{Creates}
 use Rattle.bind_stmt.proofs.Steps.{columns-are, created-is}

@@ -1,6 +1,3 @@
-use Rattle.std.proofs.Common.{◌≡◌, refl, ap, sym, subst}
-use Rattle.sql_meaning.specs.declared.column.TableEntry.{TableEntry}
-use Rattle.sql_meaning.specs.Running.{put_into}
 use Rattle.sql_meaning.specs.Runnables.{Puts}
 use Rattle.bind_stmt.proofs.Steps.{put-is}
 use Rattle.bind_stmt.proofs.putting.put.Goals as goal

@@ -1,4 +1,4 @@
-use Rattle.std.proofs.Common.{◌≡◌, Ok, ap, refl, ◌∙◌}
+use Rattle.std.proofs.Common.{Ok, ap, refl, ◌∙◌}
 use Rattle.bound_tree.specs.declared.units.BoundPart.TheVariants as part
 use Rattle.sql_meaning.specs.Runnables.{Shows}
 use Rattle.bind_stmt.proofs.Steps.{query-is}

@@ -1,4 +1,4 @@
-use Rattle.std.proofs.Common.{◌≡◌, subst, sym}
+use Rattle.std.proofs.Common.{subst, sym}
 use Rattle.bind_stmt.specs.Binds.{AnswersBy, IsBound}
 use Rattle.sql_meaning.specs.Running.{command_of}
 use Rattle.bind_stmt.proofs.statement.runnable.Goals as goal

@@ -8,8 +8,8 @@ use Rattle.engine.proofs.NewEntries.{create-readies}
 use Rattle.engine.proofs.preparing.created.Goals as goal
 
 pub returns : goal.returns
-returns c lists entries many binds =
+returns c lists entries many asked binds =
     let size = size_of_statement c.args.statement in
-    let meant = statement_bound entries c.args.number c.args.body.now c.args.statement in
+    let meant = statement_bound asked entries c.args.number c.args.body.now c.args.statement in
     subst (λ (n : NewEntry). Readies size meant (Ok (ready.Create n))) (sym c.in_ok-new.ensures)
-    (create-readies size entries c.args.number c.args.body.now c.args.statement c.args.new c.in_ok-entry.entry binds c.in_ok-entry.ensures.entry c.in_ok-entry.ensures.table)
+    (create-readies size asked entries c.args.number c.args.body.now c.args.statement c.args.new c.in_ok-entry.entry binds c.in_ok-entry.ensures.entry c.in_ok-entry.ensures.table)

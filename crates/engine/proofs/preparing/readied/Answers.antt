@@ -6,7 +6,7 @@ use Rattle.sql_tree.specs.Sizes.{size_of_statement}
 use Rattle.engine.proofs.preparing.readied.Goals as goal
 
 pub returns-in-CreateTable : goal.returns-in-CreateTable
-returns-in-CreateTable c lists entries many binds =
+returns-in-CreateTable c lists entries many asked binds =
     let size = size_of_statement c.args.statement in
-    let meant = statement_bound entries c.args.number c.args.body.now c.args.statement in
-    c.created.ensures lists entries many (subst (λ (b : Bound). BindsTo size meant (Ok b)) c.in-CreateTable.is binds)
+    let meant = statement_bound asked entries c.args.number c.args.body.now c.args.statement in
+    c.created.ensures lists entries many asked (subst (λ (b : Bound). BindsTo size meant (Ok b)) c.in-CreateTable.is binds)

@@ -50,7 +50,7 @@ overflow_add-given g c =
     let i = c.loop-given.invariant in
     let n = c.next.new.budget.ran - c.loop-given.budget.ran in
     let hosts = g.M.Meanings.hosts in
-    let next = c.in_ok-next.ensures.next (all_told c.loop-given.hosts hosts c.loop-given.machine.prog i.told) nobody in
+    let next = c.in_ok-next.ensures.next (all_told hosts c.loop-given.machine.prog i.told) nobody in
     let goes = rw c.if-branch.true at next in
     let some = some_ran (setting hosts nobody c.loop-given.machine.params c.loop-given.machine.prog) n c.loop-given.machine c.next.new.machine c.loop-given.tables.world c.next.new.tables.world goes.0 goes.1 in
     omega arith
@@ -61,7 +61,7 @@ loop-given-preserved g c =
     let h = c.in_ok-next.ensures in
     let n = c.next.new.budget.ran - c.loop-given.budget.ran in
     let hosts = g.M.Meanings.hosts in
-    let next = h.next (all_told c.loop-given.hosts hosts c.loop-given.machine.prog i.told) nobody in
+    let next = h.next (all_told hosts c.loop-given.machine.prog i.told) nobody in
     let goes = rw c.if-branch.true at next in
     let some = some_ran (setting hosts nobody c.loop-given.machine.params c.loop-given.machine.prog) n c.loop-given.machine c.next.new.machine c.loop-given.tables.world c.next.new.tables.world goes.0 goes.1 in
     record {
@@ -87,7 +87,7 @@ loop-given-smaller g c =
     let h = c.in_ok-next.ensures in
     let n = c.next.new.budget.ran - c.loop-given.budget.ran in
     let hosts = g.M.Meanings.hosts in
-    let next = h.next (all_told c.loop-given.hosts hosts c.loop-given.machine.prog i.told) nobody in
+    let next = h.next (all_told hosts c.loop-given.machine.prog i.told) nobody in
     let goes = rw c.if-branch.true at next in
     let some = some_ran (setting hosts nobody c.loop-given.machine.params c.loop-given.machine.prog) n c.loop-given.machine c.next.new.machine c.loop-given.tables.world c.next.new.tables.world goes.0 goes.1 in
     omega (arith, some, h.whole, h.within, i.within)

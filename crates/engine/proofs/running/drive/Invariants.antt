@@ -15,7 +15,7 @@ invariant-loop-given g l = record {
   marks : l.tables.marks ≡ l.initial.tables.marks;
   faults : g.R.RowSink.fault_count l.initial.rows ≤ g.R.RowSink.fault_count l.rows;
   few : l.given ≤ l.budget.ran;
-  told : meant l.hosts ≡ g.M.Meanings.hosts;
+  told : meant (λ b. (goal.Authorizer-dyn g (b.vtable, b.value)).verdicts b.value) l.hosts ≡ g.M.Meanings.hosts;
   along : ProgramIsTold g.M.Meanings.hosts l.initial.machine.prog → (ask : Oracle) → Along g.M.Meanings.hosts ask l.initial.machine l.machine l.initial.tables.world l.tables.world (g.R.RowSink.taken l.initial.rows) (g.R.RowSink.taken l.rows) l.budget.ran l.given;
 }
 

@@ -1,6 +1,6 @@
 use Rattle.std.proofs.Common.{ap, ◌∙◌, arith}
-use Rattle.sql_meaning.proofs.TellingLaws.{text_is_told}
-use Rattle.sql_meaning.proofs.ValidLaws.{text_outcome-valid}
+use Rattle.sql_meaning.proofs.ValidLaws.{outcome_where-valid}
+use Rattle.sql_meaning.specs.Permits.{asked_as}
 use Rattle.sql_meaning.specs.World.{context}
 use Rattle.vm_core.specs.Meant.{meant}
 use Rattle.engine.specs.Held.{state_of}
@@ -49,25 +49,25 @@ returns-clause-bound g c =
 pub returns-clause-kept : goal.returns-clause-kept
 returns-clause-kept g c = elim c.match-run_text.branch [
   | in-Ok w ↦ rw w.result-is tt
-  | in-Err w ↦ rw w.result-is (λ accident. ap (λ s. record { state = s; budget = c.self.inside.budget }) w.in-Err.ensures.kept ∙ c.self.view_is)
+  | in-Err w ↦ rw w.result-is (ap (λ s. record { state = s; budget = c.self.inside.budget }) w.in-Err.ensures.kept ∙ c.self.view_is)
 ]
 
 -- src/connection.rt:69:5
 pub invariant_of-self : goal.invariant_of-self
 invariant_of-self g c =
-    let hosts = meant c.args.hosts.now in
+    let hosts = meant (λ b. (goal.Authorizer-dyn g (b.vtable, b.value)).verdicts b.value) c.args.hosts.now in
     let db = c.self.inside.database in
     let old = state_of db.schema db.tables.world db.changes db.last_rowid in
-    let told = text_is_told old c.args.params.now c.args.sql.now in
+    let said = c.run_text.ensures.said in
     record {
       unmarked = c.run_text.ensures.marks ∙ c.self.invariant.unmarked;
-      valid = carries_valid _ old _ _ _ _ _ _ _ _ c.self.invariant.valid (text_outcome-valid (context hosts old c.args.params.now) c.args.sql.now c.self.invariant.valid) (c.run_text.ensures.carried told);
+      valid = carries_valid _ old _ _ _ _ _ _ _ _ c.self.invariant.valid (outcome_where-valid (asked_as hosts.authorizer said.0) (context hosts old c.args.params.now) c.args.sql.now c.self.invariant.valid) said.1;
     }
 
 pub returns-clause-valid : goal.returns-clause-valid
 returns-clause-valid g c =
-    let hosts = meant c.args.hosts.now in
+    let hosts = meant (λ b. (goal.Authorizer-dyn g (b.vtable, b.value)).verdicts b.value) c.args.hosts.now in
     let db = c.self.inside.database in
     let old = state_of db.schema db.tables.world db.changes db.last_rowid in
-    let told = text_is_told old c.args.params.now c.args.sql.now in
-    carries_valid _ old _ _ _ _ _ _ _ _ c.self.invariant.valid (text_outcome-valid (context hosts old c.args.params.now) c.args.sql.now c.self.invariant.valid) (c.run_text.ensures.carried told)
+    let said = c.run_text.ensures.said in
+    carries_valid _ old _ _ _ _ _ _ _ _ c.self.invariant.valid (outcome_where-valid (asked_as hosts.authorizer said.0) (context hosts old c.args.params.now) c.args.sql.now c.self.invariant.valid) said.1

@@ -1,0 +1,215 @@
+-- What runs of a statement of which something is ignored is what would run of it else, but for what its items ignore.
+use Rattle.std.proofs.Common.{◌≡◌, ◌≤◌, ◌+◌, ◌*◌, ℕ, nat_eq, Bool, true, false, not, ◌&&◌, List, [], ◌∷◌, length, map, is_some, option_map, Option, Some, None, Result, Ok, Err, slice_get, flat_map, refl, sym, ap, subst, ◌∙◌}
+use Rattle.std.proofs.lemmas.List.{length-map}
+use Rattle.std.proofs.lemmas.Option.{slice_get-map}
+use Rattle.eng_value.specs.declared.authorizing.Action.{Action}
+use Rattle.eng_value.specs.declared.cause.Cause.{Cause}
+use Rattle.sql_tree.specs.declared.statement.Statement.{Statement}
+use Rattle.bound_tree.specs.Conditions.{conditions_of}
+use Rattle.bound_tree.specs.declared.statements.BoundCommand.{BoundCommand}
+use Rattle.bound_tree.specs.declared.statements.BoundCommand.TheVariants as made
+use Rattle.bound_tree.specs.declared.statements.BoundStatement.{BoundStatement}
+use Rattle.bound_tree.specs.declared.units.BoundCore.{BoundCore}
+use Rattle.bound_tree.specs.declared.units.BoundItem.{BoundItem}
+use Rattle.bound_tree.specs.declared.units.BoundPart.{BoundPart}
+use Rattle.bound_tree.specs.declared.units.BoundPart.TheVariants as part
+use Rattle.bound_tree.specs.declared.units.BoundQuery.{BoundQuery}
+use Rattle.bound_tree.specs.declared.units.BoundUnit.{BoundUnit}
+use Rattle.bound_tree.specs.declared.units.BoundUnit.TheVariants as unit
+use Rattle.bound_tree.specs.declared.writes.BoundChange.{BoundChange}
+use Rattle.bound_tree.specs.declared.writes.BoundChange.TheVariants as change
+use Rattle.bound_tree.specs.declared.writes.BoundWrite.{BoundWrite}
+use Rattle.bound_actions.specs.Froms.{table_of}
+use Rattle.bound_ignored.specs.Marked.{ignoring, marked, marked_as, marked_command, marked_compound, marked_core, marked_part, marked_unit, marked_write}
+use Rattle.sql_meaning.specs.declared.column.TableEntry.{TableEntry}
+use Rattle.sql_meaning.specs.Running.{command_of, first_part, from_of, if_built, is_plain_core, is_plain_query, part_of, places_of, put_into, put_of, query_of, rows_of_part, runnable_of, select_of, table_of_source}
+use Rattle.sql_meaning.specs.Runnables.{Creates, DoesNothing, Drops, FromItem, Puts, Queries, Runnable, Shows}
+use Rattle.sql_meaning.proofs.ValidLaws.{same-ok}
+use Rattle.sql_words.specs.Refusals.{◌>>=◌}
+use Rattle.bind_stmt.specs.Small.{IsSmall, columns_in, from_size}
+
+-- ---- without what is ignored
+
+abbrev bare_item : FromItem → FromItem
+bare_item i = record i { ignored = [] }
+
+abbrev bare_from : List FromItem → List FromItem
+bare_from from = map bare_item from
+
+abbrev bare : Runnable → Runnable
+bare (Queries q) = Queries (record q { from = bare_from q.from })
+bare (Creates e) = Creates e
+bare (Drops t) = Drops t
+bare (Puts p) = Puts p
+bare (Shows rows) = Shows rows
+bare DoesNothing = DoesNothing
+
+abbrev bared : {A : Type 0} → (A → A) → Result A Cause → Result A Cause
+bared f (Ok a) = Ok (f a)
+bared f (Err why) = Err why
+
+-- ---- FROM
+
+module _ (tables : List TableEntry) (ignored : List Action) (within : Option (List ℕ)) where
+  item-bare : (i : BoundItem) (r : Result TableEntry Cause) (p q : List (Option ℕ))
+      → bared bare_from (r >>= λ t. Ok (record { table = t; width = length i.columns; ignored = p } ∷ [])) ≡ bared bare_from (r >>= λ t. Ok (record { table = t; width = length i.columns; ignored = q } ∷ []))
+  item-bare i (Ok t) p q = refl
+  item-bare i (Err why) p q = refl
+
+  item-alike : (i : BoundItem) (t : Option (List ℕ)) → bared bare_from (from_of tables (marked_as ignored within t i ∷ [])) ≡ bared bare_from (from_of tables (i ∷ []))
+  item-alike i None = refl
+  item-alike i (Some t) = item-bare i (table_of_source tables i.source) _ i.ignored
+
+  from-alike : (items : List BoundItem) → bared bare_from (from_of tables (map (marked ignored within) items)) ≡ bared bare_from (from_of tables items)
+  from-alike [] = refl
+  from-alike (i ∷ []) = item-alike i (table_of i.source)
+  from-alike (i ∷ j ∷ items) = refl
+
+  -- ---- queries
+
+  over-bare : (c : BoundCore) (r : Result (List FromItem) Cause) → bared bare (r >>= λ from. Ok (Queries (record { from = from; conjuncts = flat_map conditions_of c.conjuncts; results = c.results })))
+      ≡ (bared bare_from r >>= λ from. Ok (Queries (record { from = from; conjuncts = flat_map conditions_of c.conjuncts; results = c.results })))
+  over-bare c (Ok from) = refl
+  over-bare c (Err why) = refl
+
+  select-alike : (c : BoundCore) → bared bare (select_of tables (marked_core ignored within c)) ≡ bared bare (select_of tables c)
+  select-alike c = by (is_plain_core c)
+    where
+      over : List FromItem → Result Runnable Cause
+      over from = Ok (Queries (record { from = from; conjuncts = flat_map conditions_of c.conjuncts; results = c.results }))
+
+      by : (plain : Bool) → bared bare (if_built plain (from_of tables (map (marked ignored within) c.items) >>= over)) ≡ bared bare (if_built plain (from_of tables c.items >>= over))
+      by false = refl
+      by true = over-bare c (from_of tables (map (marked ignored within) c.items)) ∙ ap (λ r. r >>= over) (from-alike c.items) ∙ sym (over-bare c (from_of tables c.items))
+
+  part-alike : (p : BoundPart) → bared bare (part_of tables (marked_part ignored within p)) ≡ bared bare (part_of tables p)
+  part-alike (part.Select c) = select-alike c
+  part-alike (part.Values rows) = refl
+
+  rows-alike : (p : BoundPart) → rows_of_part (marked_part ignored within p) ≡ rows_of_part p
+  rows-alike (part.Select c) = refl
+  rows-alike (part.Values rows) = refl
+
+plain-alike : (ignored : List Action) (q : BoundQuery) → is_plain_query (record q { first = marked_part ignored q.within q.first; others = map (marked_compound ignored q.within) q.others }) ≡ is_plain_query q
+plain-alike ignored q = ap (λ n. nat_eq n 0 && nat_eq (length q.order) 0 && not (is_some q.limit) && not (is_some q.offset)) (length-map q.others (marked_compound ignored q.within))
+
+module _ (tables : List TableEntry) (ignored : List Action) where
+  abbrev units_marked : List BoundUnit → List BoundUnit
+  units_marked units = map (marked_unit ignored) units
+
+  unit-at : (units : List BoundUnit) (place : ℕ) → slice_get (units_marked units) place ≡ option_map (marked_unit ignored) (slice_get units place)
+  unit-at units place = slice_get-map (marked_unit ignored) units place
+
+  -- what is made of the first part of a plain query
+  first-alike : {A : Type 0} (f : A → A) (g : BoundPart → Result A Cause) → ((within : Option (List ℕ)) (p : BoundPart) → bared f (g (marked_part ignored within p)) ≡ bared f (g p)) → (o : Option BoundUnit)
+      → bared f (first_part (option_map (marked_unit ignored) o) >>= g) ≡ bared f (first_part o >>= g)
+  first-alike f g same None = refl
+  first-alike f g same (Some (unit.Recursed r)) = refl
+  first-alike f g same (Some (unit.Queried q)) =
+      ap (λ b. bared f (if_built b (Ok (marked_part ignored q.within q.first)) >>= g)) (plain-alike ignored q) ∙ by (is_plain_query q)
+    where
+      by : (plain : Bool) → bared f (if_built plain (Ok (marked_part ignored q.within q.first)) >>= g) ≡ bared f (if_built plain (Ok q.first) >>= g)
+      by false = refl
+      by true = same q.within q.first
+
+  query-alike : (units : List BoundUnit) (place : ℕ) → bared bare (query_of tables (units_marked units) place) ≡ bared bare (query_of tables units place)
+  query-alike units place =
+      ap (λ o. bared bare (first_part o >>= part_of tables)) (unit-at units place) ∙ first-alike bare (part_of tables) (part-alike tables ignored) (slice_get units place)
+
+  -- ---- INSERT
+
+  bared-same : {A : Type 0} (r : Result A Cause) → bared (λ a. a) r ≡ r
+  bared-same (Ok a) = refl
+  bared-same (Err why) = refl
+
+  source-alike : (units : List BoundUnit) (place : ℕ) → (first_part (slice_get (units_marked units) place) >>= rows_of_part) ≡ (first_part (slice_get units place) >>= rows_of_part)
+  source-alike units place =
+      ap (λ o. first_part o >>= rows_of_part) (unit-at units place)
+      ∙ sym (bared-same (first_part (option_map (marked_unit ignored) (slice_get units place)) >>= rows_of_part))
+      ∙ first-alike (λ rows. rows) rows_of_part (λ within p. ap (bared (λ rows. rows)) (rows-alike tables ignored within p)) (slice_get units place)
+      ∙ bared-same (first_part (slice_get units place) >>= rows_of_part)
+
+  put-alike : (t : TableEntry) (units : List BoundUnit) (c : BoundChange) → put_into t (units_marked units) c ≡ put_into t units c
+  put-alike t units (change.Inserted places None source arguments) = ap (λ r. r >>= λ rows. Ok (record { table = t; places = places_of t.columns places; rows = rows })) (source-alike units source)
+  put-alike t units (change.Inserted places (Some rowid) source arguments) = refl
+  put-alike t units change.Defaulted = refl
+  put-alike t units (change.Updated sets conjuncts) = refl
+  put-alike t units (change.Deleted conjuncts) = refl
+
+  target-alike : (within : Option (List ℕ)) (i : BoundItem) (t : Option (List ℕ)) → (marked_as ignored within t i).source ≡ i.source
+  target-alike within i None = refl
+  target-alike within i (Some t) = refl
+
+  write-alike : (units : List BoundUnit) (w : BoundWrite) → put_of tables (units_marked units) (marked_write ignored None w) ≡ put_of tables units w
+  write-alike units w =
+      let i = w.target.item in
+      ap (λ s. table_of_source tables s >>= λ t. put_into t (units_marked units) w.change >>= λ put. Ok (Puts put)) (target-alike None i (table_of i.source))
+      ∙ over (table_of_source tables i.source)
+    where
+      over : (r : Result TableEntry Cause) → (r >>= λ t. put_into t (units_marked units) w.change >>= λ put. Ok (Puts put)) ≡ (r >>= λ t. put_into t units w.change >>= λ put. Ok (Puts put))
+      over (Ok t) = ap (λ r. r >>= λ put. Ok (Puts put)) (put-alike t units w.change)
+      over (Err why) = refl
+
+  -- ---- any statement
+
+  command-alike : (number : ℕ) (text : List ℕ) (s : Statement) (units : List BoundUnit) (k : BoundCommand) → bared bare (command_of tables number text s (units_marked units) (marked_command ignored k)) ≡ bared bare (command_of tables number text s units k)
+  command-alike number text s units (made.Asked place) = query-alike units place
+  command-alike number text s units (made.Written w) = ap (bared bare) (write-alike units w)
+  command-alike number text s units (made.Created c) = refl
+  command-alike number text s units (made.Removed r) = refl
+  command-alike number text s units (made.Transacted t) = refl
+  command-alike number text s units (made.Pragma name) = refl
+  command-alike number text s units (made.Nothing kind name owner) = refl
+
+-- ---- it is as large
+
+from_size-bare : (from : List FromItem) → from_size (bare_from from) ≡ from_size from
+from_size-bare [] = refl
+from_size-bare (i ∷ from) = refl
+
+columns-bare : (from : List FromItem) → columns_in (bare_from from) ≡ columns_in from
+columns-bare [] = refl
+columns-bare (i ∷ from) = ap (λ n. i.width + n) (columns-bare from)
+
+bare-small : (size : ℕ) (x : Runnable) → IsSmall size x → IsSmall size (bare x)
+bare-small size (Queries q) small =
+    record {
+      filter = small.filter;
+      shown = small.shown;
+      stars = small.stars;
+      within = subst (λ n. 1 + small.shown + n + small.filter ≤ size) (sym (from_size-bare q.from)) small.within;
+      hundred = small.hundred;
+      of_table = subst (λ n. small.stars ≤ 100 * n) (sym (columns-bare q.from)) small.of_table;
+      results = small.results;
+    }
+bare-small size (Creates e) small = small
+bare-small size (Drops t) small = small
+bare-small size (Puts p) small = small
+bare-small size (Shows rows) small = small
+bare-small size DoesNothing small = small
+
+small-bare : (size : ℕ) (x : Runnable) → IsSmall size (bare x) → IsSmall size x
+small-bare size (Queries q) small =
+    record {
+      filter = small.filter;
+      shown = small.shown;
+      stars = small.stars;
+      within = subst (λ n. 1 + small.shown + n + small.filter ≤ size) (from_size-bare q.from) small.within;
+      hundred = small.hundred;
+      of_table = subst (λ n. small.stars ≤ 100 * n) (columns-bare q.from) small.of_table;
+      results = small.results;
+    }
+small-bare size (Creates e) small = small
+small-bare size (Drops t) small = small
+small-bare size (Puts p) small = small
+small-bare size (Shows rows) small = small
+small-bare size DoesNothing small = small
+
+by-bare : (size : ℕ) (x : Runnable) (r : Result Runnable Cause) → bared bare r ≡ Ok (bare x) → ((y : Runnable) → r ≡ Ok y → IsSmall size y) → IsSmall size x
+by-bare size x (Ok y) is small = small-bare size x (subst (IsSmall size) (same-ok (bare y) (bare x) is) (bare-small size y (small y refl)))
+by-bare size x (Err why) is small = absurd (let bad : Err why ≡ Ok (bare x) = is in cc)
+
+pub marked-small : (size : ℕ) (tables : List TableEntry) (number : ℕ) (text : List ℕ) (s : Statement) (ignored : List Action) (b : BoundStatement) (x : Runnable) → ((y : Runnable) → runnable_of tables number text s b ≡ Ok y → IsSmall size y)
+    → runnable_of tables number text s (ignoring ignored b) ≡ Ok x → IsSmall size x
+marked-small size tables number text s ignored b x small is =
+    by-bare size x (runnable_of tables number text s b) (sym (command-alike tables ignored number text s b.units b.command) ∙ ap (bared bare) is) small
