@@ -1,5 +1,5 @@
 -- What parts of a script came to, one after another.
-use Rattle.std.proofs.Common.{◌≡◌, ◌≤◌, ℕ, ◌+◌, ◌-◌, Bool, true, false, ◌&&◌, ◌||◌, List, [], ◌∷◌, ◌++◌, Option, Some, None, refl, sym, ◌∙◌, ap, subst, append-nil, append_assoc, length, ◌==◌, arith}
+use Rattle.std.proofs.Common.{◌≡◌, ◌≤◌, ℕ, ◌+◌, ◌-◌, Bool, true, false, ◌&&◌, ◌||◌, List, [], ◌∷◌, ◌++◌, Option, Some, None, Result, Ok, Err, IfOk, OnOk, ℤ, refl, sym, ◌∙◌, ap, subst, append-nil, append_assoc, length, ◌==◌, arith}
 use Rattle.std.specs.List.{list_any}
 use Rattle.std.proofs.lemmas.Bool.{eqb-true}
 use Rattle.std.proofs.KnownBytes.{Appends-nil, Appends-trans}
@@ -9,12 +9,12 @@ use Rattle.eng_value.specs.HostMeanings.{HostMeanings}
 use Rattle.eng_value.specs.declared.cause.Cause.{Cause}
 use Rattle.eng_value.specs.declared.value.Value.{Value}
 use Rattle.sql_meaning.specs.declared.script.Failure.{Failure}
-use Rattle.sql_meaning.specs.declared.script.Failure.TheVariants.{UnknownDotLine, NotUtf8}
+use Rattle.sql_meaning.specs.declared.script.Failure.TheVariants.{NotUtf8}
 use Rattle.sql_meaning.specs.declared.script.Options.{Options}
 use Rattle.sql_meaning.specs.Due.{Along, CutShort}
 use Rattle.sql_meaning.specs.Parts.{Part, Statement, DotLine, BadCharacter, parts_from}
 use Rattle.sql_meaning.specs.Runs.{last_state}
-use Rattle.sql_meaning.specs.Script.{Came, Come, Follow, PartComes, as_meant, as_named, came_lines, ends, error_line, failed, is_bad_character, is_failed, lines_of}
+use Rattle.sql_meaning.specs.Script.{Came, Come, Follow, PartComes, as_meant, as_named, came_lines, dot_line_came, ends, error_line, failed, is_bad_character, is_failed, lines_of, number_asked, row_of_number}
 use Rattle.sql_meaning.specs.Statement.{Outcome, text_outcome}
 use Rattle.sql_meaning.specs.Work.{instruction_bound}
 use Rattle.sql_meaning.specs.Named.{TextIsTold}
@@ -23,7 +23,7 @@ use Rattle.sql_shell.specs.declared.course.Course.{Course}
 use Rattle.sql_shell.specs.Courses.{at_end, ended_in, failed_in}
 use Rattle.sql_shell.specs.Running.{Ran, RanPartly}
 use Rattle.sql_meaning.proofs.CausedLaws.{text_outcome-named}
-use Rattle.sql_meaning.proofs.OutcomeLaws.{Come-append, Come-ended, Come-more, gives_meant, instructions-append, last_state-append}
+use Rattle.sql_meaning.proofs.OutcomeLaws.{Come-append, Come-ended, Come-more, gives_meant, instructions-append, last_state-append, number-next}
 use Rattle.sql_shell.proofs.Due.{along_start, along_more, cut_at_start, cut_more, cut_short}
 
 -- ---- lines
@@ -144,13 +144,30 @@ error_alone : (why : Failure) (s : State) → error_line why ≡ came_lines (fai
 error_alone why s = refl
 
 module _ (h : HostMeanings) (options : Options) (s : State) (u v : Option (List ℕ)) (n : ℕ) where
-  pub ran_dot_line : (line : List ℕ) → Appends u v (error_line UnknownDotLine) → Ran h options s s (DotLine line ∷ []) u v n n true (options.bail && true)
-  ran_dot_line line written =
-      ran_one h options s (DotLine line) (failed s UnknownDotLine) refl u v n n (error_line UnknownDotLine) true (options.bail && true) (error_alone UnknownDotLine s) written (omega arith) refl (sym (or-false (options.bail && true)))
+  number-good : (k : Option ℤ) → is_bad_character (row_of_number s k).failure ≡ false
+  number-good None = refl
+  number-good (Some k) = refl
 
-  pub ran_dot_line_partly : (line : List ℕ) → CutShort u v (error_line UnknownDotLine) → RanPartly h options s (DotLine line ∷ []) u v n n
+  number-ran : (k : Option ℤ) → (row_of_number s k).ran ≡ 0
+  number-ran None = refl
+  number-ran (Some k) = refl
+
+  ran_dot_line_as : (line : List ℕ) (has_failed : Bool) → has_failed ≡ is_failed (dot_line_came s line) → Appends u v (came_lines (dot_line_came s line)) → Ran h options s s (DotLine line ∷ []) u v n n has_failed (options.bail && has_failed)
+  ran_dot_line_as line has_failed is written =
+      let k = number_asked s line in
+      let o = dot_line_came s line in
+      subst (λ next. Ran h options s next (DotLine line ∷ []) u v n n has_failed (options.bail && has_failed)) (number-next s k)
+      (ran_one h options s (DotLine line) o refl u v n n (came_lines o) has_failed (options.bail && has_failed) refl written (omega (arith, number-ran k)) is (ap (λ b. options.bail && b) is ∙ came-ends options o (number-good k)))
+
+  pub ran_dot_line : {E : Type 0} (line : List ℕ) (r : Result Bool E) → IfOk r (λ has_failed. has_failed ≡ is_failed (dot_line_came s line)) → OnOk r (Appends u v (came_lines (dot_line_came s line)))
+      → IfOk r (λ has_failed. Ran h options s s (DotLine line ∷ []) u v n n has_failed (options.bail && has_failed))
+  ran_dot_line line (Ok has_failed) is written = ran_dot_line_as line has_failed is written
+  ran_dot_line line (Err e) is written = tt
+
+  pub ran_dot_line_partly : (line : List ℕ) → CutShort u v (came_lines (dot_line_came s line)) → RanPartly h options s (DotLine line ∷ []) u v n n
   ran_dot_line_partly line written =
-      ran_one_partly h options s (DotLine line) (failed s UnknownDotLine) refl u v n n (error_line UnknownDotLine) (error_alone UnknownDotLine s) written (omega arith)
+      let o = dot_line_came s line in
+      ran_one_partly h options s (DotLine line) o refl u v n n (came_lines o) refl written (omega (arith, number-ran (number_asked s line)))
 
   or-true : (b : Bool) → true ≡ (b || true)
   or-true true = refl

@@ -15,6 +15,7 @@ ghost use Rattle.vm_core.specs.Meant.{meant};
 use crate::characters::whole_characters;
 use crate::course::Course;
 use crate::cutting::{Part, cut};
+use crate::dot_lines::run_dot_line;
 use crate::printing::{print_failure, print_given};
 use crate::statement::run_text;
 use crate::stop::Stop;
@@ -36,7 +37,7 @@ fn run_statement<M: Meanings, K: Sink, L: Ledger>(
     steps: &mut Steps<L>,
     out: &mut K,
 ) -> Result<bool, Stop>
-    requires told { meant hosts.old ≡ M.hosts }
+    requires told { meant (λ b. verdicts (b.vtable, b.value)) hosts.old ≡ M.hosts }
     requires budget { connection.old.budget ≡ options.budget }
     ensures ran { IfOk result (λ failed.
         Ran M.hosts options connection.old.state connection.new.state (part.Statement text.now ∷ [])
@@ -47,7 +48,7 @@ fn run_statement<M: Meanings, K: Sink, L: Ledger>(
     ensures later { K.fault_count out.old ≤ K.fault_count out.new }
     ensures budget { connection.new.budget ≡ connection.old.budget }
     ensures ticks { steps.old ≤ steps.new }
-    ensures hosts { meant hosts.new ≡ M.hosts }
+    ensures hosts { meant (λ b. verdicts (b.vtable, b.value)) hosts.new ≡ M.hosts }
 {
     let given = run_text::<M, L>(alloc, hosts, connection, text, steps)?;
     let printed = print_given(given)?;
@@ -78,7 +79,7 @@ fn write_bad_place<K: Sink>(alloc: Global, place: usize, out: &mut K) -> Result<
     write_failure(alloc, &Failure::NotUtf8(place), out)
 }
 
-/// Runs a part and writes its lines whole. So far each dot line is unknown. It says whether there is an error line.
+/// Runs a part and writes its lines whole. It says whether there is an error line.
 fn run_one<M: Meanings, K: Sink, L: Ledger>(
     alloc: Global,
     hosts: &mut Hosts,
@@ -88,7 +89,7 @@ fn run_one<M: Meanings, K: Sink, L: Ledger>(
     steps: &mut Steps<L>,
     out: &mut K,
 ) -> Result<bool, Stop>
-    requires told { meant hosts.old ≡ M.hosts }
+    requires told { meant (λ b. verdicts (b.vtable, b.value)) hosts.old ≡ M.hosts }
     requires budget { connection.old.budget ≡ options.budget }
     ensures ran { IfOk result (λ failed.
         Ran M.hosts options connection.old.state connection.new.state (part_list (Some part.entry))
@@ -99,16 +100,13 @@ fn run_one<M: Meanings, K: Sink, L: Ledger>(
     ensures later { K.fault_count out.old ≤ K.fault_count out.new }
     ensures budget { connection.new.budget ≡ connection.old.budget }
     ensures ticks { steps.old ≤ steps.new }
-    ensures hosts { meant hosts.new ≡ M.hosts }
+    ensures hosts { meant (λ b. verdicts (b.vtable, b.value)) hosts.new ≡ M.hosts }
 {
     match part {
         Part::Statement(text) => {
             run_statement::<M, K, L>(alloc, hosts, connection, options, text, steps, out)
         }
-        Part::DotLine(_) => {
-            write_failure(alloc, &Failure::UnknownDotLine, out)?;
-            Ok(true)
-        }
+        Part::DotLine(line) => run_dot_line(alloc, connection, line, out),
     }
 }
 
@@ -122,7 +120,7 @@ fn run_part<M: Meanings, K: Sink, L: Ledger>(
     steps: &mut Steps<L>,
     out: &mut K,
 ) -> Result<bool, Stop>
-    requires told { meant hosts.old ≡ M.hosts }
+    requires told { meant (λ b. verdicts (b.vtable, b.value)) hosts.old ≡ M.hosts }
     requires budget { connection.old.budget ≡ options.budget }
     ensures ran { IfOk result (λ failed.
         Ran M.hosts options connection.old.state connection.new.state (part_list part.entry)
@@ -133,7 +131,7 @@ fn run_part<M: Meanings, K: Sink, L: Ledger>(
     ensures later { K.fault_count out.old ≤ K.fault_count out.new }
     ensures budget { connection.new.budget ≡ connection.old.budget }
     ensures ticks { steps.old ≤ steps.new }
-    ensures hosts { meant hosts.new ≡ M.hosts }
+    ensures hosts { meant (λ b. verdicts (b.vtable, b.value)) hosts.new ≡ M.hosts }
 {
     match part {
         None => Ok(false),
@@ -166,7 +164,7 @@ fn run_parts<M: Meanings, K: Sink, L: Ledger>(
     steps: &mut Steps<L>,
     out: &mut K,
 ) -> Result<Course, Stop>
-    requires told { meant hosts.old ≡ M.hosts }
+    requires told { meant (λ b. verdicts (b.vtable, b.value)) hosts.old ≡ M.hosts }
     ensures ran { IfOk result (λ course.
         (next : State) × Ran M.hosts options new_state next (parts_from pending_runs true 0 text.now)
         (K.written out.old) (K.written out.new) steps.old steps.new (failed_in course) (ended_in course)) }
@@ -175,7 +173,7 @@ fn run_parts<M: Meanings, K: Sink, L: Ledger>(
     ensures fault { IsErrOf result Stop.SinkFault → Rose (K.fault_count out.old) (K.fault_count out.new) }
     ensures later { K.fault_count out.old ≤ K.fault_count out.new }
     ensures ticks { steps.old ≤ steps.new }
-    ensures hosts { meant hosts.new ≡ M.hosts }
+    ensures hosts { meant (λ b. verdicts (b.vtable, b.value)) hosts.new ≡ M.hosts }
 {
     let mut connection = Connection::new(alloc, options.budget);
     let mut failed = false;
@@ -232,7 +230,7 @@ pub(crate) fn run_script<M: Meanings, K: Sink, L: Ledger>(
     steps: &mut Steps<L>,
     out: &mut K,
 ) -> Result<Course, Stop>
-    requires told { meant hosts.old ≡ M.hosts }
+    requires told { meant (λ b. verdicts (b.vtable, b.value)) hosts.old ≡ M.hosts }
     ensures ok { IfOk result (λ course.
         IsScript M.hosts options bytes.now ending (K.written out.old) (K.written out.new) steps.old steps.new (status_in ending course)) }
     ensures part { RanPartly M.hosts options new_state (parts_of bytes.now ending)
@@ -240,7 +238,7 @@ pub(crate) fn run_script<M: Meanings, K: Sink, L: Ledger>(
     ensures fault { IsErrOf result Stop.SinkFault → Rose (K.fault_count out.old) (K.fault_count out.new) }
     ensures later { K.fault_count out.old ≤ K.fault_count out.new }
     ensures ticks { steps.old ≤ steps.new }
-    ensures hosts { meant hosts.new ≡ M.hosts }
+    ensures hosts { meant (λ b. verdicts (b.vtable, b.value)) hosts.new ≡ M.hosts }
 {
     let found = whole_characters(looked_at(bytes, ending), ending);
     let runs = runs_pending(ending, found.bad);

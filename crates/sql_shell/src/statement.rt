@@ -24,7 +24,7 @@ pub(crate) fn run_text<M: Meanings, L: Ledger>(
     text: &str,
     steps: &mut Steps<L>,
 ) -> Result<Given, Stop>
-    requires told { meant hosts.old ≡ M.hosts }
+    requires told { meant (λ b. verdicts (b.vtable, b.value)) hosts.old ≡ M.hosts }
     ensures came { IfOk result (λ g. CameTo M.hosts connection.old.budget connection.old.state text.now
         (rows_of g.rows) g.failure (steps.new - steps.old) connection.new.state) }
     ensures characters { IfOk result (λ g. is_bad_character g.failure ≡ false) }
@@ -34,7 +34,7 @@ pub(crate) fn run_text<M: Meanings, L: Ledger>(
     ensures within { steps.new ≤ steps.old + connection.old.budget }
     ensures bound { TextIsTold (context M.hosts connection.old.state []) text.now
         → steps.new ≤ steps.old + instruction_bound (context M.hosts connection.old.state []) text.now }
-    ensures hosts { meant hosts.new ≡ M.hosts }
+    ensures hosts { meant (λ b. verdicts (b.vtable, b.value)) hosts.new ≡ M.hosts }
 {
     let mut rows = PrintedRows::new(alloc);
     match connection.run(alloc, hosts, text, &[], &mut rows, steps) {

@@ -32,7 +32,7 @@ fn run_source<M: Meanings, S: Source, K: Sink, L: Ledger>(
     out: &mut K,
     steps: &mut Steps<L>,
 ) -> u8
-    requires told { meant hosts.old ≡ M.hosts }
+    requires told { meant (λ b. verdicts (b.vtable, b.value)) hosts.old ≡ M.hosts }
     ensures script { ForTold (S.left src.old) (S.left src.new) (λ bytes. (result ≡ 4)
         ⊎ (((result ≡ 3) × Rose (K.fault_count out.old) (K.fault_count out.new))
         ⊎ ((ending : Ending) × MayEnd bytes (S.left src.new) ending
@@ -47,7 +47,7 @@ fn run_source<M: Meanings, S: Source, K: Sink, L: Ledger>(
     ensures source_count { S.fault_count src.old ≤ S.fault_count src.new }
     ensures sink_count { K.fault_count out.old ≤ K.fault_count out.new }
     ensures steps { steps.old ≤ steps.new }
-    ensures hosts { meant hosts.new ≡ M.hosts }
+    ensures hosts { meant (λ b. verdicts (b.vtable, b.value)) hosts.new ≡ M.hosts }
 {
     let script = match read_script(alloc, src) {
         Ok(script) => script,
@@ -104,11 +104,11 @@ pub fn run<S: Source, K: Sink, L: Ledger>(
         IfSome (options_of (map string_bytes words.now)) (λ options. (result ≡ 4)
         ⊎ (((result ≡ 3) × Rose (K.fault_count out.old) (K.fault_count out.new))
         ⊎ ((ending : Ending) × MayEnd bytes (S.left src.new) ending
-        × IsScript (meant hosts.old) options bytes ending (K.written out.old) (K.written out.new) steps.old steps.new result)))) }
+        × IsScript (meant (λ b. verdicts (b.vtable, b.value)) hosts.old) options bytes ending (K.written out.old) (K.written out.new) steps.old steps.new result)))) }
 
     // Whatever the status, a front of what the bytes mean was written, and no more instructions were run than its own.
     ensures part { ForTold (S.left src.old) (S.left src.new) (λ bytes.
-        IfSome (options_of (map string_bytes words.now)) (λ options. IsFrontOfScript (meant hosts.old) options bytes
+        IfSome (options_of (map string_bytes words.now)) (λ options. IsFrontOfScript (meant (λ b. verdicts (b.vtable, b.value)) hosts.old) options bytes
         (S.left src.new) (K.written out.old) (K.written out.new) steps.old steps.new)) }
 
     ensures limit { ForTold (S.left src.old) (S.left src.new) (λ bytes. length bytes ≤ MAX_SCRIPT_BYTES + 1) }

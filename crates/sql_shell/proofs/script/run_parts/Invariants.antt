@@ -11,7 +11,7 @@ invariant-loop-rest g l = record {
   later : g.K.Sink.fault_count l.fn.out ≤ g.K.Sink.fault_count l.out;
   budget : l.connection.budget ≡ l.options.budget;
   ticks : l.fn.steps ≤ l.steps;
-  told : meant l.hosts ≡ g.M.Meanings.hosts;
+  told : meant (λ b. (goal.Authorizer-dyn g (b.vtable, b.value)).verdicts b.value) l.hosts ≡ g.M.Meanings.hosts;
 }
 
 abbrev pub decreases-loop-rest : goal.decreases-loop-rest

@@ -7,7 +7,7 @@ use Rattle.sql_shell.proofs.statement.run_text.Goals as goal
 
 pub returns-in-Ok-clause-came : goal.returns-in-Ok-clause-came
 returns-in-Ok-clause-came g c =
-    let h = meant c.args.hosts.now in
+    let h = meant (λ b. (goal.Authorizer-dyn g (b.vtable, b.value)).verdicts b.value) c.args.hosts.now in
     let budget = c.args.connection.now.budget in
     let s = c.args.connection.now.state in
     let text = c.args.text.now in
@@ -20,7 +20,7 @@ returns-in-Ok-clause-came g c =
 
 pub returns-in-Err-clause-came : goal.returns-in-Err-clause-came
 returns-in-Err-clause-came g c =
-    let h = meant c.args.hosts.now in
+    let h = meant (λ b. (goal.Authorizer-dyn g (b.vtable, b.value)).verdicts b.value) c.args.hosts.now in
     let budget = c.args.connection.now.budget in
     let s = c.args.connection.now.state in
     let text = c.args.text.now in
