@@ -15,7 +15,7 @@ pub(crate) fn tell(alloc: Global, facts: &mut HostFacts, line: &str) -> Result<b
 }
 
 /// The words of a line.
-fn words_of<'t>(alloc: Global, line: &'t str) -> Result<Items<&'t str>, AllocError> {
+pub(crate) fn words_of<'t>(alloc: Global, line: &'t str) -> Result<Items<&'t str>, AllocError> {
     let mut words = Items::new(alloc);
     for word in line.split_whitespace() {
         words.push(word)?;

@@ -1,8 +1,13 @@
 // The lines of the table.
-use crate::binding::bound;
+use crate::actions::print_actions;
+use crate::binding::{Found, bound};
 use crate::facts::tell;
-use crate::scene::Scene;
+use crate::ignored::ignore;
+use crate::scene::{Scene, Shown};
+use bound_actions::actions;
+use bound_ignored::ignoring;
 use bound_print::{Page, print_statement};
+use bound_tree::BoundStatement;
 use std::alloc::{AllocError, Global};
 
 /// The lines with the outcomes of those that are statements. Only memory can fail.
@@ -40,9 +45,23 @@ fn take_dot_line(
     page: &mut Page,
     line: &str,
 ) -> Result<(), AllocError> {
-    if line == ".new" {
-        *scene = Scene::new(alloc);
-    } else if !tell(alloc, &mut scene.facts, line)? {
+    match line {
+        ".new" => *scene = Scene::new(alloc),
+        ".actions" => scene.shown = Shown::Actions,
+        ".bound" => scene.shown = Shown::Bound,
+        _ => return take_told(alloc, scene, page, line),
+    }
+    Ok(())
+}
+
+/// Takes a line that tells something.
+fn take_told(
+    alloc: Global,
+    scene: &mut Scene,
+    page: &mut Page,
+    line: &str,
+) -> Result<(), AllocError> {
+    if !tell(alloc, &mut scene.facts, line)? && !ignore(alloc, &mut scene.ignored, line)? {
         page.line("unknown dot line");
     }
     Ok(())
@@ -55,10 +74,7 @@ fn take_statement(
     line: &str,
 ) -> Result<(), AllocError> {
     match bound(alloc, scene, line) {
-        Ok(found) => {
-            print_statement(page, &found.bound);
-            scene.keep(alloc, found)
-        }
+        Ok(found) => take_found(alloc, scene, page, found),
         Err(cause) => {
             page.begin("");
             page.write_cause(&cause);
@@ -66,4 +82,35 @@ fn take_statement(
             Ok(())
         }
     }
+}
+
+/// Shows a statement, and keeps what it creates.
+fn take_found(
+    alloc: Global,
+    scene: &mut Scene,
+    page: &mut Page,
+    found: Found<'_>,
+) -> Result<(), AllocError> {
+    let mut found = found;
+    match scene.shown {
+        Shown::Bound => {
+            ignoring(alloc, &mut found.bound, scene.ignored.as_slice())?;
+            print_statement(page, &found.bound);
+        }
+        Shown::Actions => show_actions(alloc, page, &found.bound)?,
+    }
+    scene.keep(alloc, found)
+}
+
+/// Prints what an authorizer is asked, by one step more than what is bound.
+fn show_actions(
+    alloc: Global,
+    page: &mut Page,
+    statement: &BoundStatement,
+) -> Result<(), AllocError> {
+    let found = actions(alloc, statement)?;
+    page.indent();
+    print_actions(page, found.as_slice());
+    page.outdent();
+    Ok(())
 }

@@ -3,7 +3,7 @@ use crate::binding::Found;
 use bound_tree::{BoundCommand, BoundCreation, BoundRemoval, ThingKind};
 use eng_catalog::{Catalog, Entry, EntryKind, Space};
 use eng_entry::is_same_name;
-use eng_value::Text;
+use eng_value::{Action, Text};
 use sql_bound::HostFacts;
 use sql_tree::Statement;
 use sqlite_items::Items;
@@ -12,17 +12,29 @@ use std::alloc::{AllocError, Global};
 /// How far the numbers of two things that are created one after another stand apart, so that the keys of a table have numbers between.
 const NUMBERS_APART: u64 = 10;
 
+/// What stands below a statement that is not refused.
+#[derive(Clone, Copy, PartialEq, Eq)]
+pub(crate) enum Shown {
+    /// What it is bound to.
+    Bound,
+    /// What an authorizer is asked about it.
+    Actions,
+}
+
 /// The catalog, and what hosts and the connection tell.
 #[derive(Drop)]
 pub(crate) struct Scene {
     pub(crate) catalog: Catalog,
     pub(crate) facts: HostFacts,
+    /// The reads that the authorizer ignores.
+    pub(crate) ignored: Items<Action>,
+    pub(crate) shown: Shown,
     /// The number of what was created last.
     last_number: u64,
 }
 
 impl Scene {
-    /// An empty catalog, and nobody tells anything.
+    /// An empty catalog, and nobody tells anything; what statements are bound to is shown.
     pub(crate) fn new(alloc: Global) -> Scene {
         Scene {
             catalog: Catalog::new(alloc),
@@ -36,6 +48,8 @@ impl Scene {
                 recursive_triggers: false,
                 rowids: true,
             },
+            ignored: Items::new(alloc),
+            shown: Shown::Bound,
             last_number: 0,
         }
     }
