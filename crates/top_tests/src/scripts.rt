@@ -15,6 +15,7 @@ fn run_uncounted<S: Source, K: Sink, L: Ledger>(
     blank: Blank,
     alloc: Global,
     words: &[String],
+    hosts: &mut Hosts,
     src: &mut S,
     out: &mut K,
 ) -> u8
@@ -23,7 +24,7 @@ fn run_uncounted<S: Source, K: Sink, L: Ledger>(
     requires some { 0 < blank.parts }
 {
     let mut steps = Steps::<L>::new(blank);
-    run(alloc, words, &mut Hosts::new(), src, out, &mut steps)
+    run(alloc, words, hosts, src, out, &mut steps)
 }
 
 #[test]
@@ -35,7 +36,14 @@ fn a_program_runs_a_script(rt: HostRuntime) -> Result<(), Fail> {
         SELECT b, a FROM t WHERE a > 3;";
     let mut src = MemorySource::new(script.to_vec(alloc)?, 4096, Vec::new(alloc));
     let mut out = MemorySink::new(Vec::new(alloc), 4096, Vec::new(alloc));
-    let status = run_uncounted::<_, _, Brand>(Blank::new(1), alloc, &words, &mut src, &mut out);
+    let status = run_uncounted::<_, _, Brand>(
+        Blank::new(1),
+        alloc,
+        &words,
+        &mut Hosts::new(),
+        &mut src,
+        &mut out,
+    );
     assert_eq!(rt; out.bytes(), b"x|12\n".as_slice());
     assert_eq!(rt; status, 0);
     Ok(())
@@ -43,13 +51,13 @@ fn a_program_runs_a_script(rt: HostRuntime) -> Result<(), Fail> {
 
 /// What a run came to.
 #[derive(Drop)]
-struct Answer {
+pub(crate) struct Answer {
     status: u8,
     out: MemorySink,
 }
 
 impl Answer {
-    fn is(&self, written: &[u8], status: u8) -> bool {
+    pub(crate) fn is(&self, written: &[u8], status: u8) -> bool {
         self.status == status && self.out.bytes() == written
     }
 }
@@ -67,7 +75,7 @@ fn command_line(alloc: Global, words: &[u8]) -> Result<Vec<String>, AllocError> 
 }
 
 // A source of a script, of which so many bytes are read at a time, and whose reads of these numbers fail.
-fn source_of(
+pub(crate) fn source_of(
     alloc: Global,
     script: &[u8],
     piece: usize,
@@ -85,10 +93,22 @@ fn answer_from(
     most: usize,
     writes: &[u64],
 ) -> Result<Answer, AllocError> {
+    answer_with(alloc, &mut Hosts::new(), words, src, most, writes)
+}
+
+// The same with these hosts.
+pub(crate) fn answer_with(
+    alloc: Global,
+    hosts: &mut Hosts,
+    words: &[u8],
+    src: &mut MemorySource,
+    most: usize,
+    writes: &[u64],
+) -> Result<Answer, AllocError> {
     let failing = writes.to_vec(alloc)?;
     let line = command_line(alloc, words)?;
     let mut out = MemorySink::new(Vec::new(alloc), most.max(1), failing);
-    let status = run_uncounted::<_, _, Brand>(Blank::new(1), alloc, &line, src, &mut out);
+    let status = run_uncounted::<_, _, Brand>(Blank::new(1), alloc, &line, hosts, src, &mut out);
     Ok(Answer { status, out })
 }
 
