@@ -19,7 +19,7 @@ use Rattle.sql_tree.specs.declared.statement.Statement.{Statement}
 use Rattle.sql_tree.specs.declared.statement.TableDefinition.{TableDefinition}
 use Rattle.sql_bound.specs.Declarations.{definition_of, table_in}
 use Rattle.bound_size.proofs.BoundLaws.{both_hold}
-use Rattle.sql_meaning.specs.Built.{is_built, is_built_table, is_empty, stands_alone}
+use Rattle.sql_meaning.specs.Built.{is_built, is_empty, stands_alone}
 use Rattle.sql_meaning.specs.Declarations.{tables_of}
 use Rattle.sql_meaning.specs.Permits.{asked_by}
 use Rattle.sql_meaning.proofs.PermitLaws.{permitted-all}
@@ -28,7 +28,7 @@ use Rattle.sql_meaning.specs.Runnables.{Puts}
 use Rattle.sql_meaning.specs.declared.bound.BoundInsert.{BoundInsert}
 use Rattle.sql_meaning.specs.declared.column.TableEntry.{TableEntry}
 use Rattle.bind_stmt.specs.Binds.{Binds, put_columns}
-use Rattle.bind_stmt.specs.Plain.{AreRows, PutsPlain, defines_plain, has_no_index, insert_in, insert_of, is_plain_definition, is_table_kind, rows_in, rows_of, rows_of_source}
+use Rattle.bind_stmt.specs.Plain.{AreRows, PutsPlain, defines_plain, has_no_index, insert_in, insert_of, is_plain_definition, is_plain_table, is_table_kind, rows_in, rows_of, rows_of_source}
 use Rattle.bind_stmt.specs.declared.statement.Bound.TheVariants as bound
 use Rattle.bind_stmt.proofs.Places.{all_put, places_from}
 use Rattle.bind_stmt.proofs.PlainInserts.{InsertsRows, put_as, statement-runs}
@@ -105,13 +105,13 @@ read-kind entry_kind.Trigger e = absurd (let bad : false ≡ true = e in cc)
 record Defined (d : Option TableDefinition) (width : ℕ) : Type 0 where
   table : TableDefinition
   is : d ≡ Some table
-  plain : is_built_table table ≡ true
+  plain : is_plain_table table ≡ true
   wide : length table.columns ≡ width
 
 read-definition : (d : Option TableDefinition) (width : ℕ) → is_plain_definition d width ≡ true → Defined d width
 read-definition None width e = absurd (let bad : false ≡ true = e in cc)
 read-definition (Some t) width e =
-    let k = both_hold (is_built_table t) (nat_eq (length t.columns) width) e in record { table = t; is = refl; plain = k.0; wide = eqb-true (length t.columns) width k.1 }
+    let k = both_hold (is_plain_table t) (nat_eq (length t.columns) width) e in record { table = t; is = refl; plain = k.0; wide = eqb-true (length t.columns) width k.1 }
 
 -- ---- the whole
 

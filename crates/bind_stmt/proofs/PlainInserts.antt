@@ -46,13 +46,13 @@ use Rattle.sql_bound.specs.Triggers.{opening}
 use Rattle.sql_bound.specs.Writes.{Begun, Opened, Opening, fired_all, insert_begun, inserted_from, inserting, insertion, is_place, places_named, write_with}
 use Rattle.sql_bound.specs.declared.scopes.Asked.{Asked}
 use Rattle.sql_bound.specs.declared.scopes.Work.{Work}
-use Rattle.sql_meaning.specs.Built.{is_built_table, stands_alone}
+use Rattle.sql_meaning.specs.Built.{stands_alone}
 use Rattle.sql_meaning.specs.Running.{command_of, first_part, found_table, places_of, put_into, rows_of_part, runnable_of, table_of_source}
 use Rattle.sql_meaning.specs.Declarations.{table_called}
 use Rattle.sql_meaning.specs.Runnables.{Put, Puts, Runnable}
 use Rattle.sql_meaning.specs.Statement.{around}
 use Rattle.sql_meaning.specs.declared.column.TableEntry.{TableEntry}
-use Rattle.bind_stmt.specs.Plain.{AreRows, has_no_index}
+use Rattle.bind_stmt.specs.Plain.{AreRows, has_no_index, is_plain_table}
 use Rattle.bind_stmt.proofs.Places.{all_placed, length-places_from, no_place, places_from}
 use Rattle.bind_stmt.proofs.PlainTables.{IsPlainTarget, plain-target}
 use Rattle.bind_stmt.proofs.PlainValues.{AsksRows, then_is, values-ask}
@@ -86,7 +86,7 @@ pub record Writes (entry : Entry) (width : ℕ) (made : List (List BoundExpr)) (
 
 module _ (o : Outer) (views : List ℕ → List ℕ → Tree → List BoundUnit → UnitsAnswer Asked) (below : Depth) (deep : o.depth ≡ Deeper views below) (name : Token) (first : List Expr) (rows : List (List Expr)) (made : List (List BoundExpr))
     (entry : Entry) (t : TableDefinition) (named : table_named (name_at o.text name) o.around.catalog ≡ Some entry) (table : entry.kind ≡ entry_kind.Table) (defines : table_in (definition_of entry) ≡ Some t)
-    (plain : is_built_table t ≡ true) (bare : has_no_index entry.name o.around.catalog.names ≡ true) (few : length t.columns ≤ MAX_COLUMNS) (are : AreRows o.text (length t.columns) (first ∷ rows) made)
+    (plain : is_plain_table t ≡ true) (bare : has_no_index entry.name o.around.catalog.names ≡ true) (few : length t.columns ≤ MAX_COLUMNS) (are : AreRows o.text (length t.columns) (first ∷ rows) made)
     (i : Insert) (q : Tree) (at : i.table ≡ name) (columns : i.columns ≡ []) (from : i.source ≡ source.Query q) (ask : (a : Asked × List BoundUnit) × ((of_query q).bound (beside_from o) [] ≡ Ok a) × AsksRows (length t.columns) made a) where
   abbrev width : ℕ
   width = length t.columns
@@ -176,7 +176,7 @@ deep-enough : (a : Around) → IsDeeper (full_depth a)
 deep-enough a = deeper a 19
 
 command-is : (o : Outer) (s : Statement) (name : Token) (first : List Expr) (rows : List (List Expr)) (made : List (List BoundExpr)) (entry : Entry) (t : TableDefinition) → IsDeeper o.depth → InsertsRows s name first rows
-    → table_named (name_at o.text name) o.around.catalog ≡ Some entry → entry.kind ≡ entry_kind.Table → table_in (definition_of entry) ≡ Some t → is_built_table t ≡ true → has_no_index entry.name o.around.catalog.names ≡ true
+    → table_named (name_at o.text name) o.around.catalog ≡ Some entry → entry.kind ≡ entry_kind.Table → table_in (definition_of entry) ≡ Some t → is_plain_table t ≡ true → has_no_index entry.name o.around.catalog.names ≡ true
     → length t.columns ≤ MAX_COLUMNS → AreRows o.text (length t.columns) (first ∷ rows) made → o.around.catalog.triggers ≡ []
     → (b : BoundCommand × Opened) × (command_bound o s.command ≡ Ok b) × Writes entry (length t.columns) made b
 command-is o s name first rows made entry t deep inserts named table defines plain bare few are untriggered =
@@ -208,7 +208,7 @@ pub record Runs (catalog : Entries) (text : List ℕ) (s : Statement) (t : Table
   pub runs : (number : ℕ) → runnable_of tables number text s statement ≡ Ok (Puts (put_as t width made))
 
 pub statement-runs : (catalog : Entries) (text : List ℕ) (s : Statement) (name : Token) (first : List Expr) (rows : List (List Expr)) (made : List (List BoundExpr)) (entry : Entry) (t : TableDefinition) (tables : List TableEntry) (te : TableEntry)
-    → InsertsRows s name first rows → table_named (name_at text name) catalog ≡ Some entry → entry.kind ≡ entry_kind.Table → table_in (definition_of entry) ≡ Some t → is_built_table t ≡ true → has_no_index entry.name catalog.names ≡ true
+    → InsertsRows s name first rows → table_named (name_at text name) catalog ≡ Some entry → entry.kind ≡ entry_kind.Table → table_in (definition_of entry) ≡ Some t → is_plain_table t ≡ true → has_no_index entry.name catalog.names ≡ true
     → length t.columns ≤ MAX_COLUMNS → AreRows text (length t.columns) (first ∷ rows) made → catalog.triggers ≡ [] → table_called tables entry.name ≡ Some te → Runs catalog text s te (length t.columns) made tables
 statement-runs catalog text s name first rows made entry t tables te inserts named table defines plain bare few are untriggered called =
     let a = around catalog in

@@ -23,19 +23,19 @@ use Rattle.sql_bound.specs.Targets.{Target, checks_bound, declared_target, defau
 use Rattle.sql_bound.specs.Writes.{inserting, shown_places}
 use Rattle.sql_bound.specs.declared.froms.Sourced.{Sourced}
 use Rattle.sql_bound.specs.declared.scopes.Work.{Work}
-use Rattle.sql_meaning.specs.Built.{is_built_column, is_built_table, is_empty}
-use Rattle.bind_stmt.specs.Plain.{has_no_index}
+use Rattle.sql_meaning.specs.Built.{is_empty}
+use Rattle.bind_stmt.specs.Plain.{has_no_index, is_plain_column, is_plain_table}
 use Rattle.bind_stmt.proofs.Places.{all_shown, places_from}
 use Rattle.bind_stmt.proofs.PlainValues.{none-in, then_is}
 
 -- ---- columns without constraints
 
 abbrev ArePlain : List ColumnDefinition → Type 0
-ArePlain ds = list_all is_built_column ds ≡ true
+ArePlain ds = list_all is_plain_column ds ≡ true
 
 -- the first has no constraint, and those behind it
 plain-first : (d : ColumnDefinition) (ds : List ColumnDefinition) → ArePlain (d ∷ ds) → (d.constraints ≡ []) × ArePlain ds
-plain-first d ds h = let k = both_hold (is_built_column d) (list_all is_built_column ds) h in (none-in d.constraints k.0, k.1)
+plain-first d ds h = let k = both_hold (is_plain_column d) (list_all is_plain_column ds) h in (none-in d.constraints k.0, k.1)
 
 no-collate : (ds : List ColumnDefinition) → ArePlain ds → flat_map of_column ds ≡ []
 no-collate [] h = refl
@@ -94,16 +94,16 @@ pub record IsPlainTarget (entry : Entry) (width : ℕ) (t : Target) : Type 0 whe
   pub columns : length t.source.columns ≡ width
   pub rowid : t.source.rowid ≡ None
 
-module _ (o : Outer) (name : List ℕ) (entry : Entry) (t : TableDefinition) (table : entry.kind ≡ entry_kind.Table) (defines : table_in (definition_of entry) ≡ Some t) (plain : is_built_table t ≡ true)
+module _ (o : Outer) (name : List ℕ) (entry : Entry) (t : TableDefinition) (table : entry.kind ≡ entry_kind.Table) (defines : table_in (definition_of entry) ≡ Some t) (plain : is_plain_table t ≡ true)
     (bare : has_no_index entry.name o.around.catalog.names ≡ true) where
   abbrev own : Sourced
   own = declared_source o entry (declared_table o.around.facts entry.text t)
 
   no-constraints : t.constraints ≡ []
-  no-constraints = none-in t.constraints (both_hold (is_empty t.constraints) (list_all is_built_column t.columns) plain).0
+  no-constraints = none-in t.constraints (both_hold (is_empty t.constraints) (list_all is_plain_column t.columns) plain).0
 
   plain-columns : ArePlain t.columns
-  plain-columns = (both_hold (is_empty t.constraints) (list_all is_built_column t.columns) plain).1
+  plain-columns = (both_hold (is_empty t.constraints) (list_all is_plain_column t.columns) plain).1
 
   kept : collations_kept o.around entry t ≡ Ok tt
   kept =

@@ -10,6 +10,7 @@ use Rattle.eng_value.specs.declared.limits.TheConstants.{MAX_COLUMNS}
 use Rattle.sql_tree.specs.Layers.{PartLayer, QueryLayer, of_part, of_query}
 use Rattle.sql_tree.specs.declared.expr.Expr.TheOpen.{QueryPart-F}
 use Rattle.sql_tree.specs.declared.expr.Expr.{Expr}
+use Rattle.sql_tree.specs.declared.statement.ColumnDefinition.{ColumnDefinition}
 use Rattle.sql_tree.specs.declared.statement.Command.TheVariants as command
 use Rattle.sql_tree.specs.declared.statement.Command.{Command}
 use Rattle.sql_tree.specs.declared.statement.Insert.{Insert}
@@ -26,7 +27,7 @@ use Rattle.sql_bound.specs.Scopes.{Scope}
 use Rattle.sql_bound.specs.Trees.{of_expr}
 use Rattle.sql_bound.specs.declared.scopes.Operand.{Operand}
 use Rattle.sql_bound.specs.declared.scopes.Work.{Work}
-use Rattle.sql_meaning.specs.Built.{is_built_table, is_empty, stands_alone}
+use Rattle.sql_meaning.specs.Built.{is_empty, stands_alone}
 use Rattle.sql_meaning.specs.Declarations.{table_called}
 use Rattle.sql_meaning.specs.declared.bound.BoundInsert.{BoundInsert}
 use Rattle.sql_meaning.specs.declared.bound.PutColumn.{PutColumn}
@@ -82,10 +83,17 @@ abbrev pub is_table_kind : EntryKind → Bool
 is_table_kind entry_kind.Table = true
 is_table_kind other = false
 
+abbrev pub is_plain_column : ColumnDefinition → Bool
+is_plain_column c = is_empty c.constraints
+
+-- without a constraint, neither at a column nor behind them
+abbrev pub is_plain_table : TableDefinition → Bool
+is_plain_table t = is_empty t.constraints && list_all is_plain_column t.columns
+
 -- a table of so many columns without a constraint
 abbrev pub is_plain_definition : Option TableDefinition → ℕ → Bool
 is_plain_definition None width = false
-is_plain_definition (Some t) width = is_built_table t && nat_eq (length t.columns) width
+is_plain_definition (Some t) width = is_plain_table t && nat_eq (length t.columns) width
 
 abbrev pub defines_plain : Entry → ℕ → Bool
 defines_plain entry width = is_plain_definition (table_in (definition_of entry)) width

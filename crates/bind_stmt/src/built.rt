@@ -1,12 +1,12 @@
 // Which statements are built.
 ghost use Rattle.std.specs.Prelude.{◌≡◌};
 ghost use Rattle.std.specs.List.{list_all};
-ghost use Rattle.sql_meaning.specs.Built.{are_built_rows, is_built, is_built_column, is_built_command, is_built_create, is_built_definition, is_built_filter, is_built_from, is_built_insert, is_built_item, is_built_part, is_built_query, is_built_result, is_built_rows, is_built_rows_source, is_built_select, is_built_source, is_built_table, is_built_values, is_built_row, is_plain_select, is_table, stands_alone};
+ghost use Rattle.sql_meaning.specs.Built.{are_built_rows, is_built, is_built_column, is_built_command, is_built_constraint, is_built_create, is_built_definition, is_built_filter, is_built_from, is_built_insert, is_built_item, is_built_part, is_built_query, is_built_result, is_built_rows, is_built_rows_source, is_built_select, is_built_source, is_built_table, is_built_values, is_built_row, is_plain_select, is_table, stands_alone};
 ghost use Rattle.sql_tree.specs.Layers.{of_item, of_part, of_query, of_result, of_select, of_source};
 
 use crate::built_expressions::is_built as is_built_expr;
 use sql_tree::{
-    ColumnDefinition, Command, ConflictChoice, Create, Definition, Expr, FromItem, Insert,
+    ColumnConstraint, ColumnDefinition, Command, ConflictChoice, Create, Definition, Expr, FromItem, Insert,
     InsertSource, ObjectKind, Query, QueryPart, ResultColumn, RowCommand, SelectCore, Source,
     Statement, TableDefinition,
 };
@@ -58,8 +58,8 @@ fn is_built_definition(definition: &Definition) -> bool
     }
 }
 
-/// Whether a table has no constraint, neither at a column nor behind them.
-pub(crate) fn is_built_table(table: &TableDefinition) -> bool
+/// Whether a table has no constraints but collations of columns.
+fn is_built_table(table: &TableDefinition) -> bool
     ensures { result ≡ is_built_table table.now }
 {
     table.constraints.is_empty() && are_built_columns(table.columns.as_slice())
@@ -74,7 +74,22 @@ fn are_built_columns(columns: &[ColumnDefinition]) -> bool
 fn is_built_column(column: &ColumnDefinition) -> bool
     ensures { result ≡ is_built_column column.now }
 {
-    column.constraints.is_empty()
+    are_built_constraints(column.constraints.as_slice())
+}
+
+fn are_built_constraints(constraints: &[ColumnConstraint]) -> bool
+    ensures { result ≡ list_all is_built_constraint constraints.now }
+{
+    constraints.iter().all(|constraint| is_built_constraint(constraint))
+}
+
+fn is_built_constraint(constraint: &ColumnConstraint) -> bool
+    ensures { result ≡ is_built_constraint constraint.now }
+{
+    match constraint {
+        ColumnConstraint::Collate(_) | ColumnConstraint::Null => true,
+        _ => false,
+    }
 }
 
 /// Whether it is a table.

@@ -1,9 +1,10 @@
 // INSERTs of rows of values that name nothing into tables without constraints: what these run as is told at once.
 ghost use Rattle.std.specs.Prelude.{◌≡◌, ◌≤◌, ℕ, length, true, [], None, IfOk, IfSome};
+ghost use Rattle.std.specs.List.{list_all};
 ghost use Rattle.std.specs.Option.{option_copied};
 ghost use Rattle.bind_stmt.specs.Binds.{Binds};
 ghost use Rattle.bind_stmt.specs.declared.statement.Bound.TheVariants as bound;
-ghost use Rattle.bind_stmt.specs.Plain.{AreRows, AreValues, IsPlainTable, IsValue, PutsPlain, defines_plain, has_no_index, insert_of, is_plain_entry, is_table_kind, placed_from, rows_in, rows_of, rows_of_query, rows_of_source};
+ghost use Rattle.bind_stmt.specs.Plain.{AreRows, AreValues, IsPlainTable, IsValue, PutsPlain, defines_plain, has_no_index, insert_of, is_plain_column, is_plain_entry, is_plain_table, is_table_kind, placed_from, rows_in, rows_of, rows_of_query, rows_of_source};
 ghost use Rattle.bound_tree.specs.Exprs as e;
 ghost use Rattle.eng_value.specs.declared.limits.TheConstants.{MAX_COLUMNS};
 ghost use Rattle.sql_meaning.specs.Built.{is_built};
@@ -14,7 +15,7 @@ ghost use Rattle.sql_tree.specs.declared.expr.Expr.TheVariants as x;
 ghost use Rattle.sql_tree.specs.declared.expr.UnaryOp.TheVariants as sign;
 ghost use Rattle.sql_words.specs.Spelled.{literal_at};
 
-use crate::built::{is_built_table, stands_alone};
+use crate::built::stands_alone;
 use crate::tables::table_called;
 use bind_entry::{is_index_of, table_named, table_of};
 use bind_name::{is_least_magnitude, literal, plain_name, slice_of};
@@ -24,7 +25,8 @@ use eng_entry::{Entry, EntryKind, Space};
 use eng_value::{MAX_COLUMNS, UnaryOperator};
 use sql_meaning::{BoundInsert, Column, PutColumn, TableEntry};
 use sql_tree::{
-    Command, Expr, Insert, InsertSource, Query, QueryPart, RowCommand, Statement, Token, UnaryOp,
+    ColumnDefinition, Command, Expr, Insert, InsertSource, Query, QueryPart, RowCommand, Statement,
+    TableDefinition, Token, UnaryOp,
 };
 use sqlite_items::Items;
 use std::alloc::{AllocError, Global};
@@ -114,12 +116,31 @@ fn is_table_kind(kind: EntryKind) -> bool
     }
 }
 
+fn is_plain_column(column: &ColumnDefinition) -> bool
+    ensures { result ≡ is_plain_column column.now }
+{
+    column.constraints.is_empty()
+}
+
+fn are_plain_columns(columns: &[ColumnDefinition]) -> bool
+    ensures { result ≡ list_all is_plain_column columns.now }
+{
+    columns.iter().all(|column| is_plain_column(column))
+}
+
+/// Whether a table has no constraint, neither at a column nor behind them.
+fn is_plain_table(table: &TableDefinition) -> bool
+    ensures { result ≡ is_plain_table table.now }
+{
+    table.constraints.is_empty() && are_plain_columns(table.columns.as_slice())
+}
+
 /// Whether an entry defines a table of so many columns without a constraint.
 fn defines_plain(entry: &Entry, width: usize) -> bool
     ensures { result ≡ defines_plain entry.now width }
 {
     match table_of(entry) {
-        Some(table) => is_built_table(table) && table.columns.len() == width,
+        Some(table) => is_plain_table(table) && table.columns.len() == width,
         None => false,
     }
 }

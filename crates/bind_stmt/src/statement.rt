@@ -115,7 +115,7 @@ fn nobody_tells(alloc: Global) -> HostFacts
         told: Items::new(alloc),
         savepoints: Items::new(alloc),
         recursive_triggers: false,
-        rowids: false,
+        rowids: true,
     }
 }
 

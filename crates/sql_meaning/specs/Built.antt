@@ -1,4 +1,4 @@
--- Which statements are built: CREATE TABLE with names and types of columns, DROP TABLE, INSERT of rows of values, VALUES, SELECT of
+-- Which statements are built: CREATE TABLE with names, types and collations of columns, DROP TABLE, INSERT of rows of values, VALUES, SELECT of
 -- expressions from one table or none, and PRAGMA. What any other holds does not run yet.
 use Rattle.std.specs.Prelude.{ℕ, nat_eq, Bool, true, false, not, ◌&&◌, ◌||◌, List, [], ◌∷◌, length, Option, Some, None, is_some, codes}
 use Rattle.std.specs.List.{list_all}
@@ -11,6 +11,8 @@ use Rattle.sql_tree.specs.declared.expr.Expr.{Expr}
 use Rattle.sql_tree.specs.declared.expr.Expr.TheOpen.{Expr-F, QueryPart-F, ResultColumn-F, Source-F}
 use Rattle.sql_tree.specs.declared.query.FromItem.{FromItem}
 use Rattle.sql_tree.specs.declared.query.ResultColumn.{ResultColumn}
+use Rattle.sql_tree.specs.declared.statement.ColumnConstraint.{ColumnConstraint}
+use Rattle.sql_tree.specs.declared.statement.ColumnConstraint.TheVariants as constraint
 use Rattle.sql_tree.specs.declared.statement.ColumnDefinition.{ColumnDefinition}
 use Rattle.sql_tree.specs.declared.statement.Command.{Command}
 use Rattle.sql_tree.specs.declared.statement.Command.TheVariants as command
@@ -97,10 +99,16 @@ abbrev pub is_empty : {A : Type 0} → List A → Bool
 is_empty [] = true
 is_empty (x ∷ xs) = false
 
--- of columns by a name and a type, without a constraint
-abbrev pub is_built_column : ColumnDefinition → Bool
-is_built_column c = is_empty c.constraints
+-- a collation; NULL constrains nothing
+abbrev pub is_built_constraint : ColumnConstraint → Bool
+is_built_constraint (constraint.Collate t) = true
+is_built_constraint constraint.Null = true
+is_built_constraint other = false
 
+abbrev pub is_built_column : ColumnDefinition → Bool
+is_built_column c = list_all is_built_constraint c.constraints
+
+-- without a constraint behind its columns
 abbrev pub is_built_table : TableDefinition → Bool
 is_built_table t = is_empty t.constraints && list_all is_built_column t.columns
 

@@ -262,7 +262,7 @@ nobody_tells = record {
   columns = λ name table. None;
   savepoint = λ name. false;
   recursive_triggers = false;
-  rowids = false;
+  rowids = true;
 }
 
 abbrev pub around : Entries → Around
