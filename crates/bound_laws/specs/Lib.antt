@@ -1,0 +1,4 @@
+pub mod Reach
+pub mod Order
+pub mod Views
+pub mod Writes
