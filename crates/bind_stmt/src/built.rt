@@ -6,9 +6,9 @@ ghost use Rattle.sql_tree.specs.Layers.{of_item, of_part, of_query, of_result, o
 
 use crate::built_expressions::is_built as is_built_expr;
 use sql_tree::{
-    ColumnConstraint, ColumnDefinition, Command, ConflictChoice, Create, Definition, Expr, FromItem, Insert,
-    InsertSource, ObjectKind, Query, QueryPart, ResultColumn, RowCommand, SelectCore, Source,
-    Statement, TableDefinition,
+    ColumnConstraint, ColumnDefinition, Command, ConflictChoice, Create, Definition, Expr,
+    FromItem, Insert, InsertSource, ObjectKind, Query, QueryPart, ResultColumn, RowCommand,
+    SelectCore, Source, Statement, TableDefinition,
 };
 use sqlite_items::Items;
 
@@ -80,7 +80,9 @@ fn is_built_column(column: &ColumnDefinition) -> bool
 fn are_built_constraints(constraints: &[ColumnConstraint]) -> bool
     ensures { result ≡ list_all is_built_constraint constraints.now }
 {
-    constraints.iter().all(|constraint| is_built_constraint(constraint))
+    constraints
+        .iter()
+        .all(|constraint| is_built_constraint(constraint))
 }
 
 fn is_built_constraint(constraint: &ColumnConstraint) -> bool
