@@ -1,5 +1,5 @@
 -- An expression is bound to what is there, if its parts are.
-use Rattle.std.proofs.Common.{ℕ, Bool, true, false, List, [], ◌∷◌, ◌++◌, length, Option, Some, None, codes, Ok, subst, sym, arith}
+use Rattle.std.proofs.Common.{◌≡◌, refl, ℕ, Bool, true, false, List, [], ◌∷◌, ◌++◌, length, Option, Some, None, codes, Ok, subst, sym, arith}
 use Rattle.std.specs.List.{AllByRecursion}
 use Rattle.std.proofs.Math.ListN.{length-append}
 use Rattle.sql_tree.specs.declared.expr.Arguments.{Arguments}
@@ -22,13 +22,14 @@ use Rattle.sql_bound.specs.Scopes.{Scope}
 use Rattle.sql_bound.specs.declared.scopes.ArmOperands.{ArmOperands}
 use Rattle.sql_bound.specs.declared.scopes.Asked.{Asked}
 use Rattle.sql_bound.specs.declared.scopes.Operand.{Operand}
+use Rattle.sql_bound.specs.declared.scopes.ResultColumn.{ResultColumn}
 use Rattle.sql_bound.specs.declared.scopes.Standing.TheVariants.{Nowhere, Taken}
 use Rattle.sql_bound.specs.declared.scopes.Standing.{Standing}
 use Rattle.sql_bound.specs.declared.scopes.Work.{Work}
-use Rattle.bound_laws.specs.Reach.{AreWithin, IsWithin, IsWithinIfThere, Reach, Takes, count_of}
+use Rattle.bound_laws.specs.Reach.{AreWithin, IsWithin, IsWithinIfThere, Reach, Serves, count_of}
 use Rattle.bound_laws.proofs.GrowLaws.{aggregates_later, grown, reached_before, stays_here}
 use Rattle.bound_laws.proofs.HandLaws.{AskedAt, asked_fits}
-use Rattle.bound_laws.proofs.Lists.{IfThere, adds_nothing, all_append, count_of-exprs, exprs_within, takes_later}
+use Rattle.bound_laws.proofs.Lists.{IfThere, adds_nothing, all_append, count_of-exprs, exprs_within, serves_later}
 use Rattle.bound_laws.proofs.OperandLaws.{ArmsAre, OperandIs, OperandsAre, OptionIs, between_within, binary_within, call_within, case_within, host_call_within, in_within, like_within, trees_within, unary_within}
 use Rattle.bound_laws.proofs.States.{AggregateStays, Asks, Binds, BindsIn, Grows, Here, Reached, ScopeFits, Steps, TreeStays, WorkFits}
 use Rattle.bound_laws.proofs.Triples.{Gives, gives, past, refuses, seq}
@@ -194,27 +195,39 @@ module _ (h : Here) where
       allowed _ s.outer.allowed.queries q.first_word _ (asked_fits h s.aggregates w (q.bound s.outer w.units) fits (hq h.units (h.own ∷ h.outers) s.outer scope.outer w.units fits.begins))
 
   record AskedWithin (r : Reach) (a : Asked × List BoundExpr) : Type 0 where
-    takes : Takes r.units a.0.unit (count_of (exprs a.1))
+    serves : Serves r.units a.0.unit (count_of (exprs a.1)) (length a.0.columns)
     handed : AreWithin r h.own (exprs a.1)
 
   asked_within : (standing : Standing) (a : Asked × List BoundExpr) (v : Work) → AskedAt h standing a v → (r : Reach) → Reached standing v r → AskedWithin r a
   asked_within standing a v asked r k = record {
-    takes = subst (Takes r.units a.0.unit) (sym (count_of-exprs a.1)) (takes_later v.units r.units a.0.unit (length a.1) k.units asked.takes);
+    serves = subst (λ n. Serves r.units a.0.unit n (length a.0.columns)) (sym (count_of-exprs a.1)) (serves_later v.units r.units a.0.unit (length a.1) (length a.0.columns) k.units asked.serves);
     handed = exprs_within r h.own a.1 (asked.stays r k);
   }
 
+  one_is : (word : List ℕ) (columns : List ResultColumn) → Gives (λ (c : ResultColumn). length columns ≡ 1) (one_column word columns)
+  one_is word [] = refuses _ _
+  one_is word (c ∷ []) = gives _ _ refl
+  one_is word (c ∷ d ∷ cs) = refuses _ _
+
+  serves_one : (r : Reach) (a : Asked × List BoundExpr) → AskedWithin r a → length a.0.columns ≡ 1 → Serves r.units a.0.unit (count_of (exprs a.1)) 1
+  serves_one r a at one = subst (Serves r.units a.0.unit (count_of (exprs a.1))) one at.serves
+
   pub exists_binds : (q : QueryParts) → Asks q.bound → BindsIn h (bound_step (Expr-F.Exists q))
   exists_binds q hq s scope w fits =
-      seq _ _ _ _ (asks_here q hq s scope w fits) (λ a ha. gives _ _ (record { fits = ha.fits; grows = ha.grows; holds = λ r k. let at = asked_within s.aggregates a.0 a.1 ha.holds r k in (at.takes, at.handed) }))
+      seq _ _ _ _ (asks_here q hq s scope w fits) (λ a ha. gives _ _ (record { fits = ha.fits; grows = ha.grows; holds = λ r k. let at = asked_within s.aggregates a.0 a.1 ha.holds r k in ((length a.0.0.columns, at.serves), at.handed) }))
 
   pub scalar_binds : (q : QueryParts) → Asks q.bound → BindsIn h (bound_step (Expr-F.Subquery q))
   scalar_binds q hq s scope w fits =
-      seq _ _ _ _ (asks_here q hq s scope w fits) (λ a ha. past (one_column q.first_word a.0.0.columns) _ _ (λ c. gives _ _ (record { fits = ha.fits; grows = ha.grows; holds = λ r k. let at = asked_within s.aggregates a.0 a.1 ha.holds r k in (at.takes, at.handed) })))
+      seq _ _ _ _ (asks_here q hq s scope w fits) (λ a ha. seq _ _ _ _ (one_is q.first_word a.0.0.columns) (λ c one. gives _ _ (record {
+        fits = ha.fits;
+        grows = ha.grows;
+        holds = λ r k. let at = asked_within s.aggregates a.0 a.1 ha.holds r k in (serves_one r a.0 at one, at.handed);
+      })))
 
   pub in_query_binds : (x : Expression) (q : QueryParts) → ExprBinds x → Asks q.bound → BindsIn h (bound_step (Expr-F.InQuery x q))
   in_query_binds x q hx hq s scope w fits =
-      seq _ _ _ _ (hx h s scope w fits) (λ y hy. seq _ _ _ _ (asks_here q hq s scope y.1 hy.fits) (λ a ha. past (one_column q.first_word a.0.0.columns) _ _ (λ c. gives _ _ (record {
+      seq _ _ _ _ (hx h s scope w fits) (λ y hy. seq _ _ _ _ (asks_here q hq s scope y.1 hy.fits) (λ a ha. seq _ _ _ _ (one_is q.first_word a.0.0.columns) (λ c one. gives _ _ (record {
         fits = ha.fits;
         grows = grown _ _ _ hy.grows ha.grows;
-        holds = λ r k. let at = asked_within s.aggregates a.0 a.1 ha.holds r k in (hy.holds r (reached_before _ _ _ _ ha.grows k), at.takes, at.handed);
+        holds = λ r k. let at = asked_within s.aggregates a.0 a.1 ha.holds r k in (hy.holds r (reached_before _ _ _ _ ha.grows k), serves_one r a.0 at one, at.handed);
       }))))

@@ -137,14 +137,14 @@ module _ (units : List BoundUnit) (outers : List From) (i : Inside) (inside : In
 
   -- ---- items in turn
 
-  items_append : (r : Reach) (left : From) (items : List BoundItem) (item : BoundItem) → ItemsAreWithin r left items → SourceIsWithin r (left ++ widths_of items) item.source → EachIsWithin r (left ++ widths_of items ++ width_of item ∷ []) item.ons
+  items_append : (r : Reach) (left : From) (items : List BoundItem) (item : BoundItem) → ItemsAreWithin r left items → SourceIsWithin r (left ++ widths_of items) (width_of item) item.source → EachIsWithin r (left ++ widths_of items ++ width_of item ∷ []) item.ons
       → ItemsAreWithin r left (items ++ item ∷ [])
   items_append r left [] item all source ons =
       let nothing = append-nil left in
-      (subst (λ l. SourceIsWithin r l item.source) nothing source, subst (λ l. EachIsWithin r (l ++ width_of item ∷ []) item.ons) nothing ons, tt)
+      (subst (λ l. SourceIsWithin r l (width_of item) item.source) nothing source, subst (λ l. EachIsWithin r (l ++ width_of item ∷ []) item.ons) nothing ons, tt)
   items_append r left (first ∷ items) item all source ons =
       let same = append_assoc left (width_of first ∷ []) (widths_of items) in
-      (all.0, all.1, items_append r (left ++ width_of first ∷ []) items item all.2 (subst (λ l. SourceIsWithin r l item.source) (sym same) source) (subst (λ l. EachIsWithin r (l ++ width_of item ∷ []) item.ons) (sym same) ons))
+      (all.0, all.1, items_append r (left ++ width_of first ∷ []) items item all.2 (subst (λ l. SourceIsWithin r l (width_of item) item.source) (sym same) source) (subst (λ l. EachIsWithin r (l ++ width_of item ∷ []) item.ons) (sym same) ons))
 
   abbrev joined_item : ItemParts → Option (List ℕ) → Sourced → Joining → BoundItem
   joined_item item name s j = record (plain_item name s) { join = kind_of_join item.join.left; ons = j.ons; ons_made = are_made item.constraint }
@@ -158,7 +158,7 @@ module _ (units : List BoundUnit) (outers : List From) (i : Inside) (inside : In
   abbrev FoundResult : Work → Found × Work → Type 0
   FoundResult w r = PlainSteps units outers FoundStays w r
 
-  joined_stays : (item : ItemParts) (name : Option (List ℕ)) (s : Sourced) (f : Found) (w : Work) → GoodConstraint item.constraint → FoundStays f w → ((r : Reach) → Reached Nowhere w r → SourceIsWithin r (widths_of f.items) s.source) → IsPlain units outers w
+  joined_stays : (item : ItemParts) (name : Option (List ℕ)) (s : Sourced) (f : Found) (w : Work) → GoodConstraint item.constraint → FoundStays f w → ((r : Reach) → Reached Nowhere w r → SourceIsWithin r (widths_of f.items) (length s.columns) s.source) → IsPlain units outers w
       → Gives (FoundResult w) (joined_to i item name s f w)
   joined_stays item name s f w good found source plain =
       let from = width_behind f s in

@@ -12,9 +12,9 @@ use Rattle.sql_bound.specs.declared.scopes.Need.{Need}
 use Rattle.sql_bound.specs.declared.scopes.Standing.{Standing}
 use Rattle.sql_bound.specs.declared.scopes.Work.{Work}
 use Rattle.bound_laws.specs.Order.{AddsUnits}
-use Rattle.bound_laws.specs.Reach.{IsWithin, Reach, Takes}
+use Rattle.bound_laws.specs.Reach.{IsWithin, Reach, Serves}
 use Rattle.bound_laws.proofs.GrowLaws.{aggregates_later, grown, not_grown, stays_later}
-use Rattle.bound_laws.proofs.Lists.{adds_nothing, all_append, begins_added, begins_before, takes_later}
+use Rattle.bound_laws.proofs.Lists.{adds_nothing, all_append, begins_added, begins_before, serves_later}
 use Rattle.bound_laws.proofs.States.{AllStay, AskedFits, From, Grows, Here, IsColumnOf, NeedFits, NeedsFit, Stays, Steps, WorkFits, from_at}
 use Rattle.bound_laws.proofs.Triples.{Gives, gives, seq}
 
@@ -95,13 +95,13 @@ module _ (h : Here) (standing : Standing) where
 
   -- a query that is asked is handed what it takes
   pub record AskedAt (a : Asked × List BoundExpr) (v : Work) : Type 0 where
-    pub takes : Takes v.units a.0.unit (length a.1)
+    pub serves : Serves v.units a.0.unit (length a.1) (length a.0.columns)
     pub stays : AllStay standing h.own v a.1
 
-  pub handed_units : (needs : List Need) (w : Work) (unit given : ℕ) → WorkFits h w → NeedsFit (h.own ∷ h.outers) needs → Takes w.units unit given → Takes (handed needs w).1.units unit given
-  handed_units needs w unit given fits all takes =
+  pub handed_units : (needs : List Need) (w : Work) (unit given width : ℕ) → WorkFits h w → NeedsFit (h.own ∷ h.outers) needs → Serves w.units unit given width → Serves (handed needs w).1.units unit given width
+  handed_units needs w unit given width fits all serves =
       let steps = handed_fits needs w fits all in
-      takes_later w.units (handed needs w).1.units unit given (begins_added w.units (handed needs w).1.units steps.grows.units) takes
+      serves_later w.units (handed needs w).1.units unit given width (begins_added w.units (handed needs w).1.units steps.grows.units) serves
 
   pub asked_fits : (w : Work) (answer : UnitsAnswer Asked) → WorkFits h w → Gives (AskedFits w.units (h.own ∷ h.outers)) answer → Gives (Steps h AskedAt w) (asked w answer)
   asked_fits w answer fits asks = seq _ _ _ _ asks (λ a found. gives _ _ (go a found)) where
@@ -110,9 +110,9 @@ module _ (h : Here) (standing : Standing) where
         let start : Work = record w { units = a.1 } in
         let ready = with_units_fits w a.1 fits found.adds in
         let steps = handed_fits a.0.needs start ready found.needs in
-        let takes = handed_units a.0.needs start a.0.unit (length a.0.needs) ready found.needs found.takes in
+        let serves = handed_units a.0.needs start a.0.unit (length a.0.needs) (length a.0.columns) ready found.needs found.serves in
         record {
           fits = steps.fits;
           grows = grown w start (handed a.0.needs start).1 (with_units_grown w a.1 found.adds) steps.grows;
-          holds = record { takes = subst (Takes (handed a.0.needs start).1.units a.0.unit) (sym (handed_count a.0.needs start)) takes; stays = steps.holds };
+          holds = record { serves = subst (λ n. Serves (handed a.0.needs start).1.units a.0.unit n (length a.0.columns)) (sym (handed_count a.0.needs start)) serves; stays = steps.holds };
         }

@@ -11,6 +11,7 @@ pub mod PlainLaws
 pub mod SourceLaws
 pub mod FromLaws
 pub mod ResultLaws
+pub mod CountLaws
 pub mod SelectLaws
 pub mod PartLaws
 pub mod OrderLaws

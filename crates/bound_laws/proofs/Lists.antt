@@ -1,11 +1,13 @@
 -- Lists all of whose members are so, and lists with others behind them.
-use Rattle.std.proofs.Common.{get_or, ◌≡◌, ◌∙◌, ℕ, zero, suc, ◌<◌, Bool, true, false, cond, filter, List, [], ◌∷◌, ◌++◌, length, map, Option, Some, None, slice_get, refl, sym, ap, subst, append_assoc, append-nil, arith}
+use Rattle.std.proofs.lemmas.Bool.Decides.{Decides-ltb}
+use Rattle.std.specs.List.{position_or_len}
+use Rattle.std.proofs.Common.{position, nat_lt, get_or, ◌≡◌, ◌∙◌, ℕ, zero, suc, ◌<◌, Bool, true, false, cond, filter, List, [], ◌∷◌, ◌++◌, length, map, Option, Some, None, slice_get, refl, sym, ap, subst, append_assoc, append-nil, arith}
 use Rattle.std.specs.Bool.{⊤}
 use Rattle.std.specs.List.{AllByRecursion, flat_map}
 use Rattle.bound_tree.specs.Exprs.{BoundExpr, exprs}
 use Rattle.bound_tree.specs.declared.units.BoundUnit.{BoundUnit}
 use Rattle.bound_laws.specs.Order.{AddsUnits, AreInOrderBehind, UnitIsWithin}
-use Rattle.bound_laws.specs.Reach.{AreWithin, EachIsWithin, HasColumn, HasItem, Reach, Takes, arguments_of, count_of}
+use Rattle.bound_laws.specs.Reach.{AreWithin, EachIsWithin, HasColumn, HasItem, Reach, Serves, arguments_of, columns_of, count_of}
 
 -- ---- all
 
@@ -46,6 +48,14 @@ module _ {X : Type 0} (P : X → Type 0) where
   member_at (x ∷ xs) zero all = all.0
   member_at (x ∷ xs) (suc place) all = member_at xs place all.1
 
+-- ---- places
+
+pub place_within : {X : Type 0} (test : X → Bool) (xs : List X) (place : ℕ) → position test xs ≡ Some place → place < length xs
+place_within test xs place is = go (nat_lt (position_or_len test xs) (length xs)) (Decides-ltb (position_or_len test xs) (length xs)).0 is where
+  go : (b : Bool) → (b ≡ true → position_or_len test xs < length xs) → cond b (Some (position_or_len test xs)) None ≡ Some place → place < length xs
+  go true within same = let here : position_or_len test xs ≡ place = cc in omega (arith, within refl)
+  go false within same = cc
+
 -- ---- with others behind them
 
 abbrev pub BeginsWith : {A : Type 0} → List A → List A → Type 0
@@ -79,27 +89,27 @@ order_of_all us vs h before = subst (AreInOrderBehind []) (sym h.1) (order_appen
 
 -- ---- units
 
-takes_append : (us more : List BoundUnit) (unit given : ℕ) → Takes us unit given → Takes (us ++ more) unit given
-takes_append [] more unit given h = absurd h
-takes_append (u ∷ us) more zero given h = h
-takes_append (u ∷ us) more (suc unit) given h = takes_append us more unit given h
+serves_append : (us more : List BoundUnit) (unit given width : ℕ) → Serves us unit given width → Serves (us ++ more) unit given width
+serves_append [] more unit given width h = absurd h
+serves_append (u ∷ us) more zero given width h = h
+serves_append (u ∷ us) more (suc unit) given width h = serves_append us more unit given width h
 
-pub takes_later : (us vs : List BoundUnit) (unit given : ℕ) → BeginsWith us vs → Takes us unit given → Takes vs unit given
-takes_later us vs unit given h t = subst (λ all. Takes all unit given) (sym h.1) (takes_append us h.0 unit given t)
+pub serves_later : (us vs : List BoundUnit) (unit given width : ℕ) → BeginsWith us vs → Serves us unit given width → Serves vs unit given width
+serves_later us vs unit given width h t = subst (λ all. Serves all unit given width) (sym h.1) (serves_append us h.0 unit given width t)
 
-pub takes_last : (us : List BoundUnit) (u : BoundUnit) → Takes (us ++ u ∷ []) (length us) (arguments_of u)
-takes_last [] u = refl
-takes_last (x ∷ us) u = takes_last us u
+pub serves_last : (us : List BoundUnit) (u : BoundUnit) → Serves (us ++ u ∷ []) (length us) (arguments_of u) (length (columns_of u))
+serves_last [] u = (refl, refl)
+serves_last (x ∷ us) u = serves_last us u
 
-pub takes_at : (us : List BoundUnit) (place : ℕ) (d : BoundUnit) → place < length us → Takes us place (arguments_of (get_or us place d))
-takes_at [] place d h = let no : place < 0 = h in absurd (omega arith)
-takes_at (u ∷ us) zero d h = refl
-takes_at (u ∷ us) (suc place) d h = takes_at us place d (omega arith)
+pub serves_at : (us : List BoundUnit) (place : ℕ) (d : BoundUnit) → place < length us → Serves us place (arguments_of (get_or us place d)) (length (columns_of (get_or us place d)))
+serves_at [] place d h = let no : place < 0 = h in absurd (omega arith)
+serves_at (u ∷ us) zero d h = (refl, refl)
+serves_at (u ∷ us) (suc place) d h = serves_at us place d (omega arith)
 
-pub takes_below : (us : List BoundUnit) (unit given : ℕ) → Takes us unit given → unit < length us
-takes_below [] unit given h = absurd h
-takes_below (u ∷ us) zero given h = omega arith
-takes_below (u ∷ us) (suc unit) given h = omega (arith, takes_below us unit given h)
+pub serves_below : (us : List BoundUnit) (unit given width : ℕ) → Serves us unit given width → unit < length us
+serves_below [] unit given width h = absurd h
+serves_below (u ∷ us) zero given width h = omega arith
+serves_below (u ∷ us) (suc unit) given width h = omega (arith, serves_below us unit given width h)
 
 -- ---- columns
 

@@ -19,7 +19,7 @@ use Rattle.bound_laws.proofs.ExprLaws.{ExprBinds, OperandsStay, all_bind}
 use Rattle.bound_laws.proofs.Goods.{GoodExpression, SameSlots}
 use Rattle.bound_laws.proofs.GrowLaws.{grown, not_grown}
 use Rattle.bound_laws.proofs.HandLaws.{AskedAt, asked_fits, with_units_fits}
-use Rattle.bound_laws.proofs.Lists.{BeginsWith, all_weaker, takes_later}
+use Rattle.bound_laws.proofs.Lists.{BeginsWith, all_weaker, serves_later}
 use Rattle.bound_laws.proofs.States.{AggregateStays, AskedFits, EntryFits, From, Grows, Here, LevelFits, MeaningFits, OuterFits, ScopeFits, Stays, Steps, WorkFits}
 use Rattle.bound_laws.proofs.Triples.{Gives, gives, seq}
 
@@ -32,7 +32,7 @@ both P Q (Err why) h k = record { holds = tt }
 seen_further : (units : List BoundUnit) (outers : List From) (own : From) (around : ℕ) (m : WithMeaning) → MeaningFits units outers around m → MeaningFits units (own ∷ outers) around m
 seen_further units outers own around Itself fits = tt
 seen_further units outers own around (Bound unit recursive needs columns) fits = record {
-  takes = fits.takes;
+  serves = fits.serves;
   fits = record { before = own ∷ fits.fits.before; after = fits.fits.after; all = ap (λ l. own ∷ l) fits.fits.all; count = fits.fits.count; fit = fits.fits.fit };
 }
 
@@ -41,7 +41,7 @@ entries_further units outers own ts = all_weaker (EntryFits units outers) (Entry
 
 meaning_later : (units now : List BoundUnit) (outers : List From) (around : ℕ) (m : WithMeaning) → BeginsWith units now → MeaningFits units outers around m → MeaningFits now outers around m
 meaning_later units now outers around Itself h fits = tt
-meaning_later units now outers around (Bound unit recursive needs columns) h fits = record { takes = takes_later units now unit (length needs) h fits.takes; fits = fits.fits }
+meaning_later units now outers around (Bound unit recursive needs columns) h fits = record { serves = serves_later units now unit (length needs) (length columns) h fits.serves; fits = fits.fits }
 
 pub outer_later : (units now : List BoundUnit) (outers : List From) (o : Outer) → BeginsWith units now → OuterFits units outers o → OuterFits now outers o
 outer_later units now outers o h fits = record {

@@ -1,5 +1,5 @@
 -- A query adds units in order, and its own is handed what it takes.
-use Rattle.std.proofs.Common.{◌≡◌, ◌≤◌, ◌<◌, ℕ, nat_eq, Bool, true, false, ◌&&◌, cond, List, [], ◌∷◌, ◌++◌, length, map, position, get_or, Option, Some, None, codes, Ok, Err, refl, sym, ap, subst, arith}
+use Rattle.std.proofs.Common.{suc, ◌≡◌, ◌≤◌, ◌<◌, ℕ, nat_eq, Bool, true, false, ◌&&◌, cond, List, [], ◌∷◌, ◌++◌, length, map, position, get_or, Option, Some, None, codes, Ok, Err, refl, sym, ap, subst, arith}
 use Rattle.std.specs.List.{AllByRecursion, list_any}
 use Rattle.std.proofs.lemmas.Bool.Decides.{Decides-eqb}
 use Rattle.std.proofs.lemmas.List.Quantifiers.{position-Some}
@@ -10,6 +10,7 @@ use Rattle.sql_words.specs.Spelled.{name_at}
 use Rattle.bound_tree.specs.Same.{all_same, both_same, same_collation, same_expr, same_truth}
 use Rattle.bound_tree.specs.SameUnits.{same_column, same_compound, same_core, same_part, same_term, same_unit, same_within}
 use Rattle.bound_tree.specs.declared.units.BoundCompound.{BoundCompound}
+use Rattle.bound_tree.specs.declared.units.BoundTerm.{BoundTerm}
 use Rattle.bound_tree.specs.declared.units.BoundUnit.TheVariants.{Queried, Recursed}
 use Rattle.bound_tree.specs.declared.units.BoundUnit.{BoundUnit}
 use Rattle.sql_bound.specs.Carriers.{CompoundParts, ItemParts, PartParts, Select, TableParts, Values}
@@ -29,15 +30,15 @@ use Rattle.sql_bound.specs.declared.scopes.Asked.{Asked}
 use Rattle.sql_bound.specs.declared.scopes.ResultColumn.{ResultColumn}
 use Rattle.sql_bound.specs.declared.scopes.Standing.TheVariants.{Nowhere}
 use Rattle.sql_bound.specs.declared.scopes.Work.{Work}
-use Rattle.bound_laws.specs.Order.{AddsUnits, CoreIsWithin, PartIsWithin, UnitIsWithin, widths_of}
-use Rattle.bound_laws.specs.Reach.{Takes, arguments_of}
+use Rattle.bound_laws.specs.Order.{AddsUnits, CoreIsWithin, KeyIsWithin, PartIsWithin, UnitIsWithin, widths_of}
+use Rattle.bound_laws.specs.Reach.{Serves, arguments_of, columns_of}
 use Rattle.bound_laws.proofs.Goods.{GoodCompound, GoodCore, GoodLimit, GoodPart, GoodQuery, GoodTable, GoodTerm}
 use Rattle.bound_laws.proofs.GrowLaws.{grown}
-use Rattle.bound_laws.proofs.Lists.{BeginsWith, IfThere, adds_before, adds_nothing, adds_one, all_append, all_weaker, begins_added, begins_itself, takes_at, takes_below, takes_last}
+use Rattle.bound_laws.proofs.Lists.{BeginsWith, IfThere, adds_before, adds_nothing, adds_one, all_append, all_weaker, begins_added, begins_itself, serves_at, serves_below, serves_last}
 use Rattle.bound_laws.proofs.OrderLaws.{GatheredIs, GatheredStays, LimitStays, limit_stays, parts_stay}
 use Rattle.bound_laws.proofs.PartLaws.{GivenStays, OthersStay, Selects, core_stays, ended_grows, ended_plain, lasts_later, others_stay, part_stays, recursive_stays}
 use Rattle.bound_laws.proofs.PlainLaws.{IsPlain, PlainSteps, inside_fits, outer_later}
-use Rattle.bound_laws.proofs.SourceLaws.{levels_count}
+use Rattle.bound_laws.proofs.SourceLaws.{as_wide, columns_length, levels_count}
 use Rattle.bound_laws.proofs.States.{AskedFits, Asks, DepthFits, From, Grows, InsideFits, NeedsFit, OuterFits}
 use Rattle.bound_laws.proofs.Triples.{Gives, gives, past, refuses, seq}
 
@@ -63,24 +64,48 @@ same_arguments (Recursed a) (Recursed b) h =
 same_arguments (Queried a) (Recursed b) h = cc
 same_arguments (Recursed a) (Queried b) h = cc
 
+last_of : (a b : Bool) → (a && b) ≡ true → b ≡ true
+last_of true b h = h
+last_of false b h = cc
+
+same_length : {A B : Type 0} (same : A → B → Bool) (xs : List A) (ys : List B) → all_same same xs ys ≡ true → length xs ≡ length ys
+same_length same [] [] h = refl
+same_length same [] (y ∷ ys) h = cc
+same_length same (x ∷ xs) [] h = cc
+same_length same (x ∷ xs) (y ∷ ys) h = ap suc (same_length same xs ys (last_of (same x y) (all_same same xs ys) h))
+
+same_width : (u v : BoundUnit) → same_unit u v ≡ true → length (columns_of u) ≡ length (columns_of v)
+same_width (Queried a) (Queried b) h =
+    same_length same_column a.columns b.columns
+    (last_of (same_within a.within b.within && nat_eq a.arguments b.arguments && all_same nat_eq a.tables b.tables && same_part a.first b.first && all_same same_compound a.others b.others && all_same same_term a.order b.order && both_same same_expr a.limit b.limit && both_same same_expr a.offset b.offset) (all_same same_column a.columns b.columns) h)
+same_width (Recursed a) (Recursed b) h =
+    same_length same_column a.columns b.columns
+    (last_of (same_within a.within b.within && nat_eq a.arguments b.arguments && all_same nat_eq a.tables b.tables && same_part a.first b.first && all_same same_compound a.others b.others && same_truth a.all b.all && same_core a.part b.part && all_same same_collation a.collations b.collations && both_same same_expr a.limit b.limit && both_same same_expr a.offset b.offset) (all_same same_column a.columns b.columns) h)
+same_width (Queried a) (Recursed b) h = cc
+same_width (Recursed a) (Queried b) h = cc
+
 record Placed (u : BoundUnit) (units : List BoundUnit) (r : ℕ × List BoundUnit) : Type 0 where
   adds : AddsUnits units r.1
-  takes : Takes r.1 r.0 (arguments_of u)
+  serves : Serves r.1 r.0 (arguments_of u) (length (columns_of u))
 
 placed : (u : BoundUnit) (units : List BoundUnit) → UnitIsWithin units u → Placed u units (with_unit u units)
 placed u units within = go (position (same_unit u) units) (λ place is. position-Some (same_unit u) units place u is) where
   go : (found : Option ℕ) → ((place : ℕ) → found ≡ Some place → (place < length units) × (same_unit u (get_or units place u) ≡ true) × ((k : ℕ) → k < place → same_unit u (get_or units k u) ≡ false)) → Placed u units (unit_at u units found)
   go (Some place) at =
       let h = at place refl in
-      record { adds = adds_nothing units; takes = subst (Takes units place) (sym (same_arguments u (get_or units place u) h.1)) (takes_at units place u h.0) }
-  go None at = record { adds = adds_one units u within; takes = takes_last units u }
+      record {
+        adds = adds_nothing units;
+        serves = subst (λ n. Serves units place n (length (columns_of u))) (sym (same_arguments u (get_or units place u) h.1))
+            (subst (Serves units place (arguments_of (get_or units place u))) (sym (same_width u (get_or units place u) h.1)) (serves_at units place u h.0));
+      }
+  go None at = record { adds = adds_one units u within; serves = serves_last units u }
 
 -- what a query comes to whose unit takes what it needs
-pub asked_as_fits : (now : List BoundUnit) (outers : List From) (u : BoundUnit) (columns : List ResultColumn) (w : Work) → UnitIsWithin w.units u → arguments_of u ≡ length w.needs → AddsUnits now w.units → NeedsFit outers w.needs
+pub asked_as_fits : (now : List BoundUnit) (outers : List From) (u : BoundUnit) (columns : List ResultColumn) (w : Work) → UnitIsWithin w.units u → arguments_of u ≡ length w.needs → length (columns_of u) ≡ length columns → AddsUnits now w.units → NeedsFit outers w.needs
     → AskedFits now outers (asked_as u columns w)
-asked_as_fits now outers u columns w within takes adds needs =
+asked_as_fits now outers u columns w within takes wide adds needs =
     let at = placed u w.units within in
-    record { adds = adds_before now w.units (with_unit u w.units).1 adds at.adds; takes = subst (Takes (with_unit u w.units).1 (with_unit u w.units).0) takes at.takes; needs = needs }
+    record { adds = adds_before now w.units (with_unit u w.units).1 adds at.adds; serves = subst (λ n. Serves (with_unit u w.units).1 (with_unit u w.units).0 n (length columns)) takes (subst (Serves (with_unit u w.units).1 (with_unit u w.units).0 (arguments_of u)) wide at.serves); needs = needs }
 
 -- ---- WITH
 
@@ -120,7 +145,7 @@ module _ (outers : List From) where
   tables_fit (t ∷ ts) all i now inside so_far below =
       seq _ _ _ _ (one_table t all.0) (λ a found. later a.1 found.adds (tables_bound (seeing (table_entry i (name_at i.outer.text t.name) a) i) (so_far ++ a.0.unit ∷ []) ts a.1)
       (tables_fit ts all.1 (seeing (table_entry i (name_at i.outer.text t.name) a) i) a.1 (seen a found) (so_far ++ a.0.unit ∷ [])
-      (all_append (λ table. table < length a.1) so_far (a.0.unit ∷ []) (below_later now a.1 so_far found.adds below) (takes_below a.1 a.0.unit (length a.0.needs) found.takes, tt))))
+      (all_append (λ table. table < length a.1) so_far (a.0.unit ∷ []) (below_later now a.1 so_far found.adds below) (serves_below a.1 a.0.unit (length a.0.needs) (length a.0.columns) found.serves, tt))))
     where
       one_table : (t : TableParts) → GoodTable t → Gives (AskedFits now ([] ∷ outers)) (table_asked i t now)
       one_table t good =
@@ -132,7 +157,7 @@ module _ (outers : List From) where
           record {
             outer = record {
               levels = o.levels;
-              tables = (record { takes = found.takes; fits = record { before = []; after = outers; all = refl; count = sym (levels_count outers i.outer.levels inside.outer.levels); fit = found.needs } }, o.tables);
+              tables = (record { serves = found.serves; fits = record { before = []; after = outers; all = refl; count = sym (levels_count outers i.outer.levels inside.outer.levels); fit = found.needs } }, o.tables);
               depth = o.depth;
             };
             views = inside.views;
@@ -154,7 +179,7 @@ module _ (outers : List From) where
           tables = below_later now l.1.units tables (adds_before now g.1.units l.1.units hg.grows.units hl.grows.units) below;
           first = all.first;
           others = all.others;
-          order = all.order;
+          order = subst (λ n. AllByRecursion (λ (t : BoundTerm). KeyIsWithin l.1.units (length l.1.needs) g.0.first n t.key) g.0.order) (sym (columns_length g.0.columns)) all.order;
           limit = limits.count;
           offset = limits.offset;
         }
@@ -163,7 +188,7 @@ module _ (outers : List From) where
     body_fits =
         seq _ _ _ _ (parts_stay now outers i inside q.first q.others q.order (begun now) good.first good.others good.order (begun_plain now outers now (begins_itself now)))
         (λ g hg. seq _ _ _ _ (limit_stays now outers i inside q.limit g.1 good.limit hg.plain)
-        (λ l hl. gives _ _ (asked_as_fits now outers (query_unit i.outer tables g.0 l.0 l.1) g.0.columns l.1 (query_within g l hg hl) refl (adds_before now g.1.units l.1.units hg.grows.units hl.grows.units) hl.plain.fits.needs)))
+        (λ l hl. gives _ _ (asked_as_fits now outers (query_unit i.outer tables g.0 l.0 l.1) g.0.columns l.1 (query_within g l hg hl) refl (columns_length g.0.columns) (adds_before now g.1.units l.1.units hg.grows.units hl.grows.units) hl.plain.fits.needs)))
 
     -- ---- a recursive table
 
@@ -196,10 +221,10 @@ module _ (outers : List From) where
         seq _ _ _ _ (limit_stays now outers i inside q.limit (without_aggregates s.1) good.limit (ended_plain now outers i inside (widths_of s.0.found.items) others.1 s.1 hs.fits)) (λ l hl.
         let rest : Grows others.1 l.1 = grown others.1 (without_aggregates s.1) l.1 (ended_grows now outers i inside others.1 s.1 ho.plain hs.grows) hl.grows in
         let whole : Grows (begun now) l.1 = grown (begun now) g.1 l.1 hg.grows (grown g.1 others.1 l.1 ho.grows rest) in
-        gives _ _ (asked_as_fits now outers (recursion_unit i.outer tables g.0 others.0 r columns s.0 s.1 l.0 l.1) columns l.1 (recursion_within r columns g others s l hg ho hs hl) refl whole.units hl.plain.fits.needs))))))))
+        gives _ _ (asked_as_fits now outers (recursion_unit i.outer tables g.0 others.0 r columns s.0 s.1 l.0 l.1) columns l.1 (recursion_within r columns g others s l hg ho hs hl) refl (columns_length columns) whole.units hl.plain.fits.needs))))))))
 
     renamed_fits : (name : List ℕ) (names : List (List ℕ)) (a : Asked × List BoundUnit) → AskedFits now outers a → Gives (AskedFits now outers) (named_columns name names a)
-    renamed_fits name names a found = past (with_names name names a.0.columns) _ _ (λ cs. gives _ _ (record { adds = found.adds; takes = found.takes; needs = found.needs }))
+    renamed_fits name names a found = seq _ _ _ _ (as_wide name names a.0.columns) (λ cs wide. gives _ _ (record { adds = found.adds; serves = subst (Serves a.1 a.0.unit (length a.0.needs)) (sym wide) found.serves; needs = found.needs }))
 
     pub table_body_fits : (name : List ℕ) (names : List (List ℕ)) (r : Option Recursive) → IfThere GoodRecursive r → Gives (AskedFits now outers) (table_body i tables name names q r now)
     table_body_fits name names (Some r) there = recursion_fits name names r there
@@ -214,7 +239,7 @@ module _ (outers : List From) where
       each (record { outer = record o { depth = below }; views = views }) (record { outer = record { levels = fits.levels; tables = fits.tables; depth = depth.1 }; views = depth.0 })
 
   later_asked : (now more : List BoundUnit) → AddsUnits now more → (m : UnitsAnswer Asked) → Gives (AskedFits more outers) m → Gives (AskedFits now outers) m
-  later_asked now more adds (Ok a) h = record { holds = record { adds = adds_before now more a.1 adds h.holds.adds; takes = h.holds.takes; needs = h.holds.needs } }
+  later_asked now more adds (Ok a) h = record { holds = record { adds = adds_before now more a.1 adds h.holds.adds; serves = h.holds.serves; needs = h.holds.needs } }
   later_asked now more adds (Err why) h = record { holds = tt }
 
   query_in_fits : (q : Written) → GoodWritten q → (now : List BoundUnit) (i : Inside) → InsideFits now outers i → Gives (AskedFits now outers) (query_in q i now)

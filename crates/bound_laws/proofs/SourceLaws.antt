@@ -1,5 +1,5 @@
 -- Where the rows of an item come from names what is there.
-use Rattle.std.proofs.Common.{◌≡◌, ◌∙◌, ℕ, zero, suc, ◌+◌, ◌-◌, Bool, true, false, cond, List, [], ◌∷◌, ◌++◌, length, map, Option, Some, None, Ok, Err, refl, sym, ap, subst, arith}
+use Rattle.std.proofs.Common.{nat_eq, ◌≡◌, ◌∙◌, ℕ, zero, suc, ◌+◌, ◌-◌, Bool, true, false, cond, List, [], ◌∷◌, ◌++◌, length, map, Option, Some, None, Ok, Err, refl, sym, ap, subst, arith}
 use Rattle.std.specs.List.{AllByRecursion}
 use Rattle.std.proofs.lemmas.List.{length-map}
 use Rattle.eng_entry.specs.Names.{is_same_name}
@@ -15,8 +15,9 @@ use Rattle.bound_tree.specs.declared.units.BoundUnit.{BoundUnit}
 use Rattle.sql_bound.specs.Carriers as parts
 use Rattle.sql_bound.specs.Carriers.{Expression, SourceParts}
 use Rattle.sql_bound.specs.Declarations.{definition_of, table_in, table_named, view_in}
-use Rattle.eng_value.specs.declared.cause.Cause.TheVariants.{Misuse}
-use Rattle.sql_bound.specs.Froms.{plain_source as source_of_query, arguments_fit, as_columns, columns_told, with_names, without_arguments, Inside, beside_from, module_there, of_catalog, of_entry, of_eponymous, of_module, of_name, of_queue, of_source, of_table, of_view, of_with, or_none, with_source, with_units}
+use Rattle.eng_value.specs.declared.cause.Cause.TheVariants.{Arity, Misuse}
+use Rattle.std.proofs.lemmas.Bool.Decides.{Decides-eqb}
+use Rattle.sql_bound.specs.Froms.{renamed, plain_source as source_of_query, arguments_fit, as_columns, columns_told, with_names, without_arguments, Inside, beside_from, module_there, of_catalog, of_entry, of_eponymous, of_module, of_name, of_queue, of_source, of_table, of_view, of_with, or_none, with_source, with_units}
 use Rattle.sql_bound.specs.Lasting.{collations_kept}
 use Rattle.sql_bound.specs.Refusals.{Checked}
 use Rattle.sql_bound.specs.Scopes.{Level, further, handed, with_named}
@@ -24,6 +25,7 @@ use Rattle.sql_bound.specs.declared.froms.Found.{Found}
 use Rattle.sql_bound.specs.declared.froms.QueueTable.{QueueTable}
 use Rattle.sql_bound.specs.declared.froms.Sourced.{Sourced}
 use Rattle.sql_bound.specs.declared.scopes.Need.{Need}
+use Rattle.sql_bound.specs.declared.scopes.ResultColumn.{ResultColumn}
 use Rattle.sql_bound.specs.declared.scopes.Standing.TheVariants.{Nowhere}
 use Rattle.sql_bound.specs.declared.scopes.WithEntry.{WithEntry}
 use Rattle.sql_bound.specs.declared.scopes.WithMeaning.TheVariants.{Bound, Itself}
@@ -31,10 +33,10 @@ use Rattle.sql_bound.specs.declared.scopes.WithMeaning.{WithMeaning}
 use Rattle.sql_bound.specs.declared.scopes.Work.{Work}
 use Rattle.sql_bound.proofs.HandLaws.{same_aggregates}
 use Rattle.bound_laws.specs.Order.{SourceIsWithin, widths_of}
-use Rattle.bound_laws.specs.Reach.{EachIsWithin, Reach, Takes}
+use Rattle.bound_laws.specs.Reach.{EachIsWithin, Reach, Serves}
 use Rattle.bound_laws.proofs.Goods.{GoodArguments, GoodExpression, GoodSource}
 use Rattle.bound_laws.proofs.HandLaws.{handed_count, handed_fits, handed_units, none_of_nothing, with_units_grown}
-use Rattle.bound_laws.proofs.Lists.{IfThere, takes_later}
+use Rattle.bound_laws.proofs.Lists.{IfThere, serves_later}
 use Rattle.bound_laws.proofs.NameLaws.{find_kept}
 use Rattle.bound_laws.proofs.OperandLaws.{trees_within}
 use Rattle.bound_laws.proofs.PlainLaws.{IsPlain, PlainSteps, all_over_from, asked_plain, at, inside_fits, plain_again, plain_here, with_units_plain}
@@ -84,30 +86,50 @@ needs_here around outers levels needs fits needed =
     subst (λ d. NeedsFit ([] ∷ outers) (map (further d) needs)) distance
     (subst (λ all. NeedsFit ([] ∷ all) (map (further (length needed.before)) needs)) (sym needed.all) (all_further_in needed.before needed.after needs needed.fit))
 
+-- ---- columns by other names are as many
+
+pub columns_length : (cs : List ResultColumn) → length (as_columns cs) ≡ length cs
+columns_length [] = refl
+columns_length (c ∷ cs) = ap suc (columns_length cs)
+
+renamed_length : (ns : List (List ℕ)) (cs : List ResultColumn) → length ns ≡ length cs → length (renamed ns cs) ≡ length cs
+renamed_length [] cs same = same
+renamed_length (n ∷ ns) [] same = cc
+renamed_length (n ∷ ns) (c ∷ cs) same = let rest : length ns ≡ length cs = cc in ap suc (renamed_length ns cs rest)
+
+pub as_wide : (name : List ℕ) (names : List (List ℕ)) (cs : List ResultColumn) → Gives (λ (ds : List ResultColumn). length ds ≡ length cs) (with_names name names cs)
+as_wide name [] cs = gives _ _ refl
+as_wide name (n ∷ ns) cs = go (nat_eq (length (n ∷ ns)) (length cs)) (Decides-eqb (length (n ∷ ns)) (length cs)).0 where
+  go : (b : Bool) → (b ≡ true → length (n ∷ ns) ≡ length cs) → Gives (λ (ds : List ResultColumn). length ds ≡ length cs) (cond b (Ok (renamed (n ∷ ns) cs)) (Err (Arity name)))
+  go true same = gives _ _ (renamed_length (n ∷ ns) cs (same refl))
+  go false same = refuses _ _
+
 -- ---- sources
 
 module _ (units : List BoundUnit) (outers : List From) (i : Inside) (inside : InsideFits units outers i) where
   abbrev pub SourceStays : From → Sourced → Work → Type 0
-  SourceStays left s v = (r : Reach) → Reached Nowhere v r → SourceIsWithin r left s.source
+  SourceStays left s v = (r : Reach) → Reached Nowhere v r → SourceIsWithin r left (length s.columns) s.source
 
   abbrev Result : From → Work → Sourced × Work → Type 0
   Result left w r = PlainSteps units outers (SourceStays left) w r
 
   -- it names nothing
-  plain_source : (left : From) (w : Work) (m : Checked Sourced) → IsPlain units outers w → Gives (λ (s : Sourced). (r : Reach) → SourceIsWithin r left s.source) m → Gives (Result left w) (with_units m w)
+  plain_source : (left : From) (w : Work) (m : Checked Sourced) → IsPlain units outers w → Gives (λ (s : Sourced). (r : Reach) → SourceIsWithin r left (length s.columns) s.source) m → Gives (Result left w) (with_units m w)
   plain_source left w m plain always = seq _ _ _ _ always (λ s h. plain_here units outers (SourceStays left) w s plain (λ r k. h r))
 
-  table_stays : (left : From) (name : List ℕ) (entry : Entry) (t : Option TableDefinition) → Gives (λ (s : Sourced). (r : Reach) → SourceIsWithin r left s.source) (of_table i.outer name entry t)
+  table_stays : (left : From) (name : List ℕ) (entry : Entry) (t : Option TableDefinition) → Gives (λ (s : Sourced). (r : Reach) → SourceIsWithin r left (length s.columns) s.source) (of_table i.outer name entry t)
   table_stays left name entry None = refuses _ _
   table_stays left name entry (Some t) = past (collations_kept i.outer.around entry t) _ _ (λ u. gives _ _ (λ r. tt))
 
   -- a view needs nothing
   view_stays : (left : From) (name : List ℕ) (entry : Entry) (v : Option ViewDefinition) (w : Work) → IsPlain units outers w → Gives (Result left w) (of_view i name entry v w)
   view_stays left name entry None w plain = refuses _ _
-  view_stays left name entry (Some v) w plain = seq _ _ _ _ (inside.views entry.name entry.text v.query w.units) (λ a fits. past (with_names entry.name (map (name_at entry.text) v.columns) a.0.columns) _ _ (λ cs. gives _ _ (record {
+  view_stays left name entry (Some v) w plain = seq _ _ _ _ (inside.views entry.name entry.text v.query w.units) (λ a fits. seq _ _ _ _ (as_wide entry.name (map (name_at entry.text) v.columns) a.0.columns) (λ cs wide. gives _ _ (record {
     plain = with_units_plain units outers w a.1 plain fits.adds;
     grows = with_units_grown (at units outers []) Nowhere w a.1 fits.adds;
-    holds = λ r k. takes_later a.1 r.units a.0.unit 0 k.units (subst (λ (needs : List Need). Takes a.1 a.0.unit (length needs)) (nothing_needed a.0.needs fits.needs) fits.takes);
+    holds = λ r k.
+        serves_later a.1 r.units a.0.unit 0 (length (as_columns cs)) k.units
+        (subst (λ (n : ℕ). Serves a.1 a.0.unit 0 n) (sym (columns_length cs ∙ wide)) (subst (λ (needs : List Need). Serves a.1 a.0.unit (length needs) (length a.0.columns)) (nothing_needed a.0.needs fits.needs) fits.serves));
   })))
 
   module_stays : (shown name : List ℕ) (table : ℕ) (args : List Expression) (f : Found) (w : Work) → AllByRecursion GoodExpression args → LevelFits (widths_of f.items) f.level → IsPlain units outers w
@@ -116,17 +138,17 @@ module _ (units : List BoundUnit) (outers : List From) (i : Inside) (inside : In
       past (columns_told i.outer.around.facts name table) _ _ (λ cs. past (arguments_fit name cs args) _ _ (λ v. seq _ _ _ _ (all_over_from units outers (widths_of f.items) f.level i.outer inside.outer here args all w plain)
       (λ xs hx. gives _ _ (record { plain = hx.plain; grows = hx.grows; holds = λ r k. trees_within r (widths_of f.items) xs.0 (hx.holds r k) }))))
 
-  queue_stays : (left : From) (name : List ℕ) (queue : Option QueueTable) (has : Bool) → Gives (λ (s : Sourced). (r : Reach) → SourceIsWithin r left s.source) (of_queue name queue has)
+  queue_stays : (left : From) (name : List ℕ) (queue : Option QueueTable) (has : Bool) → Gives (λ (s : Sourced). (r : Reach) → SourceIsWithin r left (length s.columns) s.source) (of_queue name queue has)
   queue_stays left name (Some q) true = refuses _ _
   queue_stays left name None has = refuses _ _
   queue_stays left name (Some q) false = go (is_same_name q.name name) where
-    go : (b : Bool) → Gives (λ (s : Sourced). (r : Reach) → SourceIsWithin r left s.source) (cond b (Ok (record (source_of_query (Some name) bound_source.Queue (as_columns q.columns)) { is_queue = true })) (Err (Misuse name)))
+    go : (b : Bool) → Gives (λ (s : Sourced). (r : Reach) → SourceIsWithin r left (length s.columns) s.source) (cond b (Ok (record (source_of_query (Some name) bound_source.Queue (as_columns q.columns)) { is_queue = true })) (Err (Misuse name)))
     go true = gives _ _ (λ r. tt)
     go false = refuses _ _
 
-  with_source_stays : (left : From) (recursive : Bool) (unit : ℕ) (given : List BoundExpr) (r : Reach) → Takes r.units unit (length given) → EachIsWithin r [] given → SourceIsWithin r left (with_source recursive unit given)
-  with_source_stays left false unit given r takes all = (takes, all)
-  with_source_stays left true unit given r takes all = (takes, all)
+  with_source_stays : (left : From) (width : ℕ) (recursive : Bool) (unit : ℕ) (given : List BoundExpr) (r : Reach) → Serves r.units unit (length given) width → EachIsWithin r [] given → SourceIsWithin r left width (with_source recursive unit given)
+  with_source_stays left width false unit given r serves all = (serves, all)
+  with_source_stays left width true unit given r serves all = (serves, all)
 
   with_stays : (left : From) (queue : Option QueueTable) (t : WithEntry) (m : WithMeaning) (f : Found) (w : Work) → MeaningFits units outers t.around m → IsPlain units outers w → Gives (Result left w) (of_with i queue t m f w)
   with_stays left queue t Itself f w fits plain = plain_source left w (of_queue t.name queue f.has_queue) plain (queue_stays left t.name queue f.has_queue)
@@ -134,13 +156,16 @@ module _ (units : List BoundUnit) (outers : List From) (i : Inside) (inside : In
       let far = map (further (length i.outer.levels - t.around)) needs in
       let here = needs_here t.around outers i.outer.levels needs inside.outer.levels fits.fits in
       let steps = handed_fits (at units outers []) Nowhere far w plain.fits here in
-      let start = takes_later units w.units unit (length needs) plain.fits.begins fits.takes in
-      let takes = handed_units (at units outers []) Nowhere far w unit (length needs) plain.fits here start in
+      let start = serves_later units w.units unit (length needs) (length cs) plain.fits.begins fits.serves in
+      let serves = handed_units (at units outers []) Nowhere far w unit (length needs) (length cs) plain.fits here start in
       let count : length (handed far w).0 ≡ length needs = handed_count (at units outers []) Nowhere far w ∙ length-map needs (further (length i.outer.levels - t.around)) in
       gives _ _ (record {
         plain = plain_again units outers [] (handed far w).1 steps.fits (same_aggregates far w ∙ plain.none);
         grows = steps.grows;
-        holds = λ r k. with_source_stays left recursive unit (handed far w).0 r (takes_later (handed far w).1.units r.units unit (length (handed far w).0) k.units (subst (Takes (handed far w).1.units unit) (sym count) takes)) (steps.holds r k);
+        holds = λ r k.
+            with_source_stays left (length (as_columns cs)) recursive unit (handed far w).0 r
+            (serves_later (handed far w).1.units r.units unit (length (handed far w).0) (length (as_columns cs)) k.units
+            (subst (λ n. Serves (handed far w).1.units unit (length (handed far w).0) n) (sym (columns_length cs)) (subst (λ n. Serves (handed far w).1.units unit n (length cs)) (sym count) serves))) (steps.holds r k);
       })
 
   -- ---- by any name
@@ -178,4 +203,4 @@ module _ (units : List BoundUnit) (outers : List From) (i : Inside) (inside : In
         name_stays queue name (with_named name i.outer.tables) (or_none args) w (find_kept (EntryFits units outers) (λ (e : WithEntry). is_same_name e.name name) i.outer.tables inside.outer.tables) (arguments_good args good) plain
     source_stays queue (parts.Derived q) w good plain =
         seq _ _ _ _ (asked_plain units outers w (q.bound (beside_from i.outer) w.units) plain (good.asks units ([] ∷ outers) (beside_from i.outer) (inside_fits units outers [] [] i.outer inside.outer tt) w.units plain.fits.begins))
-        (λ a ha. gives _ _ (record { plain = ha.plain; grows = ha.grows; holds = λ r k. (takes_later a.1.units r.units a.0.0.unit (length a.0.1) k.units ha.holds.takes, ha.holds.stays r k) }))
+        (λ a ha. gives _ _ (record { plain = ha.plain; grows = ha.grows; holds = λ r k. (subst (λ n. Serves r.units a.0.0.unit (length a.0.1) n) (sym (columns_length a.0.0.columns)) (serves_later a.1.units r.units a.0.0.unit (length a.0.1) (length a.0.0.columns) k.units ha.holds.serves), ha.holds.stays r k) }))

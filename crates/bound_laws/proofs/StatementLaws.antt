@@ -31,7 +31,7 @@ use Rattle.sql_bound.specs.Triggers.{opening}
 use Rattle.sql_bound.specs.Writes.{Begun, Opened, delete_begun, insert_begun, update_begun}
 use Rattle.eng_entry.specs.Entries.{entry_named}
 use Rattle.bound_laws.specs.Order.{AddsUnits}
-use Rattle.bound_laws.specs.Reach.{Takes}
+use Rattle.bound_laws.specs.Reach.{Serves}
 use Rattle.bound_laws.specs.Writes.{CommandIsWithin, StatementIsWithin, TriggerIsWithin}
 use Rattle.bound_laws.proofs.Lists.{BeginsWith, adds_nothing, begins_itself, order_of_all}
 use Rattle.bound_laws.proofs.PlainLaws.{IsPlain, PlainSteps}
@@ -65,7 +65,7 @@ module _ (o : Outer) (fits : OuterFits [] [] o) where
       seq _ _ _ _ (good.asks [] [] o fits [] (begins_itself [])) (λ a ha. gives _ _ (record {
         units = ha.adds;
         triggers = tt;
-        command = subst (λ needs. Takes a.1 a.0.unit (length needs)) (nothing_needed a.0.needs ha.needs) ha.takes;
+        command = (length a.0.columns, subst (λ needs. Serves a.1 a.0.unit (length needs) (length a.0.columns)) (nothing_needed a.0.needs ha.needs) ha.serves);
       }))
   rows_are (Inserts i) good = write_is (insert_begun o i (begun [])) (insert_stays [] [] o fits i (begun []) good start refl)
   rows_are (Updates u) good = write_is (update_begun o u (begun [])) (update_stays [] [] o fits u (begun []) good start refl)

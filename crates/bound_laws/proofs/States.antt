@@ -22,7 +22,7 @@ use Rattle.sql_bound.specs.declared.scopes.WithMeaning.TheVariants.{Bound, Itsel
 use Rattle.sql_bound.specs.declared.scopes.WithMeaning.{WithMeaning}
 use Rattle.sql_bound.specs.declared.scopes.Work.{Work}
 use Rattle.bound_laws.specs.Order.{AddsUnits, AggregateIsWithin}
-use Rattle.bound_laws.specs.Reach.{EachIsWithin, HasColumn, HasItem, IsWithin, Reach, Takes}
+use Rattle.bound_laws.specs.Reach.{EachIsWithin, HasColumn, HasItem, IsWithin, Reach, Serves}
 use Rattle.bound_laws.proofs.Lists.{BeginsWith, IfThere}
 use Rattle.bound_laws.proofs.Triples.{Gives}
 
@@ -67,10 +67,10 @@ NeedsFit outers needs = AllByRecursion (NeedFits outers) needs
 
 -- ---- what a query comes to
 
--- it adds units in order, and its own takes what it needs
+-- it adds units in order, and its own takes what it needs and gives its columns
 pub record AskedFits (units : List BoundUnit) (outers : List From) (a : Asked × List BoundUnit) : Type 0 where
   pub adds : AddsUnits units a.1
-  pub takes : Takes a.1 a.0.unit (length a.0.needs)
+  pub serves : Serves a.1 a.0.unit (length a.0.needs) (length a.0.columns)
   pub needs : NeedsFit outers a.0.needs
 
 abbrev pub ViewsFit : (List ℕ → List ℕ → Query → List BoundUnit → UnitsAnswer Asked) → Type 0
@@ -90,13 +90,13 @@ pub record NeededFits (around : ℕ) (outers : List From) (needs : List Need) : 
   pub count : length after ≡ around
   pub fit : NeedsFit ([] ∷ after) needs
 
-pub record BoundFits (units : List BoundUnit) (outers : List From) (around unit : ℕ) (needs : List Need) : Type 0 where
-  pub takes : Takes units unit (length needs)
+pub record BoundFits (units : List BoundUnit) (outers : List From) (around unit : ℕ) (needs : List Need) (width : ℕ) : Type 0 where
+  pub serves : Serves units unit (length needs) width
   pub fits : NeededFits around outers needs
 
 abbrev pub MeaningFits : List BoundUnit → List From → ℕ → WithMeaning → Type 0
 MeaningFits units outers around Itself = ⊤
-MeaningFits units outers around (Bound unit recursive needs columns) = BoundFits units outers around unit needs
+MeaningFits units outers around (Bound unit recursive needs columns) = BoundFits units outers around unit needs (length columns)
 
 abbrev pub EntryFits : List BoundUnit → List From → WithEntry → Type 0
 EntryFits units outers t = MeaningFits units outers t.around t.meaning

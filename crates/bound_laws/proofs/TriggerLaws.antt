@@ -1,11 +1,9 @@
 -- Writes with the triggers that they fire, each opened once, name what is there.
-use Rattle.std.proofs.Common.{◌≡◌, ◌≤◌, ◌<◌, ℕ, zero, suc, Bool, true, false, List, [], ◌∷◌, length, map, position, slice_set, nat_lt, cond, Option, Some, None, codes, Ok, Err, refl, sym, subst, arith}
+use Rattle.std.proofs.Common.{◌≡◌, ◌≤◌, ◌<◌, ℕ, zero, suc, Bool, true, false, List, [], ◌∷◌, length, map, slice_set, Option, Some, None, codes, Ok, Err, refl, sym, subst, arith}
 use Rattle.std.specs.Bool.{⊤}
 use Rattle.std.specs.List.{AllByRecursion}
 use Rattle.std.specs.Option.{option_map}
 use Rattle.std.proofs.Math.ListN.{length-append}
-use Rattle.std.specs.List.{position_or_len}
-use Rattle.std.proofs.lemmas.Bool.Decides.{Decides-ltb}
 use Rattle.std.proofs.lemmas.List.{length-map, length-set}
 use Rattle.eng_entry.specs.Names.{is_same_name}
 use Rattle.eng_entry.specs.declared.entry.Entry.{Entry}
@@ -35,12 +33,12 @@ use Rattle.sql_bound.specs.Writes.{Begun, Opened, Opening, captures_of, delete_b
 use Rattle.sql_bound.specs.declared.froms.Sourced.{Sourced}
 use Rattle.sql_bound.specs.declared.scopes.Need.{Need}
 use Rattle.bound_laws.specs.Order.{AddsUnits, in_front}
-use Rattle.bound_laws.specs.Reach.{EachIsWithin, IsWithinIfThere, Takes}
+use Rattle.bound_laws.specs.Reach.{EachIsWithin, IsWithinIfThere, Serves}
 use Rattle.bound_laws.specs.Writes.{StepIsWithin, TriggerIsWithin, WriteIsWithin}
 use Rattle.bound_laws.proofs.FromLaws.{item_at}
 use Rattle.bound_laws.proofs.Goods.{GoodExpression, GoodQuery}
 use Rattle.bound_laws.proofs.HandLaws.{column_within, none_of_nothing}
-use Rattle.bound_laws.proofs.Lists.{BeginsWith, IfThere, adds_before, adds_nothing, all_append, all_weaker, begins_added, begins_before, begins_itself, takes_later}
+use Rattle.bound_laws.proofs.Lists.{place_within, BeginsWith, IfThere, adds_before, adds_nothing, all_append, all_weaker, begins_added, begins_before, begins_itself, serves_later}
 use Rattle.bound_laws.proofs.PlainLaws.{IsPlain, PlainSteps, over_from}
 use Rattle.bound_laws.proofs.QueryLaws.{begun_plain}
 use Rattle.bound_laws.proofs.States.{From, IsColumnOf, ItemFits, LevelFits, NeedFits, NeedsFit, OuterFits, from_at}
@@ -188,7 +186,7 @@ module _ (opening : Opening) (well : OpensWell opening) (around : Around) (outer
           fits = triggers_later op (record op { units = a.1 }) first op.triggers fits;
           opens = first;
           holds = λ us n begins room.
-              (takes_later a.1 us a.0.unit (length (captures_of a.0.needs)) begins (subst (Takes a.1 a.0.unit) (sym (captures_count a.0.needs)) ha.takes), captures_within outers outermost us a.0.needs ha.needs);
+              ((length a.0.columns, serves_later a.1 us a.0.unit (length (captures_of a.0.needs)) (length a.0.columns) begins (subst (λ n. Serves a.1 a.0.unit n (length a.0.columns)) (sym (captures_count a.0.needs)) ha.serves)), captures_within outers outermost us a.0.needs ha.needs);
         }))
     step_stands (Inserts i) op good fits = written (insert_begun o i (begun op.units)) op fits (insert_stays op.units outers o (here op.units) i (begun op.units) good (start_plain op.units) refl)
     step_stands (Updates u) op good fits = written (update_begun o u (begun op.units)) op fits (update_stays op.units outers o (here op.units) u (begun op.units) good (start_plain op.units) refl)
@@ -320,12 +318,6 @@ if_trigger_good None = tt
 if_trigger_good (Some t) = trigger_good t
 
 -- ---- so many triggers are not opened yet
-
-place_within : {X : Type 0} (test : X → Bool) (xs : List X) (place : ℕ) → position test xs ≡ Some place → place < length xs
-place_within test xs place is = go (nat_lt (position_or_len test xs) (length xs)) (Decides-ltb (position_or_len test xs) (length xs)).0 is where
-  go : (b : Bool) → (b ≡ true → position_or_len test xs < length xs) → cond b (Some (position_or_len test xs)) None ≡ Some place → place < length xs
-  go true within same = let here : position_or_len test xs ≡ place = cc in omega (arith, within refl)
-  go false within same = cc
 
 opened_before_or : (found : Option ℕ) (op : Opened) (now : Checked (ℕ × Opened)) → OpenedFits op → ((place : ℕ) → found ≡ Some place → place < length op.triggers) → Gives (OpenSteps IsPlace op) now → Gives (OpenSteps IsPlace op) (opened_or found op now)
 opened_before_or (Some place) op now fits at later = gives _ _ (record { fits = fits; opens = opens_nothing op; holds = at place refl })

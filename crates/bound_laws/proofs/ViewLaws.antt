@@ -21,7 +21,7 @@ use Rattle.sql_bound.specs.declared.scopes.ResultColumn.{ResultColumn}
 use Rattle.sql_bound.specs.declared.scopes.Work.{Work}
 use Rattle.bound_laws.specs.Views.{as_view, called, in_view, levels_deep, names_fit, names_written, views_at}
 use Rattle.bound_laws.proofs.Lists.{begins_itself}
-use Rattle.bound_laws.proofs.SourceLaws.{nothing_needed}
+use Rattle.bound_laws.proofs.SourceLaws.{columns_length, nothing_needed}
 use Rattle.bound_laws.proofs.States.{AskedFits, DepthFits}
 use Rattle.bound_laws.proofs.TreeLaws.{query_is_good}
 use Rattle.bound_laws.proofs.Triples.{Gives}
@@ -50,10 +50,6 @@ same_hidden [] [] same = refl
 same_hidden [] (c ∷ cs) same = cc
 same_hidden (n ∷ ns) [] same = cc
 same_hidden (n ∷ ns) (c ∷ cs) same = let rest : length ns ≡ length cs = cc in ap (λ l. false ∷ l) (same_hidden ns cs rest)
-
-columns_length : (cs : List ResultColumn) → length (as_columns cs) ≡ length cs
-columns_length [] = refl
-columns_length (c ∷ cs) = ap suc (columns_length cs)
 
 -- ---- answers
 

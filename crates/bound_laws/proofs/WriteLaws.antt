@@ -1,6 +1,8 @@
 -- A write, before its triggers are opened, names what is there.
-use Rattle.std.proofs.Common.{◌≡◌, ℕ, List, [], ◌∷◌, length, map, Option, Some, None}
-use Rattle.std.specs.List.{AllByRecursion}
+use Rattle.std.proofs.Common.{Ok, Err, refl, ◌<◌, nat_eq, position, cond, Bool, true, false, arith, ◌≡◌, ℕ, List, [], ◌∷◌, length, map, Option, Some, None}
+use Rattle.std.specs.List.{AllByRecursion, range_with_len}
+use Rattle.std.proofs.lemmas.Bool.Decides.{Decides-eqb}
+use Rattle.eng_value.specs.declared.cause.Cause.TheVariants.{Arity}
 use Rattle.sql_words.specs.Spelled.{name_at}
 use Rattle.bound_tree.specs.Exprs.{BoundExpr}
 use Rattle.bound_tree.specs.declared.units.BoundUnit.{BoundUnit}
@@ -13,20 +15,20 @@ use Rattle.sql_bound.specs.Froms.{beside_from}
 use Rattle.sql_bound.specs.Limits.{room_behind}
 use Rattle.sql_bound.specs.Scopes.{Level, Outer, scope_over}
 use Rattle.sql_bound.specs.Targets.{Target, found_place, inside_write, place_written}
-use Rattle.sql_bound.specs.Writes.{Begun, delete_begun, deleting, insert_begun, inserted_from, inserting, places_named, set_bound, sets_bound, update_begun, updating}
+use Rattle.sql_bound.specs.Writes.{is_place, Begun, delete_begun, deleting, insert_begun, inserted_from, inserting, places_named, set_bound, sets_bound, update_begun, updating}
 use Rattle.sql_bound.specs.declared.scopes.Standing.TheVariants.{Nowhere}
 use Rattle.sql_bound.specs.declared.scopes.Work.{Work}
 use Rattle.bound_laws.specs.Order.{in_front, width_of}
-use Rattle.bound_laws.specs.Reach.{EachIsWithin, IsWithin, Reach}
-use Rattle.bound_laws.specs.Writes.{ChangeIsWithin, TargetIsWithin}
+use Rattle.bound_laws.specs.Reach.{EachIsWithin, IsWithin, Reach, Serves}
+use Rattle.bound_laws.specs.Writes.{ChangeIsWithin, IsBelow, TargetIsWithin}
 use Rattle.bound_laws.proofs.Goods.{GoodExpression, GoodQuery}
 use Rattle.bound_laws.proofs.GrowLaws.{grown, reached_before}
-use Rattle.bound_laws.proofs.Lists.{BeginsWith, IfThere, all_append, begins_added, begins_before, takes_later}
+use Rattle.bound_laws.proofs.Lists.{BeginsWith, IfThere, all_append, begins_added, begins_before, place_within, serves_later}
 use Rattle.bound_laws.proofs.PartLaws.{Lasts, front_reached}
 use Rattle.bound_laws.proofs.PlainLaws.{IsPlain, PlainSteps, asked_plain, inside_fits, over_from, plain_here, plain_later}
 use Rattle.bound_laws.proofs.States.{From, Grows, LevelFits, OuterFits, Reached}
 use Rattle.bound_laws.proofs.TargetLaws.{TargetFits, TargetSteps, target_fits, write_fits}
-use Rattle.bound_laws.proofs.Triples.{Gives, gives, past, seq}
+use Rattle.bound_laws.proofs.Triples.{Gives, gives, past, refuses, seq}
 
 -- ---- what is written
 
@@ -59,14 +61,35 @@ module _ (units : List BoundUnit) (outers : List From) (o : Outer) (fits : Outer
   abbrev ChangeStays : Target → BoundChange → Work → Type 0
   ChangeStays t c v = Lasts (λ us arguments. ChangeIsWithin us arguments (width_of t.target.item ∷ []) c) v
 
+  -- a source is as wide as the columns that are listed
+  width_is : (name : List ℕ) (wanted width : ℕ) → Gives (λ (u : Unit {0}). width ≡ wanted) (width_fits name wanted width)
+  width_is name wanted width = go (nat_eq width wanted) (Decides-eqb width wanted).0 where
+    go : (b : Bool) → (b ≡ true → width ≡ wanted) → Gives (λ (u : Unit {0}). width ≡ wanted) (cond b (Ok tt) (Err (Arity name)))
+    go true same = gives _ _ (same refl)
+    go false same = refuses _ _
+
+  place_below : (listed : List (Option ℕ)) (k : Option ℕ) (width : ℕ) → width ≡ length listed → IsBelow width (position (is_place k) listed)
+  place_below listed k width wide = go (position (is_place k) listed) (place_within (is_place k) listed) where
+    go : (found : Option ℕ) → ((p : ℕ) → found ≡ Some p → p < length listed) → IsBelow width found
+    go None at = tt
+    go (Some p) at = let below = at p refl in omega arith
+
+  places_below : (listed : List (Option ℕ)) (ks : List ℕ) (width : ℕ) → width ≡ length listed → AllByRecursion (IsBelow width) (map (λ k. position (is_place (Some k)) listed) ks)
+  places_below listed [] width wide = tt
+  places_below listed (k ∷ ks) width wide = (place_below listed (Some k) width wide, places_below listed ks width wide)
+
+  placed_in : (t : Target) (listed : List (Option ℕ)) (us : List BoundUnit) (unit given width : ℕ) → width ≡ length listed → Serves us unit given width
+      → (n : ℕ) × Serves us unit given n × AllByRecursion (IsBelow n) (map (λ k. position (is_place (Some k)) listed) (range_with_len 0 (length t.source.columns))) × IsBelow n (position (is_place t.source.rowid) listed)
+  placed_in t listed us unit given width wide serves = (width, serves, places_below listed (range_with_len 0 (length t.source.columns)) width wide, place_below listed t.source.rowid width wide)
+
   source_stays : (t : Target) (listed : List (Option ℕ)) (q : Option QueryParts) (w : Work) → IfThere GoodQuery q → IsPlain units outers w → Gives (PlainSteps units outers (ChangeStays t) w) (inserted_from o t listed q w)
   source_stays t listed None w good plain = plain_here units outers (ChangeStays t) w _ plain (λ us arguments begins room. tt)
   source_stays t listed (Some q) w good plain =
       seq _ _ _ _ (asked_plain units outers w (q.bound (beside_from o) w.units) plain (good.asks units ([] ∷ outers) (beside_from o) (inside_fits units outers [] [] o fits tt) w.units plain.fits.begins))
-      (λ a ha. past (width_fits t.name (length listed) (length a.0.0.columns)) _ _ (λ u. gives _ _ (record {
+      (λ a ha. seq _ _ _ _ (width_is t.name (length listed) (length a.0.0.columns)) (λ u wide. gives _ _ (record {
         plain = ha.plain;
         grows = ha.grows;
-        holds = λ us arguments begins room. (takes_later a.1.units us a.0.0.unit (length a.0.1) begins ha.holds.takes, ha.holds.stays (in_front us arguments) (front_reached a.1 us arguments begins room));
+        holds = λ us arguments begins room. (placed_in t listed us a.0.0.unit (length a.0.1) (length a.0.0.columns) wide (serves_later a.1.units us a.0.0.unit (length a.0.1) (length a.0.0.columns) begins ha.holds.serves), ha.holds.stays (in_front us arguments) (front_reached a.1 us arguments begins room));
       })))
 
   pub insert_stays : (i : InsertParts) (w : Work) → IfThere GoodQuery i.source → IsPlain units outers w → w.needs ≡ [] → Gives (Result w) (insert_begun o i w)

@@ -2,3 +2,4 @@ pub mod Reach
 pub mod Order
 pub mod Views
 pub mod Writes
+pub mod ReachExamples

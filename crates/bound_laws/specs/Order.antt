@@ -19,7 +19,7 @@ use Rattle.bound_tree.specs.declared.units.BoundUnit.TheVariants.{Queried, Recur
 use Rattle.bound_tree.specs.declared.units.BoundUnit.{BoundUnit}
 use Rattle.bound_tree.specs.declared.units.TermKey.TheVariants.{Expression, Result}
 use Rattle.bound_tree.specs.declared.units.TermKey.{TermKey}
-use Rattle.bound_laws.specs.Reach.{EachIsWithin, IsWithin, IsWithinIfThere, Reach, Takes}
+use Rattle.bound_laws.specs.Reach.{EachIsWithin, IsWithin, IsWithinIfThere, Reach, Serves}
 
 -- ---- FROM
 
@@ -29,22 +29,22 @@ width_of item = length item.columns
 abbrev pub widths_of : List BoundItem → List ℕ
 widths_of items = map width_of items
 
--- the arguments of a module name the items on the left; what is handed to a query names none
-abbrev pub SourceIsWithin : Reach → List ℕ → BoundSource → Type 0
-SourceIsWithin r left source.Given = ⊤
-SourceIsWithin r left (source.Table name number) = ⊤
-SourceIsWithin r left (source.Module name host number args) = EachIsWithin r left args
-SourceIsWithin r left (source.View name unit) = Takes r.units unit 0
-SourceIsWithin r left (source.Query unit handed) = Takes r.units unit (length handed) × EachIsWithin r [] handed
-SourceIsWithin r left (source.With unit handed) = Takes r.units unit (length handed) × EachIsWithin r [] handed
-SourceIsWithin r left (source.Recursive unit handed) = Takes r.units unit (length handed) × EachIsWithin r [] handed
-SourceIsWithin r left source.Queue = ⊤
+-- of an item so wide: the arguments of a module name the items on the left; what is handed to a query names none, and it gives as many columns
+abbrev pub SourceIsWithin : Reach → List ℕ → ℕ → BoundSource → Type 0
+SourceIsWithin r left width source.Given = ⊤
+SourceIsWithin r left width (source.Table name number) = ⊤
+SourceIsWithin r left width (source.Module name host number args) = EachIsWithin r left args
+SourceIsWithin r left width (source.View name unit) = Serves r.units unit 0 width
+SourceIsWithin r left width (source.Query unit handed) = Serves r.units unit (length handed) width × EachIsWithin r [] handed
+SourceIsWithin r left width (source.With unit handed) = Serves r.units unit (length handed) width × EachIsWithin r [] handed
+SourceIsWithin r left width (source.Recursive unit handed) = Serves r.units unit (length handed) width × EachIsWithin r [] handed
+SourceIsWithin r left width source.Queue = ⊤
 
 -- an ON names the items up to its own
 abbrev pub ItemsAreWithin : Reach → List ℕ → List BoundItem → Type 0
 ItemsAreWithin r left [] = ⊤
 ItemsAreWithin r left (item ∷ items) =
-    SourceIsWithin r left item.source × EachIsWithin r (left ++ width_of item ∷ []) item.ons × ItemsAreWithin r (left ++ width_of item ∷ []) items
+    SourceIsWithin r left (width_of item) item.source × EachIsWithin r (left ++ width_of item ∷ []) item.ons × ItemsAreWithin r (left ++ width_of item ∷ []) items
 
 -- ---- a SELECT
 
@@ -84,17 +84,17 @@ abbrev pub PartIsWithin : List BoundUnit → ℕ → BoundPart → Type 0
 PartIsWithin units arguments (Select core) = CoreIsWithin units arguments core
 PartIsWithin units arguments (Values rows) = AllByRecursion (EachIsWithin (in_front units arguments) []) rows
 
--- an expression of ORDER BY stands behind the groups of the only SELECT
-abbrev pub KeyIsWithin : List BoundUnit → ℕ → BoundPart → TermKey → Type 0
-KeyIsWithin units arguments part (Result place) = ⊤
-KeyIsWithin units arguments (Select core) (Expression a) = IsWithin (behind units arguments core) (widths_of core.items) a
-KeyIsWithin units arguments (Values rows) (Expression a) = ⊥
+-- a term of ORDER BY is one of so many results, or an expression behind the groups of the only SELECT
+abbrev pub KeyIsWithin : List BoundUnit → ℕ → BoundPart → ℕ → TermKey → Type 0
+KeyIsWithin units arguments part results (Result place) = place < results
+KeyIsWithin units arguments (Select core) results (Expression a) = IsWithin (behind units arguments core) (widths_of core.items) a
+KeyIsWithin units arguments (Values rows) results (Expression a) = ⊥
 
 pub record IsQueryWithin (units : List BoundUnit) (q : BoundQuery) : Type 0 where
   pub tables : AllByRecursion (λ table. table < length units) q.tables
   pub first : PartIsWithin units q.arguments q.first
   pub others : AllByRecursion (λ (c : BoundCompound). PartIsWithin units q.arguments c.part) q.others
-  pub order : AllByRecursion (λ (t : BoundTerm). KeyIsWithin units q.arguments q.first t.key) q.order
+  pub order : AllByRecursion (λ (t : BoundTerm). KeyIsWithin units q.arguments q.first (length q.columns) t.key) q.order
   pub limit : IsWithinIfThere (in_front units q.arguments) [] q.limit
   pub offset : IsWithinIfThere (in_front units q.arguments) [] q.offset
 

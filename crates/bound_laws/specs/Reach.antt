@@ -1,9 +1,10 @@
 -- Whether what a bound expression names is there.
-use Rattle.std.specs.Prelude.{◌≡◌, ◌<◌, ℕ, zero, suc, List, [], ◌∷◌, Option, Some, None}
+use Rattle.std.specs.Prelude.{◌≡◌, ◌<◌, ℕ, zero, suc, List, [], ◌∷◌, length, Option, Some, None}
 use Rattle.std.specs.Bool.{⊤}
 use Rattle.std.specs.List.{AllByRecursion}
 use Rattle.bound_tree.specs.Exprs as e
 use Rattle.bound_tree.specs.Exprs.{AMatch, AnArm, AnExpr, BoundArms, BoundExpr, BoundExprs, BoundMatches, NoArms, NoExprs, NoMatches}
+use Rattle.bound_tree.specs.declared.units.BoundColumn.{BoundColumn}
 use Rattle.bound_tree.specs.declared.units.BoundUnit.TheVariants.{Queried, Recursed}
 use Rattle.bound_tree.specs.declared.units.BoundUnit.{BoundUnit}
 
@@ -19,11 +20,19 @@ abbrev pub arguments_of : BoundUnit → ℕ
 arguments_of (Queried q) = q.arguments
 arguments_of (Recursed r) = r.arguments
 
--- there is a unit of this number, and it takes so many arguments
+abbrev pub columns_of : BoundUnit → List BoundColumn
+columns_of (Queried q) = q.columns
+columns_of (Recursed r) = r.columns
+
+-- there is a unit of this number, which takes so many arguments and gives so many columns
+abbrev pub Serves : List BoundUnit → ℕ → ℕ → ℕ → Type 0
+Serves [] unit given width = ⊥
+Serves (u ∷ units) zero given width = (arguments_of u ≡ given) × (length (columns_of u) ≡ width)
+Serves (u ∷ units) (suc unit) given width = Serves units unit given width
+
+-- the same, however many columns it gives
 abbrev pub Takes : List BoundUnit → ℕ → ℕ → Type 0
-Takes [] unit given = ⊥
-Takes (u ∷ units) zero given = arguments_of u ≡ given
-Takes (u ∷ units) (suc unit) given = Takes units unit given
+Takes units unit given = (width : ℕ) × Serves units unit given width
 
 -- ---- columns: a FROM is told by how many columns each of its items has, from left to right
 
@@ -45,7 +54,7 @@ count_of NoExprs = 0
 count_of (AnExpr a rest) = suc (count_of rest)
 
 abbrev mutual
-  -- it names columns of the FROM alone that is told, and arguments, aggregates and units that there are; a unit is handed what it takes
+  -- it names columns of the FROM alone that is told, and arguments, aggregates and units that there are; a unit is handed what it takes, and gives one column where a value is asked of it
   pub IsWithin : Reach → List ℕ → BoundExpr → Type 0
   IsWithin r from (e.Literal l) = ⊤
   IsWithin r from (e.Parameter number) = ⊤
@@ -64,9 +73,9 @@ abbrev mutual
   IsWithin r from (e.CoalesceList f args) = AreWithin r from args
   IsWithin r from (e.CallBuiltin f collation args) = AreWithin r from args
   IsWithin r from (e.CallHost name args) = AreWithin r from args
-  IsWithin r from (e.ScalarOf unit handed) = Takes r.units unit (count_of handed) × AreWithin r from handed
+  IsWithin r from (e.ScalarOf unit handed) = Serves r.units unit (count_of handed) 1 × AreWithin r from handed
   IsWithin r from (e.ExistsIn unit handed) = Takes r.units unit (count_of handed) × AreWithin r from handed
-  IsWithin r from (e.InUnit sides a unit handed) = IsWithin r from a × Takes r.units unit (count_of handed) × AreWithin r from handed
+  IsWithin r from (e.InUnit sides a unit handed) = IsWithin r from a × Serves r.units unit (count_of handed) 1 × AreWithin r from handed
   IsWithin r from e.RaiseIgnore = ⊤
   IsWithin r from (e.RaiseAbort text) = ⊤
 

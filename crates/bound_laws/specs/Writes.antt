@@ -1,5 +1,5 @@
 -- Whether what writes, triggers and whole statements name is there.
-use Rattle.std.specs.Prelude.{◌<◌, ℕ, List, [], ◌∷◌, length}
+use Rattle.std.specs.Prelude.{◌<◌, ℕ, List, [], ◌∷◌, length, Option, Some, None}
 use Rattle.std.specs.Bool.{⊤}
 use Rattle.std.specs.List.{AllByRecursion}
 use Rattle.bound_tree.specs.declared.statements.BoundCommand.TheVariants.{Asked, Written}
@@ -15,7 +15,7 @@ use Rattle.bound_tree.specs.declared.writes.BoundTarget.{BoundTarget}
 use Rattle.bound_tree.specs.declared.writes.BoundTrigger.{BoundTrigger}
 use Rattle.bound_tree.specs.declared.writes.BoundWrite.{BoundWrite}
 use Rattle.bound_laws.specs.Order.{AreInOrder, ItemsAreWithin, in_front, width_of, widths_of}
-use Rattle.bound_laws.specs.Reach.{EachIsWithin, IsWithin, IsWithinIfThere, Takes}
+use Rattle.bound_laws.specs.Reach.{EachIsWithin, IsWithin, IsWithinIfThere, Serves, Takes}
 
 -- ---- a write: its target stands alone, and it takes as many arguments as it is handed
 
@@ -24,8 +24,15 @@ pub record TargetIsWithin (units : List BoundUnit) (t : BoundTarget) : Type 0 wh
   pub defaults : AllByRecursion (IsWithinIfThere (in_front units 0) []) t.defaults
   pub checks : EachIsWithin (in_front units 0) (width_of t.item ∷ []) t.checks
 
+-- the place of a value, if there is one
+abbrev pub IsBelow : ℕ → Option ℕ → Type 0
+IsBelow width None = ⊤
+IsBelow width (Some place) = place < width
+
+-- the source of an INSERT gives as many columns as its values have places
 abbrev pub ChangeIsWithin : List BoundUnit → ℕ → List ℕ → BoundChange → Type 0
-ChangeIsWithin units arguments target (Inserted columns rowid unit handed) = Takes units unit (length handed) × EachIsWithin (in_front units arguments) [] handed
+ChangeIsWithin units arguments target (Inserted columns rowid unit handed) =
+    ((width : ℕ) × Serves units unit (length handed) width × AllByRecursion (IsBelow width) columns × IsBelow width rowid) × EachIsWithin (in_front units arguments) [] handed
 ChangeIsWithin units arguments target Defaulted = ⊤
 ChangeIsWithin units arguments target (Updated sets conjuncts) =
     AllByRecursion (λ (s : BoundSet). IsWithin (in_front units arguments) target s.value) sets × EachIsWithin (in_front units arguments) target conjuncts

@@ -1,5 +1,5 @@
 // What is promised of the definitions. Nothing here runs: the contract is the law.
-ghost use Rattle.std.specs.Prelude.{◌≡◌, ℕ, suc, Bool, true, false, List, [], Option, Some, Ok, Err};
+ghost use Rattle.std.specs.Prelude.{◌≡◌, ℕ, suc, Bool, true, false, List, [], length, Option, Some, Ok, Err};
 ghost use Rattle.bound_tree.specs.declared.statements.BoundStatement.{BoundStatement};
 ghost use Rattle.bound_tree.specs.declared.units.BoundSource.TheVariants.{Query as OfQuery};
 ghost use Rattle.bound_tree.specs.declared.units.BoundUnit.{BoundUnit};
@@ -18,7 +18,7 @@ ghost use Rattle.sql_tree.specs.declared.query.Query.{Query};
 ghost use Rattle.sql_tree.specs.declared.statement.Statement.{Statement};
 ghost use Rattle.sql_tree.specs.declared.statement.ViewDefinition.{ViewDefinition};
 ghost use Rattle.bound_laws.specs.Order.{AddsUnits, AreInOrder};
-ghost use Rattle.bound_laws.specs.Reach.{Takes};
+ghost use Rattle.bound_laws.specs.Reach.{Serves};
 ghost use Rattle.bound_laws.specs.Views.{as_view, beyond, in_brackets, levels_deep, names_fit, names_written, views_at};
 ghost use Rattle.bound_laws.specs.Writes.{StatementIsWithin};
 
@@ -34,17 +34,20 @@ pub fn a_view_is_its_query_in_brackets()
 {}
 
 /// What a query is bound to is there: the units that it adds stand in order behind those that there were, each of which names only units
-/// in front of it and hands them as many arguments as they take, columns of items that its own FROM has, arguments that it takes itself,
-/// and aggregates that its own SELECT has; its own unit is one of them all. Where no FROM is around the query, it takes nothing.
+/// in front of it, and hands them as many arguments as they take, columns of items that its own FROM has, arguments that it takes itself,
+/// aggregates that its own SELECT has and, in ORDER BY, results that it has. An item whose rows come from a unit has as many columns as
+/// that gives, and one where a value is asked of it. The query's own unit is one of them all and gives the query's columns. Where no FROM
+/// is around the query, it takes nothing.
 pub fn a_query_names_what_is_there()
     ensures adds { (around : Around) (depth : ℕ) (q : Query) (o : Outer) (units more : List BoundUnit) (a : Asked) → o.depth ≡ levels_deep around depth → o.levels ≡ [] → o.tables ≡ [] → (of_query q).bound o units ≡ Ok (a, more) → AddsUnits units more }
     ensures order { (around : Around) (depth : ℕ) (q : Query) (o : Outer) (units more : List BoundUnit) (a : Asked) → o.depth ≡ levels_deep around depth → o.levels ≡ [] → o.tables ≡ [] → AreInOrder units → (of_query q).bound o units ≡ Ok (a, more) → AreInOrder more }
-    ensures own { (around : Around) (depth : ℕ) (q : Query) (o : Outer) (units more : List BoundUnit) (a : Asked) → o.depth ≡ levels_deep around depth → o.levels ≡ [] → o.tables ≡ [] → (of_query q).bound o units ≡ Ok (a, more) → Takes more a.unit 0 }
+    ensures own { (around : Around) (depth : ℕ) (q : Query) (o : Outer) (units more : List BoundUnit) (a : Asked) → o.depth ≡ levels_deep around depth → o.levels ≡ [] → o.tables ≡ [] → (of_query q).bound o units ≡ Ok (a, more) → Serves more a.unit 0 (length a.columns) }
     ensures nothing_needed { (around : Around) (depth : ℕ) (q : Query) (o : Outer) (units more : List BoundUnit) (a : Asked) → o.depth ≡ levels_deep around depth → o.levels ≡ [] → o.tables ≡ [] → (of_query q).bound o units ≡ Ok (a, more) → a.needs ≡ [] }
 {}
 
 /// So is what any statement is bound to: its units stand in order, and its command and each trigger that it opens name units that it has,
-/// columns of the target, or of OLD and NEW, where these are seen, and triggers that are in its list.
+/// columns of the target, or of OLD and NEW, where these are seen, columns that the source of an INSERT gives, and triggers that are in its
+/// list.
 pub fn a_statement_names_what_is_there()
     ensures { (around : Around) (text : List ℕ) (s : Statement) (b : BoundStatement) → bound_of around text s ≡ Ok b → StatementIsWithin b }
 {}

@@ -1,8 +1,8 @@
-//! That what is bound names only what is there, and what a view's use is bound to: laws about the definition of the library sql_bound, and
-//! nothing that runs.
+//! That what is bound names only what is there, and that a view is bound as its query in brackets: laws about the definition of the
+//! library sql_bound, and nothing that runs.
 //!
-//! specs/Reach.antt says when a bound expression names what is there, specs/Order.antt when a query does and when units stand in order, and
-//! specs/Views.antt what a view's use stands beside.
+//! specs/Reach.antt says when a bound expression names what is there, specs/Order.antt when a query does and when units stand in order,
+//! specs/Writes.antt when writes, triggers and statements do, and specs/Views.antt what a view's use stands beside.
 #![tactic(auto)]
 
 mod laws;
