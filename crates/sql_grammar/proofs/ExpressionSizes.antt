@@ -1,6 +1,6 @@
 -- A tree of an expression is no larger than the number of its tokens: each rule keeps to it.
 use Rattle.std.proofs.Common.{◌≡◌, ℕ, ◌+◌, ◌≤◌, List, [], ◌∷◌, length, map, Option, Some, None, refl, arith}
-use Rattle.sql_tree.specs.Sizes.{total, size_of, size_of_arm, size_of_filter}
+use Rattle.sql_tree.specs.Sizes.{total, size_of, size_of_arm, size_of_filter, size_of_table}
 use Rattle.sql_tree.specs.declared.expr.Arm.{Arm}
 use Rattle.sql_tree.specs.declared.expr.BinaryOp.{BinaryOp}
 use Rattle.sql_tree.specs.declared.expr.BinaryOp.TheVariants as binary
@@ -67,7 +67,8 @@ Enclosed A name.cast n p = size_of p.0 ≤ n
 Enclosed A name.choice n e = size_of e ≤ n + 2
 Enclosed A name.members n f = Adds (1 + n) f
 Enclosed A name.raise n e = size_of e ≤ n
-Enclosed A name.columns n t = length t.columns ≤ n
+Enclosed A name.expression n e = size_of e ≤ n
+Enclosed A name.columns n t = size_of_table t ≤ n
 Enclosed A _ n a = Unit {0}
 
 -- ---- runs of signs and of NOT

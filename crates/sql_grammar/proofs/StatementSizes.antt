@@ -1,7 +1,7 @@
 -- A tree of a statement is no larger than the number of its tokens: each rule keeps to it.
-use Rattle.std.proofs.Common.{◌+◌, ◌≤◌, List, ◌∷◌, length, map, Option, arith, refl}
+use Rattle.std.proofs.Common.{◌≡◌, ◌+◌, ◌≤◌, ℕ, List, ◌∷◌, length, map, Option, None, Some, arith, refl}
 use Rattle.sql_tree.specs.Layers.{of_part}
-use Rattle.sql_tree.specs.Sizes.{total, size_of, size_of_filter, size_of_from, size_of_query, size_of_result, size_of_row, size_of_source, size_of_rows, size_of_definition, size_of_command, size_of_statement, part_size}
+use Rattle.sql_tree.specs.Sizes.{total, size_of, size_of_filter, size_of_from, size_of_query, size_of_result, size_of_row, size_of_source, size_of_rows, size_of_behind, size_of_column, size_of_constraint, size_of_definition, size_of_command, size_of_statement, size_of_table, part_size}
 use Rattle.sql_tree.specs.declared.expr.Expr.{Expr}
 use Rattle.sql_tree.specs.declared.expr.Expr.TheVariants as e
 use Rattle.sql_tree.specs.declared.query.FromItem.{FromItem}
@@ -13,18 +13,19 @@ use Rattle.sql_tree.specs.declared.query.ResultColumn.TheVariants as result_is
 use Rattle.sql_tree.specs.declared.statement.RowCommand.{RowCommand}
 use Rattle.sql_tree.specs.declared.statement.Command.{Command}
 use Rattle.sql_tree.specs.declared.statement.Statement.{Statement}
+use Rattle.sql_tree.specs.declared.statement.ColumnConstraint.{ColumnConstraint}
 use Rattle.sql_tree.specs.declared.statement.TableDefinition.{TableDefinition}
 use Rattle.sql_tree.specs.declared.token.Token.{Token}
 use Rattle.sql_grammar.specs.Marks.{Marked}
 use Rattle.sql_grammar.specs.Rules.{Lang}
-use Rattle.sql_grammar.specs.Grammar.{Name, Of, or_none, or_no_arguments, span_of, expr, exprs}
+use Rattle.sql_grammar.specs.Grammar.{Name, Of, or_none, or_no_arguments, sign_op, signed, span_of, expr, exprs}
 use Rattle.sql_grammar.specs.Grammar as name
 use Rattle.sql_grammar.specs.Bodies.{rules}
 use Rattle.sql_grammar.specs.Queries.{filter_by, spanned_tails, column_of_table, behind_dot, spanned_call, behind_first_name, named_result, other_result, result, results, first_item, joined_item, items, from, select_core, select, one_row, values, core, parts, ordered_parts, query}
 use Rattle.sql_grammar.specs.Writes.{insert_words, insert_source_of, insert, assignment, assignments, update_parts, update, delete, row_command}
-use Rattle.sql_grammar.specs.Definitions.{Element, a_column, a_constraint, Named, column, next_element, next_constraint, columns_in, more_elements, all_columns, header, create_table, create_index, create_view, create_trigger, create_virtual_table, named_definition, create}
+use Rattle.sql_grammar.specs.Definitions.{Element, a_column, a_constraint, Named, check, column, column_constraint, column_key, column_rule_of, constraints_in, default_value, in_expression, not_null, null, signed_literal, table_constraint, table_rule_of, unique_column, next_element, next_constraint, columns_in, more_elements, all_columns, header, create_table, create_index, create_view, create_trigger, create_virtual_table, named_definition, create}
 use Rattle.sql_grammar.specs.Statements.{remove, transaction, pragma, command, statement, all_statement_rules}
-use Rattle.sql_grammar.proofs.SizeClauses.{size_of-Subquery, size_of-In, size_of-InQuery, size_of-TableColumn, size_of-Column, size_of_result-All, size_of_result-AllOf, size_of_result-Expression, size_of-Select, size_of-Values, size_of_query-is}
+use Rattle.sql_grammar.proofs.SizeClauses.{size_of-Literal, size_of-Unary, size_of-Subquery, size_of-In, size_of-InQuery, size_of-TableColumn, size_of-Column, size_of_result-All, size_of_result-AllOf, size_of_result-Expression, size_of-Select, size_of-Values, size_of_query-is}
 use Rattle.sql_grammar.proofs.Weights.{Fact, Weighs, weighs_alt, weighs_to, weighs_over, weighs_seq, weighs_fork, weighs_both, weighs_many, weighs_until, weighs_something}
 use Rattle.sql_grammar.proofs.ExpressionSizes.{SomeToken, Within, Optional, Together, AsMany, Adds, BehindName, Enclosed, anything, one_token, after_one, between_brackets, maybe_keeps, list_keeps, call_keeps, tails_add, other_expr_keeps, expr_keeps, exprs_keep, case_keeps, some_arguments_keep, raise_what_keeps}
 
@@ -53,7 +54,7 @@ abbrev pub WithinQuery : Fact Query
 WithinQuery n q = size_of_query q ≤ n
 
 abbrev pub WithinTable : Fact TableDefinition
-WithinTable n t = length t.columns ≤ n
+WithinTable n t = size_of_table t ≤ n
 
 -- what stands behind CREATE
 abbrev pub BehindCreate : Fact Named
@@ -68,9 +69,28 @@ WithinCommand n c = size_of_command c ≤ n
 abbrev pub WithinStatement : Fact Statement
 WithinStatement n s = size_of_statement s ≤ n
 
-columns_grow : (x : Element) (xs : List Element) → length (columns_in (x ∷ xs)) ≤ 1 + length (columns_in xs)
-columns_grow (a_column c) xs = omega arith
-columns_grow (a_constraint c) xs = omega arith
+abbrev pub WithinConstraint : Fact ColumnConstraint
+WithinConstraint n c = size_of_constraint c ≤ n
+
+abbrev size_of_element : Element → ℕ
+size_of_element (a_column c) = size_of_column c
+size_of_element (a_constraint c) = size_of_behind c
+
+abbrev size_of_elements : List Element → ℕ
+size_of_elements xs = total (map size_of_column (columns_in xs)) + total (map size_of_behind (constraints_in xs))
+
+elements_grow : (x : Element) (xs : List Element) → size_of_elements (x ∷ xs) ≡ size_of_element x + size_of_elements xs
+elements_grow (a_column c) xs = omega arith
+elements_grow (a_constraint c) xs = omega arith
+
+-- a sign is a token
+abbrev signs_in : Option Token → ℕ
+signs_in None = 0
+signs_in (Some t) = 1
+
+signed_size : (sign : Option Token) (number : Token) → size_of (signed_literal (record { sign = sign; number = number }) sign) ≡ 1 + signs_in sign
+signed_size None number = size_of-Literal number
+signed_size (Some t) number = omega (arith, size_of-Unary (sign_op t.kind) (e.Literal number), size_of-Literal number)
 
 module _ (inner : (A : Type 0) → Name A → Lang A) (known : (A : Type 0) (n : Name A) (w : List Marked) (a : A) → inner A n w a → Enclosed A n (length w) a) where
   abbrev Keeps : {A : Type 0} → Fact A → Of A → Type 0
@@ -226,21 +246,63 @@ module _ (inner : (A : Type 0) → Name A → Lang A) (known : (A : Type 0) (n :
 
   -- ---- CREATE
 
-  column_keeps : Keeps SomeToken column
-  unfolding all_statement_rules
-  column_keeps = weighs_something refl
+  in_expression_keeps : Keeps Within in_expression
+  unfolding in_expression
+  in_expression_keeps = between_brackets inner known (λ n x h. omega arith)
 
-  next_element_keeps : Keeps SomeToken next_element
-  unfolding all_statement_rules
-  next_element_keeps = weighs_something refl
+  check_keeps : Keeps Within check
+  unfolding check
+  check_keeps = after_one inner known in_expression_keeps (λ n x h. omega arith)
 
-  next_constraint_keeps : Keeps SomeToken next_constraint
-  unfolding all_statement_rules
-  next_constraint_keeps = weighs_something refl
+  signed_keeps : Keeps (λ n s. size_of (signed_literal s s.sign) ≤ n) signed
+  unfolding signed
+  signed_keeps = weighs_both {P = λ n o. signs_in o ≤ n} (maybe_keeps inner known {P = λ n t. n ≡ 1} (one_token inner known) (omega arith) (λ n t h. omega arith)) (one_token inner known) (λ m n o t p h. let s = signed_size o t in omega arith)
 
-  more_elements_keep : Keeps (λ n xs. length (columns_in xs) ≤ n) more_elements
+  default_value_keeps : Keeps Within default_value
+  unfolding default_value
+  default_value_keeps = weighs_alt (weighs_to (one_token inner known) (λ n t h. let s = size_of-Literal t in omega arith)) (weighs_alt in_expression_keeps (weighs_to signed_keeps (λ n s h. h)))
+
+  column_rule_keeps : Keeps WithinConstraint column_rule_of
+  unfolding column_rule_of column_key not_null null unique_column
+  column_rule_keeps =
+      weighs_alt (weighs_to (anything inner known) (λ n p h. omega arith))
+      (weighs_alt (weighs_to (anything inner known) (λ n t h. omega arith))
+      (weighs_alt (weighs_to (anything inner known) (λ n t h. omega arith))
+      (weighs_alt (weighs_to (anything inner known) (λ n t h. omega arith))
+      (weighs_alt (weighs_to check_keeps (λ n x h. h))
+      (weighs_alt (weighs_to (after_one inner known {P = Within} {Q = Within} default_value_keeps (λ n x h. omega arith)) (λ n x h. h))
+      (weighs_to (anything inner known) (λ n t h. omega arith)))))))
+
+  column_constraint_keeps : Keeps WithinConstraint column_constraint
+  unfolding column_constraint
+  column_constraint_keeps = weighs_both (anything inner known) column_rule_keeps (λ m n o c h q. omega arith)
+
+  column_keeps : Keeps (λ n c. size_of_column c ≤ n) column
+  unfolding column
+  column_keeps = weighs_both {Q = λ n p. total (map size_of_constraint p.1) ≤ n} (one_token inner known)
+      (weighs_seq (anything inner known) (weighs_many {Q = λ n cs. total (map size_of_constraint cs) ≤ n} column_constraint_keeps (omega arith) (λ m n c more p q. omega arith)) (λ m n o cs h q. omega arith))
+      (λ m n t p h q. omega arith)
+
+  table_rule_keeps : Keeps (λ n c. size_of_behind c ≤ n) table_rule_of
+  unfolding table_rule_of
+  table_rule_keeps =
+      weighs_alt (weighs_to (anything inner known) (λ n p h. omega arith)) (weighs_alt (weighs_to (anything inner known) (λ n p h. omega arith)) (weighs_to check_keeps (λ n x h. h)))
+
+  table_constraint_keeps : Keeps (λ n c. size_of_behind c ≤ n) table_constraint
+  unfolding table_constraint
+  table_constraint_keeps = weighs_both (anything inner known) table_rule_keeps (λ m n o c h q. omega arith)
+
+  next_element_keeps : Keeps (λ n x. size_of_element x ≤ n) next_element
+  unfolding next_element
+  next_element_keeps = after_one inner known {P = λ n x. size_of_element x ≤ n} (weighs_alt (weighs_to column_keeps (λ n c h. h)) (weighs_to table_constraint_keeps (λ n c h. h))) (λ n x h. omega arith)
+
+  next_constraint_keeps : Keeps (λ n x. size_of_element x ≤ n) next_constraint
+  unfolding next_constraint
+  next_constraint_keeps = after_one inner known {P = λ n x. size_of_element x ≤ n} (weighs_to table_constraint_keeps (λ n c h. h)) (λ n x h. omega arith)
+
+  more_elements_keep : Keeps (λ n xs. size_of_elements xs ≤ n) more_elements
   unfolding more_elements
-  more_elements_keep = weighs_until next_element_keeps next_constraint_keeps (omega arith) (λ m n x xs p q. let c = columns_grow x xs in omega arith)
+  more_elements_keep = weighs_until next_element_keeps next_constraint_keeps (omega arith) (λ m n x xs p q. let c = elements_grow x xs in omega arith)
 
   all_columns_keep : Keeps WithinTable all_columns
   unfolding all_columns
@@ -253,8 +315,8 @@ module _ (inner : (A : Type 0) → Name A → Lang A) (known : (A : Type 0) (n :
   create_table_keeps : Keeps BehindCreate create_table
   unfolding create_table
   create_table_keeps = weighs_to
-      (after_one inner known {P = λ n p. 1 + length p.1.columns ≤ n} {Q = λ n p. 2 + length p.1.columns ≤ 1 + n}
-      (weighs_seq {Q = λ n t. length t.columns ≤ n} header_keeps (between_brackets inner known (λ n t h. omega arith)) (λ m n a b p q. omega arith)) (λ n p h. omega arith))
+      (after_one inner known {P = λ n p. 1 + size_of_table p.1 ≤ n} {Q = λ n p. 2 + size_of_table p.1 ≤ 1 + n}
+      (weighs_seq {Q = λ n t. size_of_table t ≤ n} header_keeps (between_brackets inner known (λ n t h. omega arith)) (λ m n a b p q. omega arith)) (λ n p h. omega arith))
       (λ n p h. h)
 
   create_index_keeps : Keeps BehindCreate create_index
@@ -313,7 +375,7 @@ module _ (inner : (A : Type 0) → Name A → Lang A) (known : (A : Type 0) (n :
   pub enclosed_within : (A : Type 0) (n : Name A) → Keeps (Enclosed A n) (rules A n)
   enclosed_within A name.parenthesized = weighs_alt (weighs_to (anything inner known) (λ n q h. let s = size_of-Subquery q in omega arith)) parenthesized_keeps
   enclosed_within A name.subquery = anything inner known
-  enclosed_within A name.expression = anything inner known
+  enclosed_within A name.expression = expr_keeps inner known
   enclosed_within A name.row = exprs_keep inner known
   enclosed_within A name.arguments = weighs_to (maybe_keeps inner known {Q = λ n o. Together n (or_no_arguments o).1} (some_arguments_keep inner known) (omega arith) (λ n a h. h)) (λ n o h. h)
   enclosed_within A name.table_arguments = anything inner known

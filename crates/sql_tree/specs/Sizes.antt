@@ -7,6 +7,9 @@ use Rattle.sql_tree.specs.declared.query.Query.{Query}
 use Rattle.sql_tree.specs.declared.query.QueryPart.{QueryPart}
 use Rattle.sql_tree.specs.declared.query.ResultColumn.{ResultColumn}
 use Rattle.sql_tree.specs.declared.query.FromItem.{FromItem}
+use Rattle.sql_tree.specs.declared.statement.ColumnConstraint.{ColumnConstraint}
+use Rattle.sql_tree.specs.declared.statement.ColumnConstraint.TheVariants as own
+use Rattle.sql_tree.specs.declared.statement.ColumnDefinition.{ColumnDefinition}
 use Rattle.sql_tree.specs.declared.statement.Command.{Command}
 use Rattle.sql_tree.specs.declared.statement.Command.TheVariants as command
 use Rattle.sql_tree.specs.declared.statement.Definition.{Definition}
@@ -16,6 +19,9 @@ use Rattle.sql_tree.specs.declared.statement.InsertSource.TheVariants as source
 use Rattle.sql_tree.specs.declared.statement.RowCommand.{RowCommand}
 use Rattle.sql_tree.specs.declared.statement.RowCommand.TheVariants as rows
 use Rattle.sql_tree.specs.declared.statement.Statement.{Statement}
+use Rattle.sql_tree.specs.declared.statement.TableConstraint.{TableConstraint}
+use Rattle.sql_tree.specs.declared.statement.TableConstraint.TheVariants as behind
+use Rattle.sql_tree.specs.declared.statement.TableDefinition.{TableDefinition}
 use Rattle.sql_tree.specs.Folds.{ExprStep, ArmStep, fold_expr, fold_arm}
 use Rattle.sql_tree.specs.Layers.{PartLayer, ResultLayer, SelectLayer, of_part, of_query, of_result, of_select}
 
@@ -101,8 +107,24 @@ size_of_rows (rows.Insert i) = 2 + size_of_source i.source
 size_of_rows (rows.Update u) = 1 + length u.assignments
 size_of_rows (rows.Delete d) = 1
 
+-- of a constraint its expression counts
+abbrev pub size_of_constraint : ColumnConstraint → ℕ
+size_of_constraint (own.Check x) = size_of x
+size_of_constraint (own.Default x) = size_of x
+size_of_constraint other = 0
+
+abbrev pub size_of_column : ColumnDefinition → ℕ
+size_of_column c = 1 + total (map size_of_constraint c.constraints)
+
+abbrev pub size_of_behind : TableConstraint → ℕ
+size_of_behind (behind.Check x) = size_of x
+size_of_behind other = 0
+
+abbrev pub size_of_table : TableDefinition → ℕ
+size_of_table t = total (map size_of_column t.columns) + total (map size_of_behind t.constraints)
+
 abbrev pub size_of_definition : Definition → ℕ
-size_of_definition (definition.Table t) = 2 + length t.columns
+size_of_definition (definition.Table t) = 2 + size_of_table t
 size_of_definition (definition.Index i) = 2
 size_of_definition (definition.View v) = 2
 size_of_definition (definition.Trigger t) = 2
