@@ -1,5 +1,5 @@
 -- Whatever is bad in a statement has a cause, so that each refusal can be told.
-use Rattle.std.proofs.Common.{◌≡◌, ◌||◌, ◌∙◌, ap, inl, inr, true, ℕ, List, [], ◌∷◌, ◌++◌, Some, None, Ok, Err, Result, map, fold, flat_map, sym, subst, zero, suc}
+use Rattle.std.proofs.Common.{◌≡◌, ◌||◌, ◌∙◌, ap, inl, inr, Bool, true, false, ℕ, List, [], ◌∷◌, ◌++◌, Some, None, Ok, Err, Result, if◌then◌else◌, map, fold, flat_map, sym, subst, zero, suc}
 use Rattle.std.specs.Bool.{⊤}
 use Rattle.std.specs.Cmp.Lexicographic.{nat_list_cmp_total}
 use Rattle.std.specs.FinSet as set
@@ -9,13 +9,17 @@ use Rattle.std.specs.declared.option.Option.{Option}
 use Rattle.eng_value.specs.Causes.{CauseSet, cause_key, has_cause, named, only}
 use Rattle.eng_value.specs.Written.{Written}
 use Rattle.eng_value.proofs.CauseLaws.{has_cause-only, named-only, named-other}
+use Rattle.eng_number.specs.Numbers.{fits_integer}
+use Rattle.eng_value.specs.Casts.{store_as}
 use Rattle.eng_value.specs.Comparisons.{comparison_of}
 use Rattle.eng_value.specs.Collations.{keys_of}
 use Rattle.eng_value.specs.Environments.{Environment, ItemRow, carried, column_of, ignoring, no_causes, null_row, table_row, with_causes, without_column}
 use Rattle.eng_value.specs.StoredRows.{StoredRow, next_rowid}
 use Rattle.eng_value.specs.Truths.{truth_in, truth_of}
 use Rattle.eng_value.specs.declared.cause.Cause.{Cause}
+use Rattle.eng_value.specs.declared.affinity.Affinity.TheVariants as affinity
 use Rattle.eng_value.specs.declared.cause.Cause.TheVariants as cause
+use Rattle.eng_value.specs.declared.cause.ConstraintKind.TheVariants as constraint
 use Rattle.eng_value.specs.declared.compare_op.CompareOp.TheVariants as compares
 use Rattle.eng_value.specs.declared.out.Out.{Out}
 use Rattle.eng_value.specs.declared.out.Out.TheVariants.{Good, Bad}
@@ -30,13 +34,18 @@ use Rattle.bound_tree.specs.Exprs as e
 use Rattle.bound_tree.specs.Exprs.{BoundArms, BoundExpr, BoundExprs, BoundMatches, NoExprs, AnExpr, NoArms, AnArm, NoMatches, AMatch}
 use Rattle.sql_words.specs.declared.literal.Literal.{Literal}
 use Rattle.sql_words.specs.declared.literal.Literal.TheVariants as literal
-use Rattle.sql_meaning.specs.declared.column.Column.{Column}
-use Rattle.sql_meaning.specs.declared.column.TableEntry.{TableEntry}
-use Rattle.sql_words.specs.Refusals.{◌>>=◌}
+use Rattle.sql_meaning.specs.declared.bound.BoundInsert.{BoundInsert}
+use Rattle.sql_meaning.specs.declared.bound.PutColumn.{PutColumn}
+use Rattle.sql_meaning.specs.declared.bound.RowidFrom.{RowidFrom}
+use Rattle.sql_meaning.specs.declared.bound.RowidFrom.TheVariants as rowid
 use Rattle.sql_meaning.specs.Expression.{arms_of, chosen_in, first_known, literal_out, matched_in, matches_of, parameter_of, unbuilt, value_of, values_of}
-use Rattle.sql_meaning.specs.Statement.{IsNamed, Item, Row, Failed, after_conjunct, all_put, begun, bound_for, bound_outcome, causes_of, given_of, if_some, item_by, item_of, item_put, item_rows, items_at, items_of, outcome_of, product, put_source, refusal_of, row_put, row_under, rows_put, shown, shown_rows, sifted, source_of, stored, text_outcome, values_placed, with_others}
+use Rattle.sql_meaning.specs.Rows.{NewRow, at_row, checked, drawn, fitted, fixed, is_taken, lacks_value, new_by, new_row, or_default, passed, row_changed, row_put, rowid_beside, stored_for, unless_broken, value_for, with_row}
+use Rattle.sql_meaning.specs.Statement.{IsNamed, Item, Row, Failed, after_conjunct, begun, bound_for, bound_outcome, causes_of, closed, given_of, if_some, item_by, item_of, item_rows, items_at, items_of, outcome_of, product, put_source, refusal_of, rows_put, shown, shown_rows, sifted, source_of, text_outcome, with_others}
+use Rattle.sql_meaning.specs.Steps.{Step, Done, Left, Fails, Effect, ◌then◌, done, each, or_next, settled}
 use Rattle.sql_meaning.specs.World.{Context, State, environment_at, rows_at}
-use Rattle.sql_meaning.proofs.CausedOperators.{AreCaused, IsCaused, IsCausedSet, IsCausedTruth, and_of-caused, bad-caused, binary_of-caused, choice_of-caused, comparison_of-caused, function_by-caused, good, like_escaped_of-caused, made-caused, member_of-caused, merged-caused, only-caused, or_else-caused, store_as-caused, truth_in-caused, truth_of-caused, unary_of-caused}
+use Rattle.sql_meaning.proofs.CausedOperators.{AreCaused, IsCaused, IsCausedSet, IsCausedTruth, and_of-caused, bad-caused, binary_of-caused, choice_of-caused, comparison_of-caused, function_by-caused, good, like_escaped_of-caused, made-caused, member_of-caused, merged-caused, only-caused, or_else-caused, store_as-caused, truth_in-caused, truth_of-caused, turned-caused, unary_of-caused}
+use Rattle.sql_meaning.proofs.RowLaws.{placed, tested, with_rowid}
+use Rattle.sql_meaning.proofs.StepLaws.{Gives, gives-each, gives-or_next, gives-then}
 
 -- ---- rows whose causes are causes
 
@@ -65,6 +74,10 @@ rowid-caused (r ∷ rows) (suc k) c = rowid-caused rows k c.1
 all-good : (row : List Value) → AreCaused (map Good row)
 all-good [] = tt
 all-good (v ∷ row) = (good v, all-good row)
+
+-- the row of a table
+row-caused : (r : StoredRow) → RowCaused (table_row r)
+row-caused r = (all-good r.values, good value.Null, good (value.Integer r.rowid))
 
 set-caused : (outs : List Out) (place : ℕ) → AreCaused outs → AreCaused (slice_set outs place (Good value.Null))
 set-caused [] place c = tt
@@ -239,7 +252,7 @@ behind-caused (x ∷ rows) r c d = (c.0, behind-caused rows r c.1 d)
 
 table-caused : (ignored : List (Option ℕ)) (rows : List StoredRow) → RowsCaused (map (λ r. ignoring ignored (table_row r)) rows)
 table-caused ignored [] = tt
-table-caused ignored (r ∷ rows) = (ignoring-caused ignored (table_row r) (all-good r.values, good value.Null, good (value.Integer r.rowid)), table-caused ignored rows)
+table-caused ignored (r ∷ rows) = (ignoring-caused ignored (table_row r) (row-caused r), table-caused ignored rows)
 
 product-caused : (ctx : Context) (items : List FromItem) (rows : List ItemRow) → RowsCaused rows → EachCaused (product ctx items rows)
 product-caused ctx [] rows c = (c, tt)
@@ -273,38 +286,115 @@ refusal-named (Some causes) c = told_named causes c
 
 -- ---- a write
 
-abbrev ToldWrite : Result Written CauseSet → Type 0
-ToldWrite (Ok x) = ⊤
-ToldWrite (Err causes) = IsCausedSet causes
+-- where it fails it has a cause
+abbrev ToldFailure : CauseSet → Written → Type 0
+ToldFailure causes x = IsCausedSet causes
 
-stored-caused : (columns : List Column) (values : List Value) → AreCaused (stored columns values)
-stored-caused [] values = tt
-stored-caused (c ∷ columns) [] = tt
-stored-caused (c ∷ columns) (v ∷ values) = (store_as-caused c.affinity v, stored-caused columns values)
+abbrev ToldStep : {A : Type 0} → Step A → Type 0
+ToldStep s = Gives (λ a x. ⊤) (λ x. ⊤) ToldFailure s
 
-under-told : (t : TableEntry) (x : Written) (values : List Value) (rowid : Option ℤ) → ToldWrite (row_under t x values rowid)
-under-told t x values None = only-caused (cause.Full t.name)
-under-told t x values (Some rowid) = tt
+abbrev ToldRow : Result NewRow CauseSet → Type 0
+ToldRow (Ok new) = ⊤
+ToldRow (Err causes) = IsCausedSet causes
 
-item_put-told : (t : TableEntry) (x : Written) (i : Item) → ToldItem i → ToldWrite (item_put t x i)
-item_put-told t x (Row values) c = under-told t x values (next_rowid (rows_at x.world t.number))
-item_put-told t x (Failed causes) c = c
+default-caused : (env : Environment) (x : Option BoundExpr) → RowsCaused env.rows → IsCaused (or_default env x)
+default-caused env None r = good value.Null
+default-caused env (Some x) r = value_of-caused x env r
 
-and_then-told : (r : Result Written CauseSet) (g : Written → Result Written CauseSet) → ToldWrite r → ((x : Written) → ToldWrite (g x)) → ToldWrite (r >>= g)
-and_then-told (Ok x) g c h = h x
-and_then-told (Err causes) g c h = c
+value_for-caused : (env : Environment) (source : List Value) (place : Option ℕ) (x : Option BoundExpr) → RowsCaused env.rows → IsCaused (value_for env source place x)
+value_for-caused env source (Some place) x r = good (slice_index_or source place value.Null)
+value_for-caused env source None x r = default-caused env x r
 
-rows_put-told : (p : Put) (x : Written) (source : List (List Value)) → ToldWrite (rows_put p x source)
-rows_put-told p x [] = tt
-rows_put-told p x (row ∷ source) =
-    let outs = stored p.table.columns (values_placed p.places row) in
-    and_then-told (row_put p x row) (λ more. rows_put p more source)
-    (item_put-told p.table x (item_of no_causes outs) (item_of-told no_causes outs (good value.Null) (stored-caused p.table.columns (values_placed p.places row))))
-    (λ more. rows_put-told p more source)
+stored_for-caused : (env : Environment) (columns : List PutColumn) (source : List Value) → RowsCaused env.rows → AreCaused (stored_for env columns source)
+stored_for-caused env [] source r = tt
+stored_for-caused env (c ∷ columns) source r =
+    (turned-caused (store_as c.affinity) (value_for env source c.place c.default) (store_as-caused c.affinity) (value_for-caused env source c.place c.default r), stored_for-caused env columns source r)
 
-all_put-told : (state : State) (r : Result Written CauseSet) → ToldWrite r → ToldRefusal (all_put state r).refusal
-all_put-told state (Ok x) c = tt
-all_put-told state (Err causes) c = told_named causes c
+beside-caused : (from : RowidFrom) (source : List Value) → AreCaused (rowid_beside from source)
+beside-caused rowid.Drawn source = tt
+beside-caused (rowid.Given place) source = (store_as-caused affinity.Integer (slice_index_or source place value.Null), tt)
+beside-caused (rowid.Column place) source = tt
+
+caused-append : (outs others : List Out) → AreCaused outs → AreCaused others → AreCaused (outs ++ others)
+caused-append [] others c d = d
+caused-append (a ∷ outs) others c d = (c.0, caused-append outs others c.1 d)
+
+new_by-told : (from : RowidFrom) (outs beside : List Out) (a : Out) → IsCaused a → ToldRow (new_by from outs beside a)
+new_by-told from outs beside (Good v) c = tt
+new_by-told from outs beside (Bad causes) c = c.told
+
+new_row-told : (env : Environment) (b : BoundInsert) (source : List Value) → RowsCaused env.rows → ToldRow (new_row env b source)
+new_row-told env b source r =
+    let outs = stored_for env b.columns source in
+    let beside = rowid_beside b.rowid source in
+    new_by-told b.rowid outs beside (fold with_causes no_causes (outs ++ beside))
+    (all_causes-caused no_causes (outs ++ beside) (good value.Null) (caused-append outs beside (stored_for-caused env b.columns source r) (beside-caused b.rowid source)))
+
+settled-told : (r : Result NewRow CauseSet) (x : Written) → ToldRow r → ToldStep (settled r x)
+settled-told (Ok new) x c = tt
+settled-told (Err causes) x c = c
+
+drawn-told : (table : List ℕ) (n : Option ℤ) (x : Written) → ToldStep (drawn table n x)
+drawn-told table None x = only-caused (cause.Full table)
+drawn-told table (Some n) x = tt
+
+given-told : (b : Bool) (n : ℤ) (x : Written) → ToldStep (if b then Done n x else Fails (only cause.Mismatch) x)
+given-told true n x = tt
+given-told false n x = only-caused cause.Mismatch
+
+fixed-told : (table : List ℕ) (rows : List StoredRow) (v : Value) (x : Written) → ToldStep (fixed table rows v x)
+fixed-told table rows value.Null x = drawn-told table (next_rowid rows) x
+fixed-told table rows (value.Integer n) x = given-told (fits_integer n) n x
+fixed-told table rows (value.Text text) x = only-caused cause.Mismatch
+fixed-told table rows (value.Blob bytes) x = only-caused cause.Mismatch
+
+unless_broken-told : (b : Bool) (why : Cause) (x : Written) → ToldStep (unless_broken b why x)
+unless_broken-told false why x = tt
+unless_broken-told true why x = only-caused why
+
+passed-told : (table : List ℕ) (t : Truth) (x : Written) → IsCausedTruth t → ToldStep (passed table t x)
+passed-told table truth.True x c = tt
+passed-told table truth.False x c = only-caused (cause.Constraint constraint.Check table)
+passed-told table truth.Unknown x c = tt
+passed-told table (truth.Failed causes) x c = c.told
+
+then-told : {A B : Type 0} (s : Step A) (k : A → Written → Step B) → ToldStep s → ((a : A) (x : Written) → ToldStep (k a x)) → ToldStep (s then k)
+then-told {A} {B} s k c h = gives-then (λ x. ⊤) ToldFailure (λ (a : A) x. ⊤) (λ (b : B) x. ⊤) s k c (λ a x t. h a x)
+
+each-told : {A : Type 0} (f : A → Written → Effect) (xs : List A) (x : Written) → ((a : A) (y : Written) → ToldStep (f a y)) → ToldStep (each f xs x)
+each-told {A} f xs x turn = gives-each (λ y. ⊤) ToldFailure (λ y. ⊤) f xs x (λ a y t. turn a y) tt
+
+checked-told : (table : List ℕ) (checks : List BoundExpr) (env : Environment) (x : Written) → RowsCaused env.rows → ToldStep (checked table checks env x)
+checked-told table checks env x r =
+    each-told (λ c y. passed table (truth_in (truth_of (value_of c env))) y) checks x
+    (λ c y. passed-told table (truth_in (truth_of (value_of c env))) y (truth_in-caused (truth_of (value_of c env)) (truth_of-caused (value_of c env) (value_of-caused c env r))))
+
+tested-told : (env : Environment) (b : BoundInsert) (rows : List StoredRow) (r : StoredRow) (x : Written) → ToldStep (tested env b rows r x)
+tested-told env b rows r x =
+    let taken : Written → Effect = unless_broken (is_taken rows r.rowid) (cause.Constraint constraint.Unique b.name) in
+    let lacks : Written → Effect = unless_broken (lacks_value b.columns r.values) (cause.Constraint constraint.NotNull b.name) in
+    then-told (lacks x) (λ u y. checked b.name b.checks (at_row env r) y then λ v z. placed b rows r z) (unless_broken-told (lacks_value b.columns r.values) (cause.Constraint constraint.NotNull b.name) x)
+    (λ u y. then-told (checked b.name b.checks (at_row env r) y) (λ v z. placed b rows r z) (checked-told b.name b.checks (at_row env r) y (row-caused r, tt))
+    (λ v z. then-told (taken z) (λ w z. Done r z) (unless_broken-told (is_taken rows r.rowid) (cause.Constraint constraint.Unique b.name) z) (λ w z. tt)))
+
+fitted-told : (env : Environment) (b : BoundInsert) (rows : List StoredRow) (new : NewRow) (x : Written) → ToldStep (fitted env b rows new x)
+fitted-told env b rows new x =
+    then-told (fixed b.name rows new.rowid x) (λ n y. tested env b rows (with_rowid b new n) y) (fixed-told b.name rows new.rowid x) (λ n y. tested-told env b rows (with_rowid b new n) y)
+
+row_put-told : (env : Environment) (b : BoundInsert) (source : List Value) (x : Written) → RowsCaused env.rows → ToldStep (row_put env b source x)
+row_put-told env b source x r =
+    then-told (settled (new_row env b source) x) (λ new y. row_changed env b new y) (settled-told (new_row env b source) x (new_row-told env b source r))
+    (λ new y. then-told (fitted env b (rows_at y.world b.table) new y) (λ row z. done (with_row z b.table row)) (fitted-told env b (rows_at y.world b.table) new y) (λ row z. tt))
+
+rows_put-told : (env : Environment) (b : BoundInsert) (source : List (List Value)) (x : Written) → RowsCaused env.rows → ToldStep (rows_put env b source x)
+rows_put-told env b source x r =
+    each-told (λ row y. or_next (row_put env b row y)) source x
+    (λ row y. gives-or_next (λ u z. ⊤) (λ z. ⊤) (λ z. ⊤) ToldFailure (row_put env b row y) (λ z t. tt) (row_put-told env b row y r))
+
+closed-told : (state : State) (s : Effect) → ToldStep s → ToldRefusal (closed state s).refusal
+closed-told state (Done u x) c = tt
+closed-told state (Left x) c = tt
+closed-told state (Fails causes x) c = told_named causes c
 
 with_others-told : (causes : CauseSet) (others : Option CauseSet) → ToldRefusal (Some causes) → ToldRefusal (Some (with_others causes others))
 with_others-told causes None c = c
@@ -316,10 +406,10 @@ causes_of-told [] c = tt
 causes_of-told (Row row ∷ items) c = causes_of-told items c.1
 causes_of-told (Failed causes ∷ items) c = with_others-told (named causes) (causes_of items) (told_named causes c.0)
 
-put_source-told : (state : State) (p : Put) (causes : Option CauseSet) (source : List (List Value)) → ToldRefusal causes → ToldRefusal (put_source state p causes source).refusal
-put_source-told state p (Some causes) source c = c
-put_source-told state p None source c =
-    all_put-told state (rows_put p (begun state) source) (rows_put-told p (begun state) source)
+put_source-told : (ctx : Context) (p : Put) (causes : Option CauseSet) (source : List (List Value)) → ToldRefusal causes → ToldRefusal (put_source ctx p causes source).refusal
+put_source-told ctx p (Some causes) source c = c
+put_source-told ctx p None source c =
+    closed-told ctx.state (rows_put (environment_at ctx []) p.insert source (begun ctx.state)) (rows_put-told (environment_at ctx []) p.insert source (begun ctx.state) tt)
 
 -- rows of values
 rows-told : (ctx : Context) (rows : List (List BoundExpr)) → AreTold (shown_rows ctx rows)
@@ -331,7 +421,7 @@ rows-told ctx (row ∷ rows) = (item_of-told no_causes (map (λ r. value_of r (e
 outcome_of-told : (ctx : Context) (b : Runnable) → ToldRefusal (outcome_of ctx b).refusal
 outcome_of-told ctx (Creates e) = tt
 outcome_of-told ctx (Drops t) = tt
-outcome_of-told ctx (Puts p) = put_source-told ctx.state p (causes_of (source_of ctx p)) (given_of (source_of ctx p)) (causes_of-told (source_of ctx p) (rows-told ctx p.rows))
+outcome_of-told ctx (Puts p) = put_source-told ctx p (causes_of (source_of ctx p)) (given_of (source_of ctx p)) (causes_of-told (source_of ctx p) (rows-told ctx p.insert.rows))
 outcome_of-told ctx (Shows rows) = refusal-named (refusal_of (shown_rows ctx rows)) (refusal_of-told (shown_rows ctx rows) (rows-told ctx rows))
 outcome_of-told ctx DoesNothing = tt
 outcome_of-told ctx (Queries q) = refusal-named (refusal_of (items_of ctx q)) (refusal_of-told (items_of ctx q) (items-told ctx q.conjuncts q.results (product ctx q.from []) (product-caused ctx q.from [] tt)))

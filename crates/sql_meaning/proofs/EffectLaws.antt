@@ -1,10 +1,11 @@
 -- What statements do.
-use Rattle.std.proofs.Common.{◌≡◌, ◌<◌, ◌↔◌, ◌⊎◌, inl, inr, ℕ, suc, ◌+◌, ◌-◌, List, [], ◌∷◌, ◌++◌, Bool, true, false, length, Option, Some, None, Result, Ok, Err, ℤ, pos, ◌+ℤ◌, ◌<ℤ◌, int_le, slice_get, slice_set, if◌then◌else◌, All, Any, refl, sym, ap, ◌∙◌, subst, arith, append_assoc, append-nil}
+use Rattle.std.proofs.Common.{◌≡◌, ◌<◌, ◌↔◌, ◌⊎◌, inl, inr, ℕ, suc, ◌+◌, ◌-◌, List, [], ◌∷◌, ◌++◌, Bool, true, false, length, Option, Some, None, ℤ, pos, ◌+ℤ◌, ◌<ℤ◌, int_le, slice_get, slice_set, if◌then◌else◌, All, Any, refl, sym, ap, ◌∙◌, subst, arith}
 use Rattle.std.proofs.lemmas.Int.{ints}
+use Rattle.std.proofs.lemmas.List.Elements.{All-cons, All-nil}
 use Rattle.std.proofs.lemmas.List.{get_or-set_same, length-set, set-get_or, set-set}
 use Rattle.eng_number.specs.Numbers.{fits_integer}
-use Rattle.eng_value.specs.Causes.{CauseSet, only}
-use Rattle.eng_value.specs.Environments.{Environment, carried, no_causes}
+use Rattle.eng_value.specs.Causes.{only}
+use Rattle.eng_value.specs.Environments.{Environment, carried}
 use Rattle.eng_value.specs.StoredRows.{StoredRow, next_rowid, rowid_behind}
 use Rattle.eng_value.specs.Truths.{truth_in, truth_of}
 use Rattle.eng_value.specs.Written.{Written}
@@ -14,16 +15,22 @@ use Rattle.eng_value.specs.declared.out.Out.{Out}
 use Rattle.eng_value.specs.declared.truth.Truth.{Truth}
 use Rattle.eng_value.specs.declared.truth.Truth.TheVariants as truth
 use Rattle.eng_value.specs.declared.value.Value.{Value}
+use Rattle.eng_value.specs.declared.value.Value.TheVariants as value
 use Rattle.bound_tree.specs.Exprs.{BoundExpr}
+use Rattle.sql_meaning.specs.declared.bound.BoundInsert.{BoundInsert}
+use Rattle.sql_meaning.specs.declared.bound.RowidFrom.TheVariants as rowid
 use Rattle.sql_meaning.specs.declared.column.TableEntry.{TableEntry}
-use Rattle.sql_words.specs.Refusals.{◌>>=◌}
-use Rattle.sql_meaning.specs.Runnables.{Put}
-use Rattle.sql_meaning.specs.Effects.{AreDrawn, IsFull, IsOneMore, last_rowid_of}
+use Rattle.sql_meaning.specs.Effects.{AreAdded, AreDrawn, IsFitting, IsFull, IsOneMore, last_rowid_of}
 use Rattle.sql_meaning.specs.Expression.{value_of}
-use Rattle.sql_meaning.specs.Statement.{Row, after_conjunct, if_some, item_of, items_at, row_put, row_under, rows_put, sifted, stored, values_placed, with_row}
+use Rattle.sql_meaning.specs.Rows.{NewRow, drawn, fitted, fixed, row_put, with_row, with_row_in}
+use Rattle.sql_meaning.specs.Statement.{after_conjunct, if_some, items_at, rows_put, sifted}
+use Rattle.sql_meaning.specs.Steps.{Done, Effect, Fails, or_next}
 use Rattle.sql_meaning.specs.Valid.{AreRowsOf, IsRowOf}
 use Rattle.sql_meaning.specs.World.{rows_at}
-use Rattle.sql_meaning.proofs.StoringLaws.{PutsRow, drawn, one_behind, row_put-one}
+use Rattle.sql_meaning.proofs.PlaceLaws.{rows-in}
+use Rattle.sql_meaning.proofs.RowLaws.{PutsRow, row_put-gives, rowid-drawn}
+use Rattle.sql_meaning.proofs.StepLaws.{Gives, anyhow, gives-weaker, gives-or_next, gives-then, never}
+use Rattle.sql_meaning.proofs.StoringLaws.{IsInto, next-drawn}
 
 -- ---- conjuncts
 
@@ -72,7 +79,7 @@ one_more_by : (t : TableEntry) (x : StoredRow) (rows : List StoredRow) (n : ℤ)
 one_more_by t x rows n last true valid next e = absurd (cc)
 one_more_by t x rows n last false valid next e =
     let is : n ≡ last.row.rowid +ℤ pos 1 = cc in
-    inr (any-by (λ (r : StoredRow). r ≡ last.row) (λ (r : StoredRow). n ≡ r.rowid +ℤ pos 1) (x ∷ rows) (λ r same. is ∙ ap (λ (o : StoredRow). o.rowid +ℤ pos 1) (sym same)) last.among, (drawn t (x ∷ rows) n valid next).above)
+    inr (any-by (λ (r : StoredRow). r ≡ last.row) (λ (r : StoredRow). n ≡ r.rowid +ℤ pos 1) (x ∷ rows) (λ r same. is ∙ ap (λ (o : StoredRow). o.rowid +ℤ pos 1) (sym same)) last.among, (next-drawn t (x ∷ rows) n valid next).above)
 
 pub one_more : (t : TableEntry) (rows : List StoredRow) (n : ℤ) → AreRowsOf t rows → next_rowid rows ≡ Some n → IsOneMore rows n
 one_more t [] n valid e = inl (refl, let one : pos 1 ≡ n = cc in sym one)
@@ -96,7 +103,7 @@ none_by t x rows last true is valid next =
     let fits : fits_integer last.row.rowid ≡ true = subst (λ (r : StoredRow). fits_integer r.rowid ≡ true) row.2 row.1.rowid in
     (λ e. any-by (λ (r : StoredRow). r ≡ last.row) (λ (r : StoredRow). r.rowid ≡ MAX_ROWID) (x ∷ rows) (λ r same. ap (λ (o : StoredRow). o.rowid) same ∙ is_max last.row.rowid fits is) last.among, λ full. next)
 none_by t x rows last false is valid next =
-    let above = (drawn t (x ∷ rows) (last.row.rowid +ℤ pos 1) valid next).above in (
+    let above = (next-drawn t (x ∷ rows) (last.row.rowid +ℤ pos 1) valid next).above in (
       λ e. absurd (let bad : None ≡ Some (last.row.rowid +ℤ pos 1) = sym e ∙ next in cc),
       λ full. let row = each-here (λ (r : StoredRow). r.rowid <ℤ (last.row.rowid +ℤ pos 1)) (x ∷ rows) (λ (r : StoredRow). r.rowid ≡ MAX_ROWID) above full in absurd (not_max row.0.rowid last.row.rowid is row.1 row.2),
     )
@@ -105,83 +112,112 @@ pub none-full : (t : TableEntry) (rows : List StoredRow) → AreRowsOf t rows �
 none-full t [] valid = (λ e. absurd (let bad : Some (pos 1) ≡ None = e in cc), λ full. absurd (none-here (λ (r : StoredRow). r.rowid ≡ MAX_ROWID) full))
 none-full t (x ∷ rows) valid = let last = last_of x rows in none_by t x rows last (int_le MAX_ROWID last.row.rowid) refl valid (ap rowid_behind last.here)
 
--- ---- a row that is put
+-- ---- a rowid where none is given
 
-under_full : (t : TableEntry) (x : Written) (values : List Value) (rowid : Option ℤ) → next_rowid (rows_at x.world t.number) ≡ rowid → ((next_rowid (rows_at x.world t.number) ≡ None) ↔ IsFull (rows_at x.world t.number))
-    → ((row_under t x values rowid ≡ Err (only (Full t.name))) ↔ IsFull (rows_at x.world t.number)) × (((y : Written) × (row_under t x values rowid ≡ Ok y)) ⊎ IsFull (rows_at x.world t.number))
-under_full t x values None is full = ((λ e. full.0 is, λ f. refl), inr (full.0 is))
-under_full t x values (Some n) is full =
-    ((λ e. absurd (cc), λ f. absurd (let bad : Some n ≡ None = sym is ∙ full.1 f in cc)), inl (_, refl))
+null_full : (t : TableEntry) (rows : List StoredRow) (x : Written) (o : Option ℤ) → next_rowid rows ≡ o → (next_rowid rows ≡ None) ↔ IsFull rows
+    → ((drawn t.name o x ≡ Fails (only (Full t.name)) x) ↔ IsFull rows) × (((n : ℤ) × (drawn t.name o x ≡ Done n x)) ⊎ IsFull rows)
+null_full t rows x None is full = ((λ e. full.0 is, λ f. refl), inr (full.0 is))
+null_full t rows x (Some n) is full =
+    ((λ e. absurd (let bad : Done n x ≡ Fails (only (Full t.name)) x = e in cc), λ f. absurd (let bad : Some n ≡ None = sym is ∙ full.1 f in cc)), inl (n, refl))
 
-pub full_exactly : (p : Put) (x : Written) (source values : List Value) → AreRowsOf p.table (rows_at x.world p.table.number) → item_of no_causes (stored p.table.columns (values_placed p.places source)) ≡ Row values
-    → ((row_put p x source ≡ Err (only (Full p.table.name))) ↔ IsFull (rows_at x.world p.table.number)) × (((y : Written) × (row_put p x source ≡ Ok y)) ⊎ IsFull (rows_at x.world p.table.number))
-full_exactly p x source values valid is =
-    rw is (under_full p.table x values (next_rowid (rows_at x.world p.table.number)) refl (none-full p.table (rows_at x.world p.table.number) valid))
+pub full_exactly : (t : TableEntry) (x : Written) → AreRowsOf t (rows_at x.world t.number)
+    → ((fixed t.name (rows_at x.world t.number) value.Null x ≡ Fails (only (Full t.name)) x) ↔ IsFull (rows_at x.world t.number))
+    × (((n : ℤ) × (fixed t.name (rows_at x.world t.number) value.Null x ≡ Done n x)) ⊎ IsFull (rows_at x.world t.number))
+full_exactly t x valid =
+    let rows = rows_at x.world t.number in null_full t rows x (next_rowid rows) refl (none-full t rows valid)
+
+-- a rowid that is drawn is one more than the largest
+pub drawn-is : (t : TableEntry) (env : Environment) (b : BoundInsert) (rows : List StoredRow) (new : NewRow) (x y : Written) (r : StoredRow) → AreRowsOf t rows → new.rowid ≡ value.Null → fitted env b rows new x ≡ Done r y → IsOneMore rows r.rowid
+drawn-is t env b rows new x y r valid null e = one_more t rows r.rowid valid (rowid-drawn t env b rows new x y r valid null e)
 
 -- ---- rows that are put
 
--- so many rows stand behind those of their table, which has no other; they are counted, and nothing is told or returned
-pub record PutsRows (t : TableEntry) (table : ℕ) (x y : Written) (given : ℕ) : Type 0 where
+-- so many rows have come among those of their table, and no other has changed; they are counted, and nothing is told or returned
+pub record PutsRows (t : TableEntry) (env : Environment) (b : BoundInsert) (table : ℕ) (x y : Written) (given : ℕ) : Type 0 where
   pub new : List StoredRow
-  pub world : y.world ≡ slice_set x.world table (rows_at x.world table ++ new)
-  pub drawn : AreDrawn (rows_at x.world table) new
-  pub valid : AreRowsOf t (rows_at x.world table ++ new)
+  pub rows : List StoredRow
+  pub world : y.world ≡ slice_set x.world table rows
+  pub added : AreAdded (rows_at x.world table) new rows
+  pub fitting : All (IsFitting env b) new
+  pub drawn : b.rowid ≡ rowid.Drawn → AreDrawn (rows_at x.world table) new
+  pub valid : AreRowsOf t rows
   pub count : length new ≡ given
   pub changes : y.changes ≡ x.changes + given
   pub last_rowid : y.last_rowid ≡ last_rowid_of x.last_rowid new
+  pub fits : fits_integer x.last_rowid ≡ true → fits_integer y.last_rowid ≡ true
   pub told : y.told ≡ x.told
   pub returned : y.returned ≡ x.returned
 
-none_put : (t : TableEntry) (table : ℕ) (x : Written) → AreRowsOf t (rows_at x.world table) → PutsRows t table x x 0
-none_put t table x valid = record {
+none_put : (t : TableEntry) (env : Environment) (b : BoundInsert) (table : ℕ) (x : Written) → AreRowsOf t (rows_at x.world table) → PutsRows t env b table x x 0
+none_put t env b table x valid = record {
   new = [];
-  world = sym (ap (slice_set x.world table) (append-nil (rows_at x.world table)) ∙ set-get_or x.world table []);
-  drawn = tt;
-  valid = subst (AreRowsOf t) (sym (append-nil (rows_at x.world table))) valid;
+  rows = rows_at x.world table;
+  world = sym (set-get_or x.world table []);
+  added = refl;
+  fitting = All-nil (IsFitting env b);
+  drawn = λ is. tt;
+  valid = valid;
   count = refl;
   changes = omega arith;
   last_rowid = refl;
+  fits = λ fits. fits;
   told = refl;
   returned = refl;
 }
 
 -- the rows of a table that has one more
-pub rows_at-with_row : (x : Written) (table : ℕ) (r : StoredRow) → table < length x.world → rows_at (with_row x table r).world table ≡ rows_at x.world table ++ r ∷ []
-rows_at-with_row x table r within = get_or-set_same x.world table (rows_at x.world table ++ r ∷ []) [] within
+pub rows_at-with_row : (x : Written) (table : ℕ) (r : StoredRow) → table < length x.world → rows_at (with_row x table r).world table ≡ with_row_in (rows_at x.world table) r
+rows_at-with_row x table r within = get_or-set_same x.world table (with_row_in (rows_at x.world table) r) [] within
 
 -- one, and then others
-put_then : (t : TableEntry) (table : ℕ) (x y : Written) (r : StoredRow) (count : ℕ) → table < length x.world → AreRowsOf t (rows_at x.world table) → next_rowid (rows_at x.world table) ≡ Some r.rowid → PutsRows t table (with_row x table r) y count → PutsRows t table x y (suc count)
-put_then t table x y r count within valid next rest =
-    let old = rows_at x.world table in
-    let here = rows_at-with_row x table r within in
-    let joined : rows_at (with_row x table r).world table ++ rest.new ≡ old ++ r ∷ rest.new = ap (λ rs. rs ++ rest.new) here ∙ append_assoc old (r ∷ []) rest.new in
+put_then : (t : TableEntry) (env : Environment) (b : BoundInsert) (x y : Written) (one : PutsRow t env b x y) (z : Written) (count : ℕ) → b.table < length x.world → AreRowsOf t (rows_at x.world b.table)
+    → PutsRows t env b b.table (with_row x b.table one.row) z count → PutsRows t env b b.table x z (suc count)
+put_then t env b x y one z count within valid rest =
+    let r = one.row in
+    let old = rows_at x.world b.table in
+    let here = rows_at-with_row x b.table r within in
     record {
       new = r ∷ rest.new;
-      world = rest.world ∙ set-set x.world table (old ++ r ∷ []) (rows_at (with_row x table r).world table ++ rest.new) ∙ ap (slice_set x.world table) joined;
-      drawn = (one_more t old r.rowid valid next, subst (λ rs. AreDrawn rs rest.new) here rest.drawn);
-      valid = subst (AreRowsOf t) joined rest.valid;
+      rows = rest.rows;
+      world = rest.world ∙ set-set x.world b.table (with_row_in old r) rest.rows;
+      added = (one.free, subst (λ rs. AreAdded rs rest.new rest.rows) here rest.added);
+      fitting = All-cons (IsFitting env b) r rest.new one.fitting rest.fitting;
+      drawn = λ is. (one_more t old r.rowid valid (one.next is), subst (λ rs. AreDrawn rs rest.new) here (rest.drawn is));
+      valid = rest.valid;
       count = omega (arith, rest.count);
       changes = omega (arith, rest.changes);
       last_rowid = rest.last_rowid;
+      fits = λ f. rest.fits one.fits;
       told = rest.told;
       returned = rest.returned;
     }
 
-first_put : (t : TableEntry) (table : ℕ) (x y : Written) (count : ℕ) (first : Result Written CauseSet) (others : Written → Result Written CauseSet) → table < length x.world → AreRowsOf t (rows_at x.world table)
-    → ((more : Written) → first ≡ Ok more → PutsRow t table x more) → ((more : Written) → table < length more.world → AreRowsOf t (rows_at more.world table) → others more ≡ Ok y → PutsRows t table more y count) → first >>= others ≡ Ok y → PutsRows t table x y (suc count)
-first_put t table x y count (Err causes) others within valid one rest e = absurd (let bad : Err causes ≡ Ok y = e in cc)
-first_put t table x y count (Ok more) others within valid one rest e =
-    let row = one more refl in
-    let old = rows_at x.world table in
-    let wide : table < length more.world = subst (λ (m : Written). table < length m.world) (sym row.behind) (subst (λ n. table < n) (sym (length-set x.world table (old ++ row.row ∷ []))) within) in
-    let held : AreRowsOf t (rows_at more.world table) =
-    subst (λ (m : Written). AreRowsOf t (rows_at m.world table)) (sym row.behind) (subst (AreRowsOf t) (sym (rows_at-with_row x table row.row within)) (one_behind t old row.row valid row.next row.held)) in
-    put_then t table x y row.row count within valid row.next (subst (λ m. PutsRows t table m y count) row.behind (rest more wide held e))
+-- what the others need of the state that the first one left
+record Ready (t : TableEntry) (b : BoundInsert) (x : Written) : Type 0 where
+  there : b.table < length x.world
+  valid : AreRowsOf t (rows_at x.world b.table)
 
-pub rows_put-all : (p : Put) (x y : Written) (source : List (List Value)) → length p.places ≡ length p.table.columns → p.table.number < length x.world → AreRowsOf p.table (rows_at x.world p.table.number) → rows_put p x source ≡ Ok y
-    → PutsRows p.table p.table.number x y (length source)
-rows_put-all p x y [] wide within valid e =
-    subst (λ m. PutsRows p.table p.table.number x m 0) (let same : x ≡ y = cc in same) (none_put p.table p.table.number x valid)
-rows_put-all p x y (row ∷ source) wide within valid e =
-    first_put p.table p.table.number x y (length source) (row_put p x row) (λ more. rows_put p more source) within valid
-    (λ more is. row_put-one p x more row wide is) (λ more in_it ok is. rows_put-all p more y source wide in_it ok is) e
+ready : (t : TableEntry) (env : Environment) (b : BoundInsert) (x y : Written) → Ready t b x → PutsRow t env b x y → Ready t b y
+ready t env b x y is one =
+    let rows = with_row_in (rows_at x.world b.table) one.row in
+    subst (Ready t b) (sym one.put) (record {
+      there = subst (λ n. b.table < n) (sym (length-set x.world b.table rows)) is.there;
+      valid = subst (AreRowsOf t) (sym (rows_at-with_row x b.table one.row is.there)) (rows-in t (rows_at x.world b.table) one.row is.valid one.free one.fits one.held);
+    })
+
+all_put : (t : TableEntry) (env : Environment) (b : BoundInsert) (source : List (List Value)) (x : Written) → IsInto t b → Ready t b x → Gives (λ u y. PutsRows t env b b.table x y (length source)) never anyhow (rows_put env b source x)
+all_put t env b [] x into is = none_put t env b b.table x is.valid
+all_put t env b (row ∷ source) x into is =
+    let others : Unit {0} → Written → Effect = λ u y. rows_put env b source y in
+    gives-then never anyhow (λ u y. PutsRow t env b x y) (λ u y. PutsRows t env b b.table x y (suc (length source))) (or_next (row_put env b row x)) others
+    (gives-or_next (λ u y. PutsRow t env b x y) never never anyhow (row_put env b row x) (λ y left. absurd left) (row_put-gives t env b row x into is.valid))
+    (λ u y one. gives-weaker (λ v z. PutsRows t env b b.table y z (length source)) (λ v z. PutsRows t env b b.table x z (suc (length source))) never anyhow anyhow (rows_put env b source y)
+    (λ v z rest. put_then t env b x y one z (length source) is.there is.valid (subst (λ m. PutsRows t env b b.table m z (length source)) one.put rest))
+    (λ causes z h. tt) (all_put t env b source y into (ready t env b x y is one)))
+
+-- what a source of rows is put to, where no row fails
+pub rows_put-gives : (t : TableEntry) (env : Environment) (b : BoundInsert) (source : List (List Value)) (x : Written) → IsInto t b → t.number < length x.world → AreRowsOf t (rows_at x.world t.number)
+    → Gives (λ u y. PutsRows t env b t.number x y (length source)) never anyhow (rows_put env b source x)
+rows_put-gives t env b source x into there valid =
+    subst (λ n. Gives (λ u y. PutsRows t env b n x y (length source)) never anyhow (rows_put env b source x)) into.number
+    (all_put t env b source x into (record { there = subst (λ n. n < length x.world) (sym into.number) there; valid = subst (λ n. AreRowsOf t (rows_at x.world n)) (sym into.number) valid }))

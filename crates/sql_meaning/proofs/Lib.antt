@@ -4,7 +4,10 @@ pub mod NameLaws
 pub mod CausedOperators
 pub mod CausedLaws
 pub mod RefusalLaws
+pub mod StepLaws
+pub mod PlaceLaws
 pub mod StoringLaws
+pub mod RowLaws
 pub mod EffectLaws
 pub mod TableLaws
 pub mod ValidLaws

@@ -2,12 +2,12 @@
 use Rattle.std.proofs.Common.{◌≡◌, ℕ, List, [], Some, None, Ok, Err, Result, refl}
 use Rattle.std.specs.declared.option.Option.{Option}
 use Rattle.eng_value.specs.Causes.{CauseSet, named, only}
-use Rattle.eng_value.specs.Written.{Written}
 use Rattle.eng_value.specs.declared.cause.Cause.{Cause}
 use Rattle.eng_value.specs.declared.value.Value.{Value}
 use Rattle.sql_meaning.specs.Runnables.{Runnable, Creates, DoesNothing, Drops, Put, Puts, Queries, Shows}
-use Rattle.sql_meaning.specs.Statement.{Outcome, all_put, begun, bound_for, bound_outcome, causes_of, given_of, outcome_of, put_source, refused, rows_put, source_of, text_outcome}
-use Rattle.sql_meaning.specs.World.{Context, State}
+use Rattle.sql_meaning.specs.Statement.{Outcome, begun, bound_for, bound_outcome, causes_of, closed, given_of, outcome_of, put_source, refused, rows_put, source_of, text_outcome}
+use Rattle.sql_meaning.specs.Steps.{Effect, Done, Left, Fails}
+use Rattle.sql_meaning.specs.World.{Context, State, environment_at}
 
 -- where it is a refusal, it changes nothing
 record Keeps (state : State) (o : Outcome) : Type 0 where
@@ -16,18 +16,19 @@ record Keeps (state : State) (o : Outcome) : Type 0 where
 refused-keeps : (state : State) (causes : CauseSet) → Keeps state (refused state causes)
 refused-keeps state causes = record { kept = λ others e. (refl, refl, refl) }
 
-all_put-keeps : (state : State) (r : Result Written CauseSet) → Keeps state (all_put state r)
-all_put-keeps state (Ok x) = record { kept = λ causes e. absurd (let bad : None ≡ Some causes = e in cc) }
-all_put-keeps state (Err causes) = refused-keeps state (named causes)
+closed-keeps : (state : State) (s : Effect) → Keeps state (closed state s)
+closed-keeps state (Done u x) = record { kept = λ causes e. absurd (let bad : None ≡ Some causes = e in cc) }
+closed-keeps state (Left x) = record { kept = λ causes e. absurd (let bad : None ≡ Some causes = e in cc) }
+closed-keeps state (Fails causes x) = refused-keeps state (named causes)
 
-put_source-keeps : (state : State) (p : Put) (causes : Option CauseSet) (source : List (List Value)) → Keeps state (put_source state p causes source)
-put_source-keeps state p (Some causes) source = refused-keeps state causes
-put_source-keeps state p None source = all_put-keeps state (rows_put p (begun state) source)
+put_source-keeps : (ctx : Context) (p : Put) (causes : Option CauseSet) (source : List (List Value)) → Keeps ctx.state (put_source ctx p causes source)
+put_source-keeps ctx p (Some causes) source = refused-keeps ctx.state causes
+put_source-keeps ctx p None source = closed-keeps ctx.state (rows_put (environment_at ctx []) p.insert source (begun ctx.state))
 
 outcome_of-keeps : (ctx : Context) (b : Runnable) → Keeps ctx.state (outcome_of ctx b)
 outcome_of-keeps ctx (Creates e) = record { kept = λ causes is. absurd (let bad : None ≡ Some causes = is in cc) }
 outcome_of-keeps ctx (Drops t) = record { kept = λ causes is. absurd (let bad : None ≡ Some causes = is in cc) }
-outcome_of-keeps ctx (Puts p) = put_source-keeps ctx.state p (causes_of (source_of ctx p)) (given_of (source_of ctx p))
+outcome_of-keeps ctx (Puts p) = put_source-keeps ctx p (causes_of (source_of ctx p)) (given_of (source_of ctx p))
 outcome_of-keeps ctx (Queries q) = record { kept = λ causes is. (refl, refl, refl) }
 outcome_of-keeps ctx (Shows rows) = record { kept = λ causes is. (refl, refl, refl) }
 outcome_of-keeps ctx DoesNothing = record { kept = λ causes is. (refl, refl, refl) }

@@ -1,15 +1,16 @@
--- What a column has stored it stores as it is, and the rows that are put are rows of their table.
-use Rattle.std.proofs.Common.{◌≡◌, ℕ, fold, suc, ◌-◌, List, [], ◌∷◌, ◌++◌, Bool, true, false, length, map, Option, Some, None, Ok, Err, ℤ, pos, ◌+ℤ◌, ◌<ℤ◌, int_le, slice_get, if◌then◌else◌, All, refl, sym, ap, ◌∙◌, subst, arith}
+-- What a column has stored it stores as it is, so that the values of a new row are held by the columns of its table; and the rowids that are drawn.
+use Rattle.std.proofs.Common.{◌≡◌, ℕ, fold, zero, suc, ◌-◌, List, [], ◌∷◌, ◌++◌, Bool, true, false, length, map, Some, None, Ok, Err, ℤ, pos, ◌+ℤ◌, ◌<ℤ◌, int_le, slice_get, slice_set, if◌then◌else◌, All, refl, sym, ap, ◌∙◌, subst, arith}
+use Rattle.std.specs.Bool.{⊤}
 use Rattle.std.specs.List.{AllZip}
 use Rattle.std.proofs.lemmas.Int.{ints}
-use Rattle.std.proofs.lemmas.List.Elements.{All-cons, All-head, All-nil, All-push, All-tail}
-use Rattle.std.proofs.lemmas.List.Quantifiers.{all_pairs_push}
+use Rattle.std.proofs.lemmas.List.Elements.{All-cons, All-head, All-nil, All-tail}
 use Rattle.eng_number.specs.Numbers.{fits_integer, text_kind}
 use Rattle.eng_number.specs.declared.numbers.TextKind.{TextKind}
 use Rattle.eng_number.specs.declared.numbers.TextKind.TheVariants as kind
 use Rattle.eng_value.specs.Applied.{merged}
 use Rattle.eng_value.specs.Casts.{integer_as_text, numeric_text, store_as, store_number}
-use Rattle.eng_value.specs.Written.{Written}
+use Rattle.eng_value.specs.Environments.{Environment, no_causes, with_causes}
+use Rattle.eng_value.specs.Outs.{turned}
 use Rattle.eng_value.specs.StoredRows.{StoredRow, next_rowid, rowid_behind}
 use Rattle.eng_value.specs.declared.affinity.Affinity.{Affinity}
 use Rattle.eng_value.specs.declared.affinity.Affinity.TheVariants as affinity
@@ -18,14 +19,16 @@ use Rattle.eng_value.specs.declared.out.Out.{Out}
 use Rattle.eng_value.specs.declared.out.Out.TheVariants.{Good, Bad}
 use Rattle.eng_value.specs.declared.value.Value.{Value}
 use Rattle.eng_value.specs.declared.value.Value.TheVariants as value
-use Rattle.std.proofs.lemmas.List.{length-map}
-use Rattle.sql_meaning.specs.Runnables.{Put}
+use Rattle.sql_meaning.specs.declared.bound.BoundInsert.{BoundInsert}
+use Rattle.sql_meaning.specs.declared.bound.PutColumn.{PutColumn}
+use Rattle.sql_meaning.specs.declared.bound.RowidFrom.{RowidFrom}
+use Rattle.sql_meaning.specs.declared.bound.RowidFrom.TheVariants as rowid
 use Rattle.sql_meaning.specs.declared.column.Column.{Column}
 use Rattle.sql_meaning.specs.declared.column.TableEntry.{TableEntry}
-use Rattle.sql_meaning.specs.Statement.{Item, Row, Failed, good_or_null, item_by, item_of, item_put, row_put, row_under, stored, value_at, values_placed, with_row}
-use Rattle.eng_value.specs.Environments.{no_causes, with_causes}
+use Rattle.sql_meaning.specs.Effects.{HasRowid}
+use Rattle.sql_meaning.specs.Rows.{NewRow, given_rowid, good_or_null, new_by, new_row, rowid_beside, stored_for, value_for, with_rowid_in}
+use Rattle.sql_meaning.specs.Running.{stores_integers}
 use Rattle.sql_meaning.specs.Valid.{AreRowsOf, IsHeldBy, IsRowOf}
-use Rattle.sql_meaning.specs.World.{rows_at}
 
 -- ---- a value
 
@@ -75,26 +78,121 @@ all_good : (c : Out) (outs : List Out) (v : Value) → fold with_causes c outs �
 all_good c [] v e = ((v, e), refl)
 all_good c (a ∷ outs) v e = one_more c a outs (all_good (with_causes c a) outs v e)
 
-item_by-good : (outs : List Out) (o : Out) (values : List Value) → fold with_causes no_causes outs ≡ o → item_by outs o ≡ Row values → outs ≡ map Good values
-item_by-good outs (Good v) values is e =
-    let same : map good_or_null outs ≡ values = (let rows : Row (map good_or_null outs) ≡ Row values = e in cc) in
-    (all_good no_causes outs v is).1 ∙ ap (map Good) same
-item_by-good outs (Bad causes) values is e = absurd (let rows : Failed causes ≡ Row values = e in cc)
+-- what stands in front is good as well
+good_front : (outs others : List Out) → outs ++ others ≡ map Good (map good_or_null (outs ++ others)) → outs ≡ map Good (map good_or_null outs)
+good_front [] others e = refl
+good_front (a ∷ outs) others e =
+    let both : a ∷ (outs ++ others) ≡ Good (good_or_null a) ∷ map Good (map good_or_null (outs ++ others)) = e in
+    let here : a ≡ Good (good_or_null a) = cc in
+    let rest : outs ++ others ≡ map Good (map good_or_null (outs ++ others)) = cc in
+    let front = good_front outs others rest in
+    cc
 
--- an item that is a row is made of good values
-pub item_of-good : (outs : List Out) (values : List Value) → item_of no_causes outs ≡ Row values → outs ≡ map Good values
-item_of-good outs values e = item_by-good outs (fold with_causes no_causes outs) values refl e
+-- a column of an INSERT stores the value as it is
+abbrev pub Stores : PutColumn → Value → Type 0
+Stores c v = store_as c.affinity v ≡ Good v
+
+turned-held : (a : Affinity) (o : Out) (w : Value) → turned (store_as a) o ≡ Good w → store_as a w ≡ Good w
+turned-held a (Good v) w e = store_as-again a v w e
+turned-held a (Bad causes) w e = absurd (let bad : Bad causes ≡ Good w = e in cc)
 
 -- values for all columns, as these store them
-stored-held : (columns : List Column) (values ws : List Value) → length values ≡ length columns → stored columns values ≡ map Good ws → AllZip IsHeldBy columns ws
-stored-held [] [] [] wide e = tt
-stored-held [] [] (w ∷ ws) wide e = absurd (let none : [] ≡ Good w ∷ map Good ws = e in cc)
-stored-held [] (v ∷ values) ws wide e = absurd (omega (arith, wide))
-stored-held (c ∷ columns) [] ws wide e = absurd (omega (arith, wide))
-stored-held (c ∷ columns) (v ∷ values) [] wide e = absurd (let none : store_as c.affinity v ∷ stored columns values ≡ [] = e in cc)
-stored-held (c ∷ columns) (v ∷ values) (w ∷ ws) wide e =
-    let both : store_as c.affinity v ∷ stored columns values ≡ Good w ∷ map Good ws = e in
-    (store_as-again c.affinity v w cc, stored-held columns values ws (omega (arith, wide)) cc)
+stored_for-held : (env : Environment) (columns : List PutColumn) (source ws : List Value) → stored_for env columns source ≡ map Good ws → AllZip Stores columns ws
+stored_for-held env [] source [] e = tt
+stored_for-held env [] source (w ∷ ws) e = absurd (let none : [] ≡ Good w ∷ map Good ws = e in cc)
+stored_for-held env (c ∷ columns) source [] e =
+    absurd (let none : turned (store_as c.affinity) (value_for env source c.place c.default) ∷ stored_for env columns source ≡ [] = e in cc)
+stored_for-held env (c ∷ columns) source (w ∷ ws) e =
+    let both : turned (store_as c.affinity) (value_for env source c.place c.default) ∷ stored_for env columns source ≡ Good w ∷ map Good ws = e in
+    (turned-held c.affinity (value_for env source c.place c.default) w cc, stored_for-held env columns source ws cc)
+
+-- a row that is to be put has for each column a value as this stores it, and none for its rowid where none is given
+pub record IsNew (b : BoundInsert) (new : NewRow) : Type 0 where
+  pub held : AllZip Stores b.columns new.values
+  pub drawn : b.rowid ≡ rowid.Drawn → new.rowid ≡ value.Null
+
+new_by-is : (env : Environment) (b : BoundInsert) (source : List Value) (o : Out) (new : NewRow) → fold with_causes no_causes (stored_for env b.columns source ++ rowid_beside b.rowid source) ≡ o
+    → new_by b.rowid (stored_for env b.columns source) (rowid_beside b.rowid source) o ≡ Ok new → IsNew b new
+new_by-is env b source (Good v) new is e =
+    let outs = stored_for env b.columns source in
+    let beside = rowid_beside b.rowid source in
+    let made : NewRow = record { rowid = given_rowid b.rowid (map good_or_null beside) (map good_or_null outs); values = map good_or_null outs } in
+    let good = good_front outs beside (all_good no_causes (outs ++ beside) v is).1 in
+    subst (IsNew b) (let same : made ≡ new = cc in same) (record {
+      held = stored_for-held env b.columns source (map good_or_null outs) good;
+      drawn = λ drawn. ap (λ from. given_rowid from (map good_or_null beside) (map good_or_null outs)) drawn;
+    })
+new_by-is env b source (Bad causes) new is e = absurd (let bad : Err causes ≡ Ok new = e in cc)
+
+pub new_row-is : (env : Environment) (b : BoundInsert) (source : List Value) (new : NewRow) → new_row env b source ≡ Ok new → IsNew b new
+new_row-is env b source new e =
+    new_by-is env b source (fold with_causes no_causes (stored_for env b.columns source ++ rowid_beside b.rowid source)) new refl e
+
+-- ---- an INSERT and its table
+
+-- its columns store as those of the table
+abbrev pub StoresAs : Column → PutColumn → Type 0
+StoresAs c p = p.affinity ≡ c.affinity
+
+-- one that is the rowid stores integers
+abbrev pub RowidStored : RowidFrom → List PutColumn → Type 0
+RowidStored rowid.Drawn columns = ⊤
+RowidStored (rowid.Given place) columns = ⊤
+RowidStored (rowid.Column place) columns = stores_integers (slice_get columns place) ≡ true
+
+pub record IsInto (t : TableEntry) (b : BoundInsert) : Type 0 where
+  pub number : b.table ≡ t.number
+  pub columns : AllZip StoresAs t.columns b.columns
+  pub rowid : RowidStored b.rowid b.columns
+
+held-by : (columns : List Column) (puts : List PutColumn) (values : List Value) → AllZip StoresAs columns puts → AllZip Stores puts values → AllZip IsHeldBy columns values
+held-by [] [] [] same held = tt
+held-by [] [] (v ∷ values) same held = absurd held
+held-by [] (p ∷ puts) values same held = absurd same
+held-by (c ∷ columns) [] values same held = absurd same
+held-by (c ∷ columns) (p ∷ puts) [] same held = absurd held
+held-by (c ∷ columns) (p ∷ puts) (v ∷ values) same held = (subst (λ a. store_as a v ≡ Good v) same.0 held.0, held-by columns puts values same.1 held.1)
+
+integer-stored : (c : PutColumn) (n : ℤ) (a : Affinity) → c.affinity ≡ a → stores_integers (Some c) ≡ true → store_as a (value.Integer n) ≡ Good (value.Integer n)
+unfolding store_as
+integer-stored c n affinity.Integer is stores = refl
+integer-stored c n affinity.Numeric is stores = refl
+integer-stored c n affinity.Real is stores = absurd (let bad : false ≡ true = subst (λ a. stores_integers (Some (record c { affinity = a })) ≡ true) is stores in cc)
+integer-stored c n affinity.Text is stores = absurd (let bad : false ≡ true = subst (λ a. stores_integers (Some (record c { affinity = a })) ≡ true) is stores in cc)
+integer-stored c n affinity.Blob is stores = refl
+integer-stored c n affinity.None is stores = refl
+
+set-held : (columns : List PutColumn) (values : List Value) (place : ℕ) (n : ℤ) → stores_integers (slice_get columns place) ≡ true → AllZip Stores columns values → AllZip Stores columns (slice_set values place (value.Integer n))
+set-held [] values place n stores held = absurd (let bad : false ≡ true = stores in cc)
+set-held (c ∷ columns) [] place n stores held = absurd held
+set-held (c ∷ columns) (v ∷ values) zero n stores held = (integer-stored c n c.affinity refl stores, held.1)
+set-held (c ∷ columns) (v ∷ values) (suc place) n stores held = (held.0, set-held columns values place n stores held.1)
+
+with_rowid-held : (from : RowidFrom) (columns : List PutColumn) (values : List Value) (n : ℤ) → RowidStored from columns → AllZip Stores columns values → AllZip Stores columns (with_rowid_in from n values)
+with_rowid-held rowid.Drawn columns values n stores held = held
+with_rowid-held (rowid.Given place) columns values n stores held = held
+with_rowid-held (rowid.Column place) columns values n stores held = set-held columns values place n stores held
+
+-- what is stored is held by the columns of the table
+pub new-held : (t : TableEntry) (b : BoundInsert) (new : NewRow) (n : ℤ) → IsInto t b → IsNew b new → AllZip IsHeldBy t.columns (with_rowid_in b.rowid n new.values)
+new-held t b new n into is =
+    held-by t.columns b.columns (with_rowid_in b.rowid n new.values) into.columns (with_rowid-held b.rowid b.columns new.values n into.rowid is.held)
+
+-- the column that is the rowid has it
+set-there : (columns : List PutColumn) (values : List Value) (place : ℕ) (n : ℤ) → stores_integers (slice_get columns place) ≡ true → AllZip Stores columns values → slice_get (slice_set values place (value.Integer n)) place ≡ Some (value.Integer n)
+set-there [] values place n stores held = absurd (let bad : false ≡ true = stores in cc)
+set-there (c ∷ columns) [] place n stores held = absurd held
+set-there (c ∷ columns) (v ∷ values) zero n stores held = refl
+set-there (c ∷ columns) (v ∷ values) (suc place) n stores held = set-there columns values place n stores held.1
+
+rowid-there : (from : RowidFrom) (columns : List PutColumn) (values : List Value) (n : ℤ) → RowidStored from columns → AllZip Stores columns values → HasRowid from (record { rowid = n; values = with_rowid_in from n values })
+rowid-there rowid.Drawn columns values n stores held = tt
+rowid-there (rowid.Given place) columns values n stores held = tt
+rowid-there (rowid.Column place) columns values n stores held = set-there columns values place n stores held
+
+pub new-at : (t : TableEntry) (b : BoundInsert) (new : NewRow) (r : StoredRow) → IsInto t b → IsNew b new → r.values ≡ with_rowid_in b.rowid r.rowid new.values → HasRowid b.rowid r
+new-at t b new r into is values =
+    subst (λ vs. HasRowid b.rowid (record { rowid = r.rowid; values = vs })) (sym values) (rowid-there b.rowid b.columns new.values r.rowid into.rowid is.held)
 
 -- ---- rowids
 
@@ -113,50 +211,14 @@ after_last last n false is fits e = let same : n ≡ last.rowid +ℤ pos 1 = cc 
 lt_trans : (a b c : ℤ) → a <ℤ b → b <ℤ c → a <ℤ c
 lt_trans a b c h k = omega (arith, ints)
 
-pub drawn : (t : TableEntry) (rows : List StoredRow) (n : ℤ) → AreRowsOf t rows → next_rowid rows ≡ Some n → IsDrawn rows n
-drawn t [] n valid e = record { above = All-nil (λ (r : StoredRow). r.rowid <ℤ n); fits = subst (λ m. fits_integer m ≡ true) (let one : pos 1 ≡ n = cc in one) refl }
-drawn t (x ∷ []) n valid e =
+pub next-drawn : (t : TableEntry) (rows : List StoredRow) (n : ℤ) → AreRowsOf t rows → next_rowid rows ≡ Some n → IsDrawn rows n
+next-drawn t [] n valid e = record { above = All-nil (λ (r : StoredRow). r.rowid <ℤ n); fits = subst (λ m. fits_integer m ≡ true) (let one : pos 1 ≡ n = cc in one) refl }
+next-drawn t (x ∷ []) n valid e =
     let one = after_last x n (int_le MAX_ROWID x.rowid) refl (All-head (IsRowOf t) x [] valid.each).rowid e in
     record { above = All-cons (λ (r : StoredRow). r.rowid <ℤ n) x [] one.0 (All-nil (λ (r : StoredRow). r.rowid <ℤ n)); fits = one.1 }
-drawn t (x ∷ y ∷ ys) n valid e =
+next-drawn t (x ∷ y ∷ ys) n valid e =
     let place : length (x ∷ y ∷ ys) - 1 ≡ suc (length (y ∷ ys) - 1) = omega arith in
     let rest : AreRowsOf t (y ∷ ys) = record { ascending = λ i j d l h. valid.ascending (suc i) (suc j) d (omega arith) (omega arith); each = All-tail (IsRowOf t) x (y ∷ ys) valid.each } in
-    let more = drawn t (y ∷ ys) n rest (sym (ap (λ k. rowid_behind (slice_get (x ∷ y ∷ ys) k)) place) ∙ e) in
+    let more = next-drawn t (y ∷ ys) n rest (sym (ap (λ k. rowid_behind (slice_get (x ∷ y ∷ ys) k)) place) ∙ e) in
     let low : x.rowid <ℤ y.rowid = valid.ascending 0 1 x (omega arith) (omega arith) in
     record { above = All-cons (λ (r : StoredRow). r.rowid <ℤ n) x (y ∷ ys) (lt_trans x.rowid y.rowid n low (All-head (λ (r : StoredRow). r.rowid <ℤ n) y ys more.above)) more.above; fits = more.fits }
-
--- ---- a row behind the others
-
--- it is drawn a rowid, and its values are as the columns store them
-pub record PutsRow (t : TableEntry) (table : ℕ) (x y : Written) : Type 0 where
-  pub row : StoredRow
-  pub behind : y ≡ with_row x table row
-  pub next : next_rowid (rows_at x.world table) ≡ Some row.rowid
-  pub held : AllZip IsHeldBy t.columns row.values
-
-one_under : (t : TableEntry) (x y : Written) (values : List Value) (rowid : Option ℤ) → next_rowid (rows_at x.world t.number) ≡ rowid → AllZip IsHeldBy t.columns values → row_under t x values rowid ≡ Ok y → PutsRow t t.number x y
-one_under t x y values None next held e = absurd (cc)
-one_under t x y values (Some n) next held e =
-    let r : StoredRow = record { rowid = n; values = values } in
-    let same : with_row x t.number r ≡ y = cc in
-    record { row = r; behind = sym same; next = next; held = held }
-
-one_item : (t : TableEntry) (x y : Written) (i : Item) → ((ws : List Value) → i ≡ Row ws → AllZip IsHeldBy t.columns ws) → item_put t x i ≡ Ok y → PutsRow t t.number x y
-one_item t x y (Row ws) held e = one_under t x y ws (next_rowid (rows_at x.world t.number)) refl (held ws refl) e
-one_item t x y (Failed causes) held e = absurd (let bad : Err causes ≡ Ok y = e in cc)
-
--- what is put is one row more
-pub row_put-one : (p : Put) (x y : Written) (values : List Value) → length p.places ≡ length p.table.columns → row_put p x values ≡ Ok y → PutsRow p.table p.table.number x y
-row_put-one p x y values wide e =
-    let placed = values_placed p.places values in
-    one_item p.table x y (item_of no_causes (stored p.table.columns placed))
-    (λ ws is. stored-held p.table.columns placed ws (length-map p.places (value_at values) ∙ wide) (item_of-good (stored p.table.columns placed) ws is)) e
-
--- and they stay rows of their table
-pub one_behind : (t : TableEntry) (rows : List StoredRow) (r : StoredRow) → AreRowsOf t rows → next_rowid rows ≡ Some r.rowid → AllZip IsHeldBy t.columns r.values → AreRowsOf t (rows ++ r ∷ [])
-one_behind t rows r valid next held =
-    let new = drawn t rows r.rowid valid next in
-    record {
-      ascending = all_pairs_push (λ (a b : StoredRow). a.rowid <ℤ b.rowid) rows r valid.ascending (λ k d l. new.above k d l);
-      each = All-push (IsRowOf t) rows r valid.each (record { rowid = new.fits; values = held });
-    }

@@ -1,18 +1,17 @@
 -- States stay valid.
-use Rattle.std.proofs.Common.{◌≡◌, ◌≢◌, flat_map, slice_get, suc, ℕ, ◌+◌, List, [], ◌∷◌, ◌++◌, Bool, true, false, ◌&&◌, length, not, Option, Some, None, Result, Ok, Err, ℤ, is_some, if◌then◌else◌, All, AllPairs, drop, refl, sym, ap, ◌∙◌, subst}
+use Rattle.std.proofs.Common.{◌≡◌, ◌≢◌, flat_map, slice_get, nat_eq, ℕ, ◌+◌, List, [], ◌∷◌, ◌++◌, Bool, true, false, ◌&&◌, length, not, Option, Some, None, Result, Ok, Err, is_some, if◌then◌else◌, All, AllPairs, drop, refl, sym, ap, ◌∙◌, subst}
 use Rattle.std.specs.Bool.{⊤}
+use Rattle.std.specs.List.{AllZip}
 use Rattle.std.specs.Option.{option_map}
-use Rattle.std.proofs.Math.Seq.{drop-append_seam}
-use Rattle.std.proofs.lemmas.List.Elements.{All-drop, All-filter, All-head, All-push, All-tail}
+use Rattle.std.proofs.lemmas.List.Elements.{All-filter, All-push}
 use Rattle.std.proofs.lemmas.List.Kept.{AllPairs-filter}
 use Rattle.std.proofs.lemmas.List.Quantifiers.{all_pairs_push}
 use Rattle.eng_entry.specs.Entries.{Entries, entry_named}
 use Rattle.eng_entry.specs.Names.{is_same_name}
 use Rattle.eng_entry.specs.declared.entry.Entry.{Entry}
 use Rattle.eng_entry.specs.declared.entry.EntryKind.TheVariants as entry_kind
-use Rattle.eng_number.specs.Numbers.{fits_integer}
 use Rattle.eng_value.specs.Causes.{CauseSet}
-use Rattle.eng_value.specs.StoredRows.{StoredRow}
+use Rattle.eng_value.specs.Environments.{Environment}
 use Rattle.eng_value.specs.Written.{Written}
 use Rattle.eng_value.specs.declared.authorizing.Action.{Action}
 use Rattle.eng_value.specs.declared.cause.Cause.{Cause}
@@ -26,22 +25,28 @@ use Rattle.sql_tree.specs.declared.statement.Command.TheVariants as command
 use Rattle.sql_tree.specs.declared.statement.Create.{Create}
 use Rattle.sql_tree.specs.declared.statement.Statement.{Statement}
 use Rattle.bound_tree.specs.Exprs.{BoundExpr}
+use Rattle.sql_meaning.specs.declared.bound.BoundInsert.{BoundInsert}
+use Rattle.sql_meaning.specs.declared.bound.PutColumn.{PutColumn}
+use Rattle.sql_meaning.specs.declared.bound.RowidFrom.{RowidFrom}
+use Rattle.sql_meaning.specs.declared.bound.RowidFrom.TheVariants as rowid
 use Rattle.sql_meaning.specs.declared.column.Column.{Column}
 use Rattle.sql_meaning.specs.declared.column.TableEntry.{TableEntry}
 use Rattle.sql_words.specs.Refusals.{◌>>=◌}
 use Rattle.sql_meaning.specs.Runnables.{Runnable, Creates, DoesNothing, Drops, Put, Puts, Queries, Shows}
-use Rattle.sql_meaning.specs.Effects.{last_rowid_of}
 use Rattle.sql_words.specs.Spelled.{name_at}
 use Rattle.sql_words.specs.Bodies.{answer_of, body_of}
-use Rattle.sql_meaning.specs.Valid.{IsRowOf, IsTable, IsValid, IsWorld}
-use Rattle.sql_meaning.specs.World.{Context, State, World, rows_at, tables_in}
-use Rattle.sql_meaning.proofs.EffectLaws.{PutsRows, rows_put-all}
+use Rattle.sql_meaning.specs.Steps.{Effect, Done, Left, Fails}
+use Rattle.sql_meaning.specs.Valid.{IsTable, IsValid, IsWorld}
+use Rattle.sql_meaning.specs.World.{Context, State, World, environment_at, tables_in}
+use Rattle.sql_meaning.proofs.EffectLaws.{PutsRows, rows_put-gives}
+use Rattle.sql_meaning.proofs.StepLaws.{Gives, anyhow, never}
+use Rattle.sql_meaning.proofs.StoringLaws.{IsInto, RowidStored, StoresAs}
 use Rattle.sql_meaning.proofs.TableLaws.{IsDeclared, among-others, among-push, found-all, found-own, is_other, none-called, none-named, numbers-more, tables-emptied, tables-more, tables-with, with_entry-names}
-use Rattle.sql_meaning.specs.Statement.{all_put, answer_bound, around, begun, bound_outcome, causes_of, given_of, limit_kind, outcome_of, outcome_where, put_source, rows_put, source_of, statement_bound, text_bound, text_outcome, with_created, without_table, written}
+use Rattle.sql_meaning.specs.Statement.{answer_bound, around, begun, bound_outcome, causes_of, closed, given_of, limit_kind, outcome_of, outcome_where, put_source, rows_put, source_of, statement_bound, text_bound, text_outcome, with_created, without_table, written}
 use Rattle.sql_meaning.specs.Built.{is_built}
 use Rattle.sql_meaning.specs.Permits.{Asking, Denies, Ignores, Permit, asked_by, permitted}
 use Rattle.sql_meaning.specs.Declarations.{columns_created, columns_kept, columns_of, table_called, table_of, table_with, tables_among, tables_of}
-use Rattle.sql_meaning.specs.Running.{command_of, creation_of, entry_with, first_part, found_table, from_of, if_built, is_plain_core, part_of, places_of, put_into, put_of, query_of, removal_of, rows_of_part, runnable_of, table_of_source}
+use Rattle.sql_meaning.specs.Running.{columns_put, command_of, creation_of, entry_with, first_part, found_table, from_of, if_built, is_plain_core, part_of, put_at, put_into, put_of, put_with, query_of, removal_of, rowid_from, rows_of_part, runnable_of, stores_integers, table_of_source}
 use Rattle.sql_meaning.specs.Runnables.{FromItem}
 use Rattle.bound_tree.specs.Conditions.{conditions_of}
 use Rattle.sql_words.specs.Names.{is_reserved_name}
@@ -64,6 +69,7 @@ use Rattle.bound_tree.specs.declared.units.BoundSource.TheVariants as source
 use Rattle.bound_tree.specs.declared.units.BoundUnit.{BoundUnit}
 use Rattle.bound_tree.specs.declared.writes.BoundChange.{BoundChange}
 use Rattle.bound_tree.specs.declared.writes.BoundChange.TheVariants as change
+use Rattle.bound_tree.specs.declared.writes.BoundTarget.{BoundTarget}
 use Rattle.bound_tree.specs.declared.writes.BoundWrite.{BoundWrite}
 use Rattle.sql_bound.specs.Creates.{Declaring, create_bound, create_there, created_by, creating, entries_beside, is_free, name_of_entry, named_kind, not_there, nothing_created, table_created, with_column, with_table_constraint}
 use Rattle.sql_bound.specs.Creates as creates
@@ -88,10 +94,10 @@ pub record IsCreated (tables : List TableEntry) (next : ℕ) (e : Entry) : Type 
   pub declared : columns_created e.text e.def.command ≡ Some columns
   pub number : e.number ≡ next
 
--- what an INSERT that is bound is like: its table is found, and each of its columns has its place
+-- what an INSERT that is bound is like: its table is found, and the rows are put into that
 pub record IsPut (tables : List TableEntry) (p : Put) : Type 0 where
   pub found : table_called tables p.table.name ≡ Some p.table
-  pub places : length p.places ≡ length p.table.columns
+  pub into : IsInto p.table p.insert
 
 abbrev pub FitsIn : List TableEntry → ℕ → Runnable → Type 0
 FitsIn tables number (Creates e) = IsCreated tables number e
@@ -140,37 +146,50 @@ query-fits tables number units place r e =
 
 -- ---- INSERT
 
-long-places : (columns : List Column) (places : List (Option ℕ)) → length (places_of columns places) ≡ length columns
-long-places [] places = refl
-long-places (c ∷ columns) [] = ap suc (long-places columns [])
-long-places (c ∷ columns) (p ∷ places) = ap suc (long-places columns places)
+columns-put : (columns : List Column) (places : List (Option ℕ)) (defaults : List (Option BoundExpr)) (not_nulls : List Bool) → AllZip StoresAs columns (columns_put columns places defaults not_nulls)
+columns-put [] places defaults not_nulls = tt
+columns-put (c ∷ columns) places defaults not_nulls = (refl, columns-put columns (drop 1 places) (drop 1 defaults) (drop 1 not_nulls))
 
--- the table of the put, and a place for each of its columns
+rowid-stored : (columns : List PutColumn) (column given : Option ℕ) (from : RowidFrom) → rowid_from columns column given ≡ Ok from → RowidStored from columns
+rowid-stored columns (Some column) given from e =
+    let built = if_built-ok (stores_integers (slice_get columns column)) (Ok (rowid.Column column)) from e in
+    subst (λ f. RowidStored f columns) (same-ok (rowid.Column column) from built.1) built.0
+rowid-stored columns None (Some place) from e = subst (λ f. RowidStored f columns) (same-ok (rowid.Given place) from e) tt
+rowid-stored columns None None from e = subst (λ f. RowidStored f columns) (same-ok rowid.Drawn from e) tt
+
+-- the table of the put, and the columns of its rows
 record Into (t : TableEntry) (p : Put) : Type 0 where
   table : p.table ≡ t
-  long : length p.places ≡ length t.columns
+  rows : IsInto t p.insert
 
-into : (t : TableEntry) (units : List BoundUnit) (c : BoundChange) (p : Put) → put_into t units c ≡ Ok p → Into t p
-into t units (change.Inserted places None source args) p e =
-    let made : List (List BoundExpr) → Result Put Cause = λ rows. Ok (record { table = t; places = places_of t.columns places; rows = rows }) in
-    let one = then-ok (first_part (slice_get units source) >>= rows_of_part) made p e in
-    subst (Into t) (same-ok _ p one.2) (record { table = refl; long = long-places t.columns places })
-into t units (change.Inserted places (Some rowid) source args) p e = absurd (let bad : Err cause.NotYet ≡ Ok p = e in cc)
-into t units change.Defaulted p e =
-    let put : Put = record { table = t; places = places_of t.columns []; rows = [] ∷ [] } in
-    subst (Into t) (same-ok put p e) (record { table = refl; long = long-places t.columns [] })
-into t units (change.Updated sets conjuncts) p e = absurd (let bad : Err cause.NotYet ≡ Ok p = e in cc)
-into t units (change.Deleted conjuncts) p e = absurd (let bad : Err cause.NotYet ≡ Ok p = e in cc)
+put_with-into : (t : TableEntry) (target : BoundTarget) (columns : List PutColumn) (given : Option ℕ) (rows : List (List BoundExpr)) (p : Put) → AllZip StoresAs t.columns columns → put_with t target columns given rows ≡ Ok p → Into t p
+put_with-into t target columns given rows p same e =
+    let made : RowidFrom → Result Put Cause = λ from. Ok (record { table = t; insert = record { table = t.number; name = t.name; columns = columns; rowid = from; checks = target.checks; rows = rows } }) in
+    let one = then-ok (rowid_from columns target.item.rowid given) made p e in
+    subst (Into t) (same-ok _ p one.2) (record { table = refl; rows = record { number = refl; columns = same; rowid = rowid-stored columns target.item.rowid given one.0 one.1 } })
+
+put_at-into : (t : TableEntry) (target : BoundTarget) (places : List (Option ℕ)) (given : Option ℕ) (rows : List (List BoundExpr)) (p : Put) → put_at t target places given rows ≡ Ok p → Into t p
+put_at-into t target places given rows p e =
+    put_with-into t target (columns_put t.columns places target.defaults target.not_nulls) given rows p (columns-put t.columns places target.defaults target.not_nulls) e
+
+put-into : (t : TableEntry) (target : BoundTarget) (units : List BoundUnit) (c : BoundChange) (p : Put) → put_into t target units c ≡ Ok p → Into t p
+put-into t target units (change.Inserted places given source args) p e =
+    let one = then-ok (first_part (slice_get units source) >>= rows_of_part) (λ rows. put_at t target places given rows) p e in put_at-into t target places given one.0 p one.2
+put-into t target units change.Defaulted p e = put_at-into t target [] None ([] ∷ []) p e
+put-into t target units (change.Updated sets conjuncts) p e = absurd (let bad : Err cause.NotYet ≡ Ok p = e in cc)
+put-into t target units (change.Deleted conjuncts) p e = absurd (let bad : Err cause.NotYet ≡ Ok p = e in cc)
 
 put-fits : (tables : List TableEntry) (number : ℕ) (units : List BoundUnit) (w : BoundWrite) (r : Runnable) → put_of tables units w ≡ Ok r → FitsIn tables number r
 put-fits tables number units w r e =
     let puts : Put → Result Runnable Cause = λ put. Ok (Puts put) in
-    let table = then-ok (table_of_source tables w.target.item.source) (λ t. put_into t units w.change >>= puts) r e in
-    let put = then-ok (put_into table.0 units w.change) puts r table.2 in
-    let held = into table.0 units w.change put.0 put.1 in
+    let into : TableEntry → Result Runnable Cause = λ t. put_into t w.target units w.change >>= puts in
+    let built = if_built-ok (nat_eq (length w.target.item.indexes) 0) (table_of_source tables w.target.item.source >>= into) r e in
+    let table = then-ok (table_of_source tables w.target.item.source) into r built.1 in
+    let put = then-ok (put_into table.0 w.target units w.change) puts r table.2 in
+    let held = put-into table.0 w.target units w.change put.0 put.1 in
     subst (FitsIn tables number) (same-ok (Puts put.0) r put.2) (record {
       found = subst (λ u. table_called tables u.name ≡ Some u) (sym held.table) (source-own tables w.target.item.source table.0 table.1);
-      places = held.long ∙ ap (λ (u : TableEntry). length u.columns) (sym held.table);
+      into = subst (λ u. IsInto u put.0.insert) (sym held.table) held.rows;
     })
 
 -- ---- CREATE TABLE: what is bound has a name that nothing has
@@ -350,11 +369,6 @@ text-fits asked w text b e =
 pub created-table : (tables : List TableEntry) (number : ℕ) (e : Entry) (c : IsCreated tables number e) → table_of e ≡ Some (table_with e c.columns)
 created-table tables number e c = ap (λ o. option_map (table_with e) o) c.declared
 
--- the rowid of the last row
-last_fits : (t : TableEntry) (n : ℤ) (rows : List StoredRow) → fits_integer n ≡ true → All (IsRowOf t) rows → fits_integer (last_rowid_of n rows) ≡ true
-last_fits t n [] fits each = fits
-last_fits t n (r ∷ rows) fits each = last_fits t r.rowid rows (All-head (IsRowOf t) r rows each).rowid (All-tail (IsRowOf t) r rows each)
-
 module _ (state : State) (valid : IsValid state) where
   abbrev pub names : List Entry
   names = state.world.catalog.names
@@ -404,40 +418,41 @@ module _ (state : State) (valid : IsValid state) where
   found-rows t found = found-all (IsTable state.world.tables) tables t.name t valid.world.tables found
 
   -- what a write without a failure puts
-  pub source_put : (p : Put) (x : Written) (source : List (List Value)) → IsPut tables p → rows_put p (begun state) source ≡ Ok x → PutsRows p.table p.table.number (begun state) x (length source)
-  source_put p x source put e =
+  pub source_put : (p : Put) (env : Environment) (source : List (List Value)) → IsPut tables p → Gives (λ u x. PutsRows p.table env p.insert p.table.number (begun state) x (length source)) never anyhow (rows_put env p.insert source (begun state))
+  source_put p env source put =
       let held = found-rows p.table put.found in
-      rows_put-all p (begun state) x source put.places held.there held.rows e
+      rows_put-gives p.table env p.insert source (begun state) put.into held.there held.rows
 
-  write-valid : (t : TableEntry) (x : Written) (count : ℕ) → table_called tables t.name ≡ Some t → PutsRows t t.number (begun state) x count → IsValid (written state x).next
-  write-valid t x count found put =
-      let old = rows_at state.world.tables t.number in
-      let new_held : All (IsRowOf t) put.new = subst (All (IsRowOf t)) (drop-append_seam old put.new) (All-drop (IsRowOf t) (length old) (old ++ put.new) put.valid.each) in
+  write-valid : (t : TableEntry) (env : Environment) (b : BoundInsert) (x : Written) (count : ℕ) → table_called tables t.name ≡ Some t → PutsRows t env b t.number (begun state) x count → IsValid (written state x).next
+  write-valid t env b x count found put =
       record {
         world = record {
           names = valid.world.names;
           triggers = valid.world.triggers;
           declared = valid.world.declared;
           numbers = valid.world.numbers;
-          tables = subst (λ lists. All (IsTable lists) tables) (sym put.world) (tables-with state.world.tables tables t (old ++ put.new) valid.world.numbers found put.valid valid.world.tables);
+          tables = subst (λ lists. All (IsTable lists) tables) (sym put.world) (tables-with state.world.tables tables t put.rows valid.world.numbers found put.valid valid.world.tables);
         };
         marks = valid.marks;
-        last_rowid = subst (λ n. fits_integer n ≡ true) (sym put.last_rowid) (last_fits t state.last_rowid put.new valid.last_rowid new_held);
+        last_rowid = put.fits valid.last_rowid;
       }
 
-  all_put-valid : (t : TableEntry) (count : ℕ) (r : Result Written CauseSet) → table_called tables t.name ≡ Some t → ((x : Written) → r ≡ Ok x → PutsRows t t.number (begun state) x count) → IsValid (all_put state r).next
-  all_put-valid t count (Ok x) found put = write-valid t x count found (put x refl)
-  all_put-valid t count (Err causes) found put = valid
+  closed-valid : (t : TableEntry) (env : Environment) (b : BoundInsert) (count : ℕ) (s : Effect) → table_called tables t.name ≡ Some t → Gives (λ u x. PutsRows t env b t.number (begun state) x count) never anyhow s → IsValid (closed state s).next
+  closed-valid t env b count (Done u x) found put = write-valid t env b x count found put
+  closed-valid t env b count (Left x) found put = absurd put
+  closed-valid t env b count (Fails causes x) found put = valid
 
-  put_source-valid : (p : Put) (causes : Option CauseSet) (source : List (List Value)) → IsPut tables p → IsValid (put_source state p causes source).next
-  put_source-valid p (Some causes) source put = valid
-  put_source-valid p None source put = all_put-valid p.table (length source) (rows_put p (begun state) source) put.found (λ x is. source_put p x source put is)
+put_source-valid : (ctx : Context) (p : Put) (causes : Option CauseSet) (source : List (List Value)) → IsValid ctx.state → IsPut (tables_in ctx.state) p → IsValid (put_source ctx p causes source).next
+put_source-valid ctx p (Some causes) source valid put = valid
+put_source-valid ctx p None source valid put =
+    let env = environment_at ctx [] in
+    closed-valid ctx.state valid p.table env p.insert (length source) (rows_put env p.insert source (begun ctx.state)) put.found (source_put ctx.state valid p env source put)
 
 -- every outcome of a valid state is valid
 outcome-valid : (ctx : Context) (b : Runnable) → IsValid ctx.state → FitsIn (tables_in ctx.state) (length ctx.state.world.tables) b → IsValid (outcome_of ctx b).next
 outcome-valid ctx (Creates e) valid fits = create-valid ctx.state valid e fits
 outcome-valid ctx (Drops t) valid fits = drop-valid ctx.state valid t
-outcome-valid ctx (Puts p) valid fits = put_source-valid ctx.state valid p (causes_of (source_of ctx p)) (given_of (source_of ctx p)) fits
+outcome-valid ctx (Puts p) valid fits = put_source-valid ctx p (causes_of (source_of ctx p)) (given_of (source_of ctx p)) valid fits
 outcome-valid ctx (Queries q) valid fits = valid
 outcome-valid ctx (Shows rows) valid fits = valid
 outcome-valid ctx DoesNothing valid fits = valid

@@ -1,33 +1,74 @@
 -- What statements that are not refused do, in the words of their subject.
-use Rattle.std.specs.Prelude.{◌≡◌, ◌≢◌, ◌⊎◌, ⊤, ℕ, List, [], ◌∷◌, ◌++◌, length, Some, None, ℤ, pos, ◌+ℤ◌, ◌<ℤ◌, All, Any}
+use Rattle.std.specs.Prelude.{◌≡◌, ◌≢◌, ◌⊎◌, ⊤, ℕ, false, List, [], ◌∷◌, length, Some, None, ℤ, pos, ◌+ℤ◌, ◌<ℤ◌, slice_get, All, Any}
 use Rattle.eng_entry.specs.Entries.{with_entry, without_name}
 use Rattle.eng_entry.specs.declared.entry.Entry.{Entry}
 use Rattle.eng_entry.specs.declared.entry.Space.TheVariants as space
-use Rattle.eng_value.specs.Environments.{Lists}
+use Rattle.eng_value.specs.Environments.{Environment, Lists}
 use Rattle.eng_value.specs.StoredRows.{StoredRow}
+use Rattle.eng_value.specs.Truths.{truth_in, truth_of}
+use Rattle.eng_value.specs.Written.{Written}
 use Rattle.eng_value.specs.declared.limits.TheConstants.{MAX_ROWID}
+use Rattle.eng_value.specs.declared.truth.Truth.{Truth}
+use Rattle.eng_value.specs.declared.truth.Truth.TheVariants as truth
+use Rattle.eng_value.specs.declared.value.Value.TheVariants as value
+use Rattle.sql_meaning.specs.declared.bound.BoundInsert.{BoundInsert}
+use Rattle.sql_meaning.specs.declared.bound.RowidFrom.{RowidFrom}
+use Rattle.sql_meaning.specs.declared.bound.RowidFrom.TheVariants as rowid
 use Rattle.sql_meaning.specs.declared.column.TableEntry.{TableEntry}
 use Rattle.sql_meaning.specs.Declarations.{table_called, table_of}
+use Rattle.sql_meaning.specs.Expression.{value_of}
+use Rattle.sql_meaning.specs.Rows.{at_row, is_taken, lacks_value, with_row_in}
+use Rattle.sql_meaning.specs.Runnables.{Put}
 use Rattle.sql_meaning.specs.Statement.{Outcome}
+use Rattle.sql_meaning.specs.Steps.{Step, Done, Left, Fails}
 use Rattle.sql_meaning.specs.World.{State, rows_at, tables_in}
 
 -- the rowid is one more than the largest of these rows, and 1 where there is none
 abbrev pub IsOneMore : List StoredRow → ℤ → Type 0
 IsOneMore rows n = ((rows ≡ []) × (n ≡ pos 1)) ⊎ (Any (λ (r : StoredRow). n ≡ r.rowid +ℤ pos 1) rows × All (λ (r : StoredRow). r.rowid <ℤ n) rows)
 
--- each of the new rows has such a rowid behind those in front of it
+-- each of the new rows has such a rowid beside those that came before it
 abbrev pub AreDrawn : List StoredRow → List StoredRow → Type 0
 AreDrawn rows [] = ⊤
-AreDrawn rows (r ∷ new) = IsOneMore rows r.rowid × AreDrawn (rows ++ r ∷ []) new
+AreDrawn rows (r ∷ new) = IsOneMore rows r.rowid × AreDrawn (with_row_in rows r) new
+
+-- the new rows came one after another, each to the place of its rowid, which was free
+abbrev pub AreAdded : List StoredRow → List StoredRow → List StoredRow → Type 0
+AreAdded rows [] after = after ≡ rows
+AreAdded rows (r ∷ new) after = (is_taken rows r.rowid ≡ false) × AreAdded (with_row_in rows r) new after
 
 -- the rowid of the last of these rows; where there is none it is as it was
 abbrev pub last_rowid_of : ℤ → List StoredRow → ℤ
 last_rowid_of rowid [] = rowid
 last_rowid_of rowid (r ∷ rows) = last_rowid_of r.rowid rows
 
+-- whatever a part of a write comes to, what is written is as it was
+abbrev pub KeepsWritten : {A : Type 0} → Written → Step A → Type 0
+KeepsWritten x (Done a y) = y ≡ x
+KeepsWritten x (Left y) = y ≡ x
+KeepsWritten x (Fails causes y) = y ≡ x
+
 -- the largest rowid is taken
 abbrev pub IsFull : List StoredRow → Type 0
 IsFull rows = Any (λ (r : StoredRow). r.rowid ≡ MAX_ROWID) rows
+
+-- what fails no CHECK
+abbrev pub Passes : Truth → Type 0
+Passes truth.True = ⊤
+Passes truth.Unknown = ⊤
+Passes truth.False = ⊥
+Passes (truth.Failed causes) = ⊥
+
+-- where a column is the rowid, it has it
+abbrev pub HasRowid : RowidFrom → StoredRow → Type 0
+HasRowid (rowid.Column place) r = slice_get r.values place ≡ Some (value.Integer r.rowid)
+HasRowid other r = ⊤
+
+-- a row that breaks no constraint: no column is NULL that may not be, each CHECK passes, and the column that is the rowid has it
+pub record IsFitting (env : Environment) (b : BoundInsert) (r : StoredRow) : Type 0 where
+  pub not_null : lacks_value b.columns r.values ≡ false
+  pub checks : All (λ c. Passes (truth_in (truth_of (value_of c (at_row env r))))) b.checks
+  pub rowid : HasRowid b.rowid r
 
 -- Nothing else of a state is changed than the world and the counts.
 pub record KeepsRest (old new : State) : Type 0 where
@@ -40,14 +81,15 @@ pub record KeepsRest (old new : State) : Type 0 where
 abbrev pub KeepsOthers : Lists → Lists → ℕ → Type 0
 KeepsOthers old new number = (other : ℕ) → other ≢ number → rows_at new other ≡ rows_at old other
 
--- The table has so many rows more, behind the others, which stay in their order; no other table is changed.
-pub record AddsRows (state : State) (t : TableEntry) (given : ℕ) (o : Outcome) : Type 0 where
-  pub found : table_called (tables_in state) t.name ≡ Some t
+-- The table has so many rows more, by their rowids among the others, and none of them breaks a constraint; where no rowid is given, each is one more than the largest. No other table is changed.
+pub record AddsRows (state : State) (env : Environment) (p : Put) (given : ℕ) (o : Outcome) : Type 0 where
+  pub found : table_called (tables_in state) p.table.name ≡ Some p.table
   pub catalog : o.next.world.catalog ≡ state.world.catalog
-  pub others : KeepsOthers state.world.tables o.next.world.tables t.number
+  pub others : KeepsOthers state.world.tables o.next.world.tables p.table.number
   pub new : List StoredRow
-  pub behind : rows_at o.next.world.tables t.number ≡ rows_at state.world.tables t.number ++ new
-  pub drawn : AreDrawn (rows_at state.world.tables t.number) new
+  pub added : AreAdded (rows_at state.world.tables p.table.number) new (rows_at o.next.world.tables p.table.number)
+  pub fitting : All (IsFitting env p.insert) new
+  pub drawn : p.insert.rowid ≡ rowid.Drawn → AreDrawn (rows_at state.world.tables p.table.number) new
   pub count : length new ≡ given
   pub rest : KeepsRest state o.next
   pub changed : o.changed ≡ given

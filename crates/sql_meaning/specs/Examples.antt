@@ -1,5 +1,5 @@
 -- Statements with what they come to, computed by the definitions.
-use Rattle.std.specs.Prelude.{◌≡◌, ℕ, List, [], ◌∷◌, map, pos, negsuc, Some, None, codes, refl}
+use Rattle.std.specs.Prelude.{◌≡◌, ℕ, true, false, List, [], ◌∷◌, map, pos, negsuc, Some, None, codes, refl}
 use Rattle.std.proofs.Common.{◌∙◌, ap}
 use Rattle.std.specs.FinSet as set
 use Rattle.std.specs.Fmt.{digits}
@@ -9,8 +9,12 @@ use Rattle.eng_value.specs.Casts.{store_as}
 use Rattle.eng_value.specs.Causes.{named, only}
 use Rattle.eng_value.proofs.CauseLaws.{named-only}
 use Rattle.eng_value.specs.HostMeanings.{no_hosts}
+use Rattle.eng_value.specs.StoredRows.{StoredRow}
+use Rattle.eng_value.specs.Truths.{truth_of}
+use Rattle.eng_value.specs.declared.affinity.Affinity.{Affinity}
 use Rattle.eng_value.specs.declared.affinity.Affinity.TheVariants as affinity
 use Rattle.eng_value.specs.declared.cause.Cause.TheVariants as cause
+use Rattle.eng_value.specs.declared.cause.ConstraintKind.TheVariants as constraint
 use Rattle.eng_value.specs.declared.cause.NameKind.TheVariants as name_kind
 use Rattle.eng_value.specs.declared.value.Value.{Value}
 use Rattle.eng_value.specs.declared.value.Value.TheVariants as value
@@ -19,11 +23,15 @@ use Rattle.sql_grammar.specs.Statements.{all_statement_rules}
 use Rattle.sql_lex.specs.Pieces.{word_kind}
 use Rattle.sql_lex.specs.Tokens.{tokens_of}
 use Rattle.sql_words.specs.Spelled.{the_text_test}
+use Rattle.bound_tree.specs.Exprs as e
+use Rattle.sql_words.specs.declared.literal.Literal.TheVariants as literal
+use Rattle.sql_meaning.specs.declared.bound.BoundInsert.{BoundInsert}
+use Rattle.sql_meaning.specs.declared.bound.PutColumn.{PutColumn}
+use Rattle.sql_meaning.specs.declared.bound.RowidFrom.TheVariants as rowid
 use Rattle.sql_meaning.specs.declared.column.Column.{Column}
 use Rattle.sql_meaning.specs.declared.column.TableEntry.{TableEntry}
-use Rattle.sql_meaning.specs.Runnables.{Put}
-use Rattle.sql_meaning.specs.Statement.{Outcome, Row, Failed, all_put, begun, causes_of, rows_put, text_outcome}
-use Rattle.sql_meaning.specs.World.{State, context, new_state, tables_in}
+use Rattle.sql_meaning.specs.Statement.{Outcome, Row, Failed, begun, causes_of, closed, rows_put, text_outcome}
+use Rattle.sql_meaning.specs.World.{State, context, environment_at, new_state, tables_in}
 
 abbrev run : State → List ℕ → Outcome
 run state text = text_outcome (context no_hosts state []) text
@@ -50,11 +58,17 @@ unfolding all_statement_rules count tokens_of word_kind the_text_test
 the_text = refl
 
 -- rows of values for all columns of the table
-abbrev put : Put
-put = record { table = the_table; places = Some 0 ∷ Some 1 ∷ Some 2 ∷ []; rows = [] }
+abbrev plain : Affinity → ℕ → PutColumn
+plain a place = record { affinity = a; place = Some place; default = None; not_null = false }
+
+abbrev put : BoundInsert
+put = record { table = 0; name = codes "t"; columns = plain affinity.Integer 0 ∷ plain affinity.Text 1 ∷ plain affinity.Blob 2 ∷ []; rowid = rowid.Drawn; checks = []; rows = [] }
+
+abbrev put_by : BoundInsert → List (List Value) → Outcome
+put_by b rows = closed created (rows_put (environment_at (context no_hosts created []) []) b rows (begun created))
 
 abbrev put_all : List (List Value) → Outcome
-put_all rows = all_put created (rows_put put (begun created) rows)
+put_all rows = put_by put rows
 
 rows_after : (put_all ((value.Text (codes "12") ∷ value.Integer (pos 7) ∷ value.Integer (negsuc 9223372036854775807) ∷ []) ∷ (value.Null ∷ value.Blob (65 ∷ []) ∷ value.Integer (pos 16) ∷ []) ∷ [])).next.world.tables
     ≡ (record { rowid = pos 1; values = value.Integer (pos 12) ∷ value.Text (codes "7") ∷ value.Integer (negsuc 9223372036854775807) ∷ [] } ∷ record { rowid = pos 2; values = value.Null ∷ value.Blob (65 ∷ []) ∷ value.Integer (pos 16) ∷ [] } ∷ []) ∷ []
@@ -65,6 +79,58 @@ rows_after = refl
 refused_row : (put_all ((value.Text (codes "1.5") ∷ value.Integer (pos 5) ∷ value.Null ∷ []) ∷ [])).next ≡ created
 unfolding all_statement_rules count tokens_of word_kind the_text_test store_as text_kind digits
 refused_row = refl
+
+-- ---- constraints, over the same table
+
+abbrev one : Value
+one = value.Integer (pos 1)
+
+abbrev rows_in : BoundInsert → List (List Value) → List (List StoredRow)
+rows_in b rows = (put_by b rows).next.world.tables
+
+-- the first column is the rowid: it is stored as such, drawn where it is NULL, and rows stand by it
+abbrev by_key : BoundInsert
+by_key = record put { rowid = rowid.Column 0 }
+
+abbrev row : Value → Value → Value → List Value
+row a b c = a ∷ b ∷ c ∷ []
+
+keyed : rows_in by_key (row (value.Integer (pos 7)) value.Null one ∷ row value.Null value.Null one ∷ row (value.Text (codes "5")) value.Null one ∷ [])
+    ≡ (record { rowid = pos 5; values = row (value.Integer (pos 5)) value.Null one } ∷ record { rowid = pos 7; values = row (value.Integer (pos 7)) value.Null one } ∷ record { rowid = pos 8; values = row (value.Integer (pos 8)) value.Null one } ∷ []) ∷ []
+unfolding all_statement_rules count tokens_of word_kind the_text_test store_as text_kind digits
+keyed = refl
+
+-- one that is taken, one that is no integer, and one behind the largest; the rows in front of it go too
+broken_keys : ((put_by by_key (row one value.Null one ∷ row one value.Null one ∷ [])).refusal ≡ Some (named (only (cause.Constraint constraint.Unique (codes "t")))))
+    × ((put_by by_key (row one value.Null one ∷ row (value.Text (codes "x")) value.Null one ∷ [])).refusal ≡ Some (named (only cause.Mismatch)))
+    × ((put_by by_key (row (value.Integer (pos 9223372036854775807)) value.Null one ∷ row value.Null value.Null one ∷ [])).refusal ≡ Some (named (only (cause.Full (codes "t")))))
+    × ((put_by by_key (row one value.Null one ∷ row one value.Null one ∷ [])).next ≡ created)
+unfolding all_statement_rules count tokens_of word_kind the_text_test store_as text_kind digits
+broken_keys = (refl, refl, refl, refl)
+
+-- a rowid that is given beside the columns is stored as an INTEGER
+given_beside : rows_in (record put { rowid = rowid.Given 3 }) ((one ∷ value.Null ∷ one ∷ value.Text (codes "4") ∷ []) ∷ []) ≡ (record { rowid = pos 4; values = row one value.Null one } ∷ []) ∷ []
+unfolding all_statement_rules count tokens_of word_kind the_text_test store_as text_kind digits
+given_beside = refl
+
+-- a default stands where no value does, and is stored as one; NULL that is given is no default
+abbrev by_default : BoundInsert
+by_default = record put { columns = plain affinity.Integer 0 ∷ record { affinity = affinity.Text; place = None; default = Some (e.Literal (literal.Value one)); not_null = true } ∷ plain affinity.Blob 1 ∷ [] }
+
+defaults : (rows_in by_default ((one ∷ one ∷ []) ∷ []) ≡ (record { rowid = pos 1; values = row one (value.Text (codes "1")) one } ∷ []) ∷ [])
+    × ((put_by (record put { columns = plain affinity.Integer 0 ∷ record (plain affinity.Text 1) { default = Some (e.Literal (literal.Value one)); not_null = true } ∷ plain affinity.Blob 2 ∷ [] }) (row one value.Null one ∷ [])).refusal ≡ Some (named (only (cause.Constraint constraint.NotNull (codes "t")))))
+unfolding all_statement_rules count tokens_of word_kind the_text_test store_as text_kind digits
+defaults = (refl, refl)
+
+-- a CHECK sees the row as it is stored; it fails on false alone, and NOT NULL is tested before it
+abbrev by_check : BoundInsert
+by_check = record put { columns = plain affinity.Integer 0 ∷ plain affinity.Text 1 ∷ record (plain affinity.Blob 2) { not_null = true } ∷ []; checks = e.Column 0 0 ∷ e.Rowid 0 ∷ [] }
+
+checks : ((put_by by_check (row one value.Null one ∷ row value.Null value.Null one ∷ [])).refusal ≡ None)
+    × ((put_by by_check (row (value.Text (codes "0")) value.Null one ∷ [])).refusal ≡ Some (named (only (cause.Constraint constraint.Check (codes "t")))))
+    × ((put_by by_check (row (value.Integer (pos 0)) value.Null value.Null ∷ [])).refusal ≡ Some (named (only (cause.Constraint constraint.NotNull (codes "t")))))
+unfolding all_statement_rules count tokens_of word_kind the_text_test store_as text_kind digits truth_of
+checks = (refl, refl, refl)
 
 -- of several bad rows in a source any may be named
 bad_rows : causes_of (Failed (only cause.Real) ∷ Row [] ∷ Failed (only cause.TooBig) ∷ []) ≡ Some (set.union (only cause.Real) (only cause.TooBig))

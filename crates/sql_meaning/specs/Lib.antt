@@ -10,6 +10,8 @@ pub mod ExpressionExamples
 pub mod Permits
 pub mod Runnables
 pub mod Running
+pub mod Steps
+pub mod Rows
 pub mod Statement
 pub mod Effects
 pub mod Work

@@ -1,6 +1,7 @@
 -- The hosts that a statement names.
 use Rattle.std.specs.Prelude.{ℕ, List, [], ◌∷◌, ◌++◌, Result, Ok, Err}
 use Rattle.std.specs.List.{flat_map}
+use Rattle.std.specs.Option.{option_to_list}
 use Rattle.eng_value.specs.HostMeanings.{HostName, NamesTold, CollationAt}
 use Rattle.eng_value.specs.declared.cause.Cause.{Cause}
 use Rattle.eng_value.specs.declared.collation.Collation.{Collation}
@@ -10,6 +11,8 @@ use Rattle.eng_value.specs.declared.operators.BinaryOperator.TheVariants as bina
 use Rattle.eng_value.specs.declared.operators.Sides.{Sides}
 use Rattle.bound_tree.specs.Exprs as e
 use Rattle.bound_tree.specs.Exprs.{BoundArms, BoundExpr, BoundExprs, BoundMatches, NoExprs, AnExpr, NoArms, AnArm, NoMatches, AMatch}
+use Rattle.sql_meaning.specs.declared.bound.BoundInsert.{BoundInsert}
+use Rattle.sql_meaning.specs.declared.bound.PutColumn.{PutColumn}
 use Rattle.sql_meaning.specs.Runnables.{Runnable, Creates, DoesNothing, Drops, Puts, Queries, Query, Shows}
 use Rattle.sql_meaning.specs.Statement.{bound_for}
 use Rattle.sql_meaning.specs.World.{Context}
@@ -73,10 +76,17 @@ named_by_row row = flat_map named_in row
 abbrev pub named_by_query : Query → Names
 named_by_query q = named_by_row q.conjuncts ++ named_by_row q.results
 
+abbrev pub named_by_column : PutColumn → Names
+named_by_column c = flat_map named_in (option_to_list c.default)
+
+-- the source, the defaults and the CHECKs
+abbrev pub named_by_insert : BoundInsert → Names
+named_by_insert b = flat_map named_by_row b.rows ++ flat_map named_by_column b.columns ++ named_by_row b.checks
+
 abbrev pub named_by : Result Runnable Cause → Names
 named_by (Ok (Creates e)) = []
 named_by (Ok (Drops t)) = []
-named_by (Ok (Puts p)) = flat_map named_by_row p.rows
+named_by (Ok (Puts p)) = named_by_insert p.insert
 named_by (Ok (Queries q)) = named_by_query q
 named_by (Ok (Shows rows)) = flat_map named_by_row rows
 named_by (Ok DoesNothing) = []

@@ -2,6 +2,7 @@
 use Rattle.std.specs.Prelude.{ℕ, List, Option}
 use Rattle.eng_entry.specs.declared.entry.Entry.{Entry}
 use Rattle.bound_tree.specs.Exprs.{BoundExpr}
+use Rattle.sql_meaning.specs.declared.bound.BoundInsert.{BoundInsert}
 use Rattle.sql_meaning.specs.declared.column.TableEntry.{TableEntry}
 
 -- an item of a FROM: its table, how many columns it has, and which of them are ignored, so that they read NULL; without a place it is the rowid
@@ -16,11 +17,10 @@ pub record Query : Type 0 where
   pub conjuncts : List BoundExpr
   pub results : List BoundExpr
 
--- rows for a table: for each of its columns the place of the column's value in a row of the source, where it has one, and what the values of each row come of
+-- rows for a table
 pub record Put : Type 0 where
   pub table : TableEntry
-  pub places : List (Option ℕ)
-  pub rows : List (List BoundExpr)
+  pub insert : BoundInsert
 
 -- an entry that is created, a table that is dropped, rows that are put, a query, rows of values that are shown, or nothing at all
 pub data Runnable : Type 0 where

@@ -1,9 +1,11 @@
 -- What runs of a statement whose names are bound: a query over one table or none, rows of values, an INSERT of such rows, CREATE TABLE, DROP TABLE, and
 -- what does nothing. Anything else is not built.
-use Rattle.std.specs.Prelude.{ℕ, nat_eq, Bool, true, false, not, ◌&&◌, List, [], ◌∷◌, length, Option, Some, None, Result, Ok, Err, is_some, slice_get}
+use Rattle.std.specs.Prelude.{ℕ, nat_eq, Bool, true, false, not, ◌&&◌, List, [], ◌∷◌, drop, length, Option, Some, None, Result, Ok, Err, is_some, slice_get}
 use Rattle.std.specs.List.{flat_map}
 use Rattle.eng_entry.specs.declared.entry.Entry.{Entry}
 use Rattle.eng_entry.specs.declared.entry.EntryKind.TheVariants as entry_kind
+use Rattle.eng_value.specs.declared.affinity.Affinity.{Affinity}
+use Rattle.eng_value.specs.declared.affinity.Affinity.TheVariants as affinity
 use Rattle.eng_value.specs.declared.cause.Cause.{Cause}
 use Rattle.eng_value.specs.declared.cause.Cause.TheVariants as cause
 use Rattle.sql_tree.specs.declared.statement.Statement.{Statement}
@@ -27,7 +29,11 @@ use Rattle.bound_tree.specs.declared.units.BoundUnit.{BoundUnit}
 use Rattle.bound_tree.specs.declared.units.BoundUnit.TheVariants as unit
 use Rattle.bound_tree.specs.declared.writes.BoundChange.{BoundChange}
 use Rattle.bound_tree.specs.declared.writes.BoundChange.TheVariants as change
+use Rattle.bound_tree.specs.declared.writes.BoundTarget.{BoundTarget}
 use Rattle.bound_tree.specs.declared.writes.BoundWrite.{BoundWrite}
+use Rattle.sql_meaning.specs.declared.bound.PutColumn.{PutColumn}
+use Rattle.sql_meaning.specs.declared.bound.RowidFrom.{RowidFrom}
+use Rattle.sql_meaning.specs.declared.bound.RowidFrom.TheVariants as rowid
 use Rattle.sql_meaning.specs.declared.column.Column.{Column}
 use Rattle.sql_meaning.specs.declared.column.TableEntry.{TableEntry}
 use Rattle.sql_meaning.specs.Declarations.{columns_created, table_called}
@@ -86,20 +92,50 @@ abbrev pub rows_of_part : BoundPart → Result (List (List BoundExpr)) Cause
 rows_of_part (part.Values rows) = Ok rows
 rows_of_part (part.Select c) = not_built
 
--- for each of these columns where its value stands in a row of the source: behind the places none has one
-abbrev pub places_of : List Column → List (Option ℕ) → List (Option ℕ)
-places_of [] places = []
-places_of (c ∷ columns) [] = None ∷ places_of columns []
-places_of (c ∷ columns) (p ∷ places) = p ∷ places_of columns places
+abbrev pub first_or : {A : Type 0} → A → List A → A
+first_or a [] = a
+first_or a (x ∷ xs) = x
 
-abbrev pub put_into : TableEntry → List BoundUnit → BoundChange → Result Put Cause
-put_into t units (change.Inserted places None source arguments) =
-    first_part (slice_get units source) >>= rows_of_part >>= λ rows. Ok (record { table = t; places = places_of t.columns places; rows = rows })
-put_into t units change.Defaulted = Ok (record { table = t; places = places_of t.columns []; rows = [] ∷ [] })
-put_into t units other = not_built
+-- what these columns take: behind the places none has a value in a row of the source, and where nothing is said it has no default and may be NULL
+abbrev pub columns_put : List Column → List (Option ℕ) → List (Option BoundExpr) → List Bool → List PutColumn
+columns_put [] places defaults not_nulls = []
+columns_put (c ∷ columns) places defaults not_nulls =
+    record { affinity = c.affinity; place = first_or None places; default = first_or None defaults; not_null = first_or false not_nulls } ∷ columns_put columns (drop 1 places) (drop 1 defaults) (drop 1 not_nulls)
 
+-- a column that is the rowid stores integers
+abbrev pub stores_integers : Option PutColumn → Bool
+stores_integers None = false
+stores_integers (Some c) = is_integer c.affinity
+  where
+    is_integer : Affinity → Bool
+    is_integer affinity.Integer = true
+    is_integer other = false
+
+-- such a column, else what is given for the rowid
+abbrev pub rowid_from : List PutColumn → Option ℕ → Option ℕ → Result RowidFrom Cause
+rowid_from columns (Some column) given = if_built (stores_integers (slice_get columns column)) (Ok (rowid.Column column))
+rowid_from columns None (Some place) = Ok (rowid.Given place)
+rowid_from columns None None = Ok rowid.Drawn
+
+abbrev pub put_with : TableEntry → BoundTarget → List PutColumn → Option ℕ → List (List BoundExpr) → Result Put Cause
+put_with t target columns given rows =
+    rowid_from columns target.item.rowid given >>= λ from.
+    Ok (record { table = t; insert = record { table = t.number; name = t.name; columns = columns; rowid = from; checks = target.checks; rows = rows } })
+
+abbrev pub put_at : TableEntry → BoundTarget → List (Option ℕ) → Option ℕ → List (List BoundExpr) → Result Put Cause
+put_at t target places given rows = put_with t target (columns_put t.columns places target.defaults target.not_nulls) given rows
+
+abbrev pub put_into : TableEntry → BoundTarget → List BoundUnit → BoundChange → Result Put Cause
+put_into t target units (change.Inserted places given source arguments) =
+    first_part (slice_get units source) >>= rows_of_part >>= λ rows. put_at t target places given rows
+put_into t target units change.Defaulted = put_at t target [] None ([] ∷ [])
+put_into t target units other = not_built
+
+-- a table without an index
 abbrev pub put_of : List TableEntry → List BoundUnit → BoundWrite → Result Runnable Cause
-put_of tables units w = table_of_source tables w.target.item.source >>= λ t. put_into t units w.change >>= λ put. Ok (Puts put)
+put_of tables units w =
+    if_built (nat_eq (length w.target.item.indexes) 0)
+    (table_of_source tables w.target.item.source >>= λ t. put_into t w.target units w.change >>= λ put. Ok (Puts put))
 
 -- ---- CREATE and DROP
 

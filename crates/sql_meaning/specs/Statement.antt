@@ -1,5 +1,5 @@
 -- The outcome of a statement.
-use Rattle.std.specs.Prelude.{◌≡◌, ⊤, ℕ, Bool, true, false, List, [], ◌∷◌, ◌++◌, length, map, fold, ◌+◌, ℤ, Option, Some, None, Result, Ok, Err, option_map, drop, slice_index_or, slice_set}
+use Rattle.std.specs.Prelude.{◌≡◌, ⊤, ℕ, Bool, true, false, List, [], ◌∷◌, ◌++◌, length, map, fold, ◌+◌, Option, Some, None, Result, Ok, Err, option_map, drop, slice_set}
 use Rattle.std.specs.FinSet as set
 use Rattle.std.specs.List.{flat_map}
 use Rattle.std.specs.Option.{option_to_list}
@@ -7,10 +7,8 @@ use Rattle.eng_entry.specs.Entries.{Entries, with_entry, without_name}
 use Rattle.eng_entry.specs.declared.entry.Entry.{Entry}
 use Rattle.eng_entry.specs.declared.entry.Space.TheVariants as space
 use Rattle.eng_value.specs.Applied.{merged}
-use Rattle.eng_value.specs.Casts.{store_as}
 use Rattle.eng_value.specs.Causes.{CauseSet, has_cause, named, only}
 use Rattle.eng_value.specs.Environments.{Environment, ItemRow, carried, ignoring, no_causes, table_row, with_causes}
-use Rattle.eng_value.specs.StoredRows.{StoredRow, next_rowid}
 use Rattle.eng_value.specs.Truths.{truth_in, truth_of}
 use Rattle.eng_value.specs.Written.{Told, Written, unwritten}
 use Rattle.eng_value.specs.declared.cause.Cause.{Cause}
@@ -22,7 +20,6 @@ use Rattle.eng_value.specs.declared.out.Out.TheVariants.{Good, Bad}
 use Rattle.eng_value.specs.declared.truth.Truth.{Truth}
 use Rattle.eng_value.specs.declared.truth.Truth.TheVariants as truth
 use Rattle.eng_value.specs.declared.value.Value.{Value}
-use Rattle.eng_value.specs.declared.value.Value.TheVariants as value
 use Rattle.sql_grammar.specs.declared.counts.Limit.{Limit}
 use Rattle.sql_grammar.specs.declared.counts.Limit.TheVariants as grammar_limit
 use Rattle.sql_grammar.specs.Answers.{Answer, Tree, Syntax, TooMuch, place}
@@ -30,7 +27,7 @@ use Rattle.sql_lex.specs.Cutting.{start_of}
 use Rattle.sql_lex.specs.Tokens.{tokens_of}
 use Rattle.sql_tree.specs.declared.statement.Statement.{Statement}
 use Rattle.bound_tree.specs.Exprs.{BoundExpr}
-use Rattle.sql_meaning.specs.declared.column.Column.{Column}
+use Rattle.sql_meaning.specs.declared.bound.BoundInsert.{BoundInsert}
 use Rattle.sql_meaning.specs.declared.column.TableEntry.{TableEntry}
 use Rattle.sql_words.specs.Bodies.{answer_of, body_of}
 use Rattle.sql_words.specs.Refusals.{◌>>=◌}
@@ -42,6 +39,9 @@ use Rattle.sql_meaning.specs.Runnables.{Runnable, Creates, DoesNothing, Drops, F
 use Rattle.sql_meaning.specs.Declarations.{tables_of}
 use Rattle.sql_meaning.specs.Built.{is_built}
 use Rattle.sql_meaning.specs.Expression.{value_of}
+pub use Rattle.sql_meaning.specs.Rows.{good_or_null}
+use Rattle.sql_meaning.specs.Rows.{row_put}
+use Rattle.sql_meaning.specs.Steps.{Effect, Done, Left, Fails, each, or_next}
 use Rattle.sql_meaning.specs.World.{Context, State, World, environment_at, rows_at}
 
 -- what a statement means: the causes why it is refused, if it is, any of which may be named; the rows that it gives, unless these are those of its plan, which are no part of the meaning; what the update hook is told; how many rows it changes, and what the connection then holds
@@ -92,10 +92,6 @@ drop_outcome state t = done [] (without_table state t)
 pub data Item : Type 0 where
   Row : List Value → Item
   Failed : CauseSet → Item
-
-abbrev pub good_or_null : Out → Value
-good_or_null (Good v) = v
-good_or_null (Bad causes) = value.Null
 
 abbrev pub item_by : List Out → Out → Item
 item_by outs (Good v) = Row (map good_or_null outs)
@@ -164,40 +160,9 @@ query_outcome state items = record (nothing state) { refusal = option_map named 
 
 -- ---- INSERT
 
--- a value for each column: its own of a row of the source, and NULL where it has none
-abbrev pub value_at : List Value → Option ℕ → Value
-value_at values None = value.Null
-value_at values (Some place) = slice_index_or values place value.Null
-
-abbrev pub values_placed : List (Option ℕ) → List Value → List Value
-values_placed places values = map (value_at values) places
-
--- a value for each column, as its affinity stores it
-abbrev pub stored : List Column → List Value → List Out
-stored [] values = []
-stored (c ∷ columns) [] = []
-stored (c ∷ columns) (v ∷ values) = store_as c.affinity v ∷ stored columns values
-
--- one row more, behind the others of its table
-abbrev pub with_row : Written → ℕ → StoredRow → Written
-with_row x table r = record x { world = slice_set x.world table (rows_at x.world table ++ r ∷ []); changes = x.changes + 1; last_rowid = r.rowid }
-
-abbrev pub row_under : TableEntry → Written → List Value → Option ℤ → Result Written CauseSet
-row_under t x values None = Err (only (cause.Full t.name))
-row_under t x values (Some rowid) = Ok (with_row x t.number (record { rowid = rowid; values = values }))
-
-abbrev pub item_put : TableEntry → Written → Item → Result Written CauseSet
-item_put t x (Row values) = row_under t x values (next_rowid (rows_at x.world t.number))
-item_put t x (Failed causes) = Err causes
-
--- one row more in the table, stored and then under the next rowid
-abbrev pub row_put : Put → Written → List Value → Result Written CauseSet
-row_put p x values = item_put p.table x (item_of no_causes (stored p.table.columns (values_placed p.places values)))
-
--- one row after another
-abbrev pub rows_put : Put → Written → List (List Value) → Result Written CauseSet
-rows_put p x [] = Ok x
-rows_put p x (row ∷ source) = row_put p x row >>= λ more. rows_put p more source
+-- one row after another: one that is left does not end the others
+abbrev pub rows_put : Environment → BoundInsert → List (List Value) → Written → Effect
+rows_put env b source x = each (λ row x. or_next (row_put env b row x)) source x
 
 -- what a write begins with
 abbrev pub begun : State → Written
@@ -213,10 +178,11 @@ written state x =
       next = record state { world = record state.world { tables = x.world }; changes = x.changes; last_rowid = x.last_rowid };
     }
 
--- what the rows come to that are put one after another
-abbrev pub all_put : State → Result Written CauseSet → Outcome
-all_put state (Ok x) = written state x
-all_put state (Err causes) = failed state causes
+-- what becomes of the tables is decided once: a statement that fails leaves them as they were
+abbrev pub closed : State → Effect → Outcome
+closed state (Done u x) = written state x
+closed state (Left x) = written state x
+closed state (Fails causes x) = failed state causes
 
 -- the causes of all bad items, of each those that may be named
 abbrev pub with_others : CauseSet → Option CauseSet → CauseSet
@@ -229,15 +195,15 @@ causes_of (Row row ∷ items) = causes_of items
 causes_of (Failed causes ∷ items) = Some (with_others (named causes) (causes_of items))
 
 -- a bad row in a source fails the write before any row is put, and the cause of any bad one may be named
-abbrev pub put_source : State → Put → Option CauseSet → List (List Value) → Outcome
-put_source state p (Some causes) source = refused state causes
-put_source state p None source = all_put state (rows_put p (begun state) source)
+abbrev pub put_source : Context → Put → Option CauseSet → List (List Value) → Outcome
+put_source ctx p (Some causes) source = refused ctx.state causes
+put_source ctx p None source = closed ctx.state (rows_put (environment_at ctx []) p.insert source (begun ctx.state))
 
 abbrev pub source_of : Context → Put → List Item
-source_of ctx p = shown_rows ctx p.rows
+source_of ctx p = shown_rows ctx p.insert.rows
 
 abbrev pub put_outcome : Context → Put → Outcome
-put_outcome ctx p = put_source ctx.state p (causes_of (source_of ctx p)) (given_of (source_of ctx p))
+put_outcome ctx p = put_source ctx p (causes_of (source_of ctx p)) (given_of (source_of ctx p))
 
 -- ---- any statement
 

@@ -1,22 +1,29 @@
 -- The size of a statement and the work that it asks for. Together they bound the instructions that it runs, whatever its plan.
 use Rattle.std.specs.Prelude.{ℕ, ◌+◌, ◌*◌, ◌-◌, List, [], ◌∷◌, length, map, sum, Option, Some, None, Result, Ok, Err}
+use Rattle.std.specs.List.{flat_map}
+use Rattle.std.specs.Option.{option_to_list}
 use Rattle.eng_value.specs.Causes.{CauseSet}
-use Rattle.eng_value.specs.Written.{Written}
 use Rattle.eng_value.specs.declared.cause.Cause.{Cause}
 use Rattle.eng_value.specs.declared.value.Value.{Value}
 use Rattle.sql_lex.specs.Tokens.{tokens_of}
+use Rattle.sql_meaning.specs.declared.bound.BoundInsert.{BoundInsert}
+use Rattle.sql_meaning.specs.declared.bound.PutColumn.{PutColumn}
 use Rattle.sql_meaning.specs.declared.column.TableEntry.{TableEntry}
-use Rattle.sql_meaning.specs.Runnables.{Runnable, Creates, DoesNothing, Drops, FromItem, Put, Puts, Queries, Shows}
+use Rattle.sql_meaning.specs.Runnables.{Runnable, Creates, DoesNothing, Drops, FromItem, Puts, Queries, Shows}
 use Rattle.bound_size.specs.Sizes.{all_nodes}
 use Rattle.sql_meaning.specs.Permits.{Asking, asked_by}
-use Rattle.sql_meaning.specs.Statement.{begun, causes_of, given_of, item_rows, row_put, source_of, text_bound}
-use Rattle.sql_meaning.specs.World.{Context, State}
+use Rattle.sql_meaning.specs.Statement.{causes_of, given_of, item_rows, source_of, text_bound}
+use Rattle.sql_meaning.specs.World.{Context}
 
 -- ---- size
 
 -- what opening a table adds to the size: the tokens of its CREATE TABLE, without the `;`, and its columns
 abbrev pub table_size : TableEntry → ℕ
 table_size t = t.tokens + length t.columns
+
+-- what its defaults and CHECKs add to that of an INSERT: their nodes, which its CREATE TABLE spells out
+abbrev pub constraints_size : BoundInsert → ℕ
+constraints_size b = all_nodes (flat_map (λ (c : PutColumn). option_to_list c.default) b.columns) + all_nodes b.checks
 
 abbrev pub from_size : List FromItem → ℕ
 from_size items = sum (map (λ (i : FromItem). i.table.tokens + i.width) items)
@@ -25,7 +32,7 @@ from_size items = sum (map (λ (i : FromItem). i.table.tokens + i.width) items)
 abbrev pub opened_size : Runnable → ℕ
 opened_size (Creates e) = 0
 opened_size (Drops t) = 0
-opened_size (Puts p) = table_size p.table
+opened_size (Puts p) = table_size p.table + constraints_size p.insert
 opened_size (Queries q) = from_size q.from
 opened_size (Shows rows) = 0
 opened_size DoesNothing = 0
@@ -46,26 +53,16 @@ abbrev pub from_work : Context → List FromItem → ℕ
 from_work ctx [] = 1
 from_work ctx (i ∷ items) = (1 + length (item_rows ctx i)) * from_work ctx items
 
--- the work behind a row: that in what it left, and none where it failed
-abbrev pub work_behind : Result Written CauseSet → (Written → ℕ) → ℕ
-work_behind (Ok x) work = work x
-work_behind (Err causes) work = 0
-
--- the turns of a write: 1 for each row of its source, in the state that the rows in front of it left; behind one that fails there is none
-abbrev pub turns_work : Put → Written → List (List Value) → ℕ
-turns_work p x [] = 0
-turns_work p x (row ∷ source) = 1 + work_behind (row_put p x row) (λ more. turns_work p more source)
-
--- a bad source has no turn
-abbrev pub source_work : State → Put → Option CauseSet → List (List Value) → ℕ
-source_work state p (Some causes) source = 0
-source_work state p None source = turns_work p (begun state) source
+-- a write takes the rows of its source whole, and has a turn for each; a bad source has none
+abbrev pub source_work : Option CauseSet → List (List Value) → ℕ
+source_work (Some causes) source = 0
+source_work None source = length source
 
 -- no expression holds another query yet, so that a query has the work of its FROM; a write has that of its source, which is 1, and its turns; what is neither query nor write has none
 abbrev pub work_of : Context → Runnable → ℕ
 work_of ctx (Creates e) = 0
 work_of ctx (Drops t) = 0
-work_of ctx (Puts p) = 1 + source_work ctx.state p (causes_of (source_of ctx p)) (given_of (source_of ctx p))
+work_of ctx (Puts p) = 1 + source_work (causes_of (source_of ctx p)) (given_of (source_of ctx p))
 work_of ctx (Queries q) = from_work ctx q.from
 work_of ctx (Shows rows) = 1
 work_of ctx DoesNothing = 0

@@ -12,7 +12,7 @@ mod laws;
 mod script;
 mod states;
 
-pub use bound::{BoundInsert, BoundSelect, PutColumn};
+pub use bound::{BoundInsert, BoundSelect, PutColumn, RowidFrom};
 pub use column::{Column, TableEntry};
 pub use laws::{
     a_refusal_keeps_the_state, each_refusal_has_a_cause, enough_budget_leaves_the_meaning,
@@ -22,5 +22,5 @@ pub use laws::{
 pub use script::{Ending, Failure, Options};
 pub use states::{
     a_false_conjunct_rejects, a_table_is_full_at_the_largest_rowid, statements_do_what_they_say,
-    states_stay_valid,
+    states_stay_valid, tests_change_nothing,
 };
