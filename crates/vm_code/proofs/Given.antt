@@ -9,14 +9,14 @@ use Rattle.eng_value.specs.Causes.{CauseSet, is_skip, only}
 use Rattle.eng_value.specs.Collations.{keys_of}
 use Rattle.eng_value.specs.Comparisons.{like_escaped_of}
 use Rattle.eng_value.specs.StoredRows.{StoredRow, next_rowid}
-use Rattle.eng_value.specs.declared.cause.Cause.TheVariants.{Full}
+use Rattle.eng_value.specs.declared.cause.Cause.TheVariants.{Full, Mismatch}
 use Rattle.eng_value.specs.declared.out.Out.{Out}
 use Rattle.vm_code.specs.declared.op.Op.{Op}
 use Rattle.vm_code.specs.declared.op.Op.TheVariants as op
 use Rattle.vm_code.specs.declared.operand.Operand.{Operand}
 use Rattle.vm_code.specs.declared.operand.Operand.TheVariants as operand
 use Rattle.vm_code.specs.declared.program.Unit.{Unit}
-use Rattle.vm_code.specs.Machine.{Row, rows_of, Cursor, Closed, Open, Holding, Standing, Shared, Frame, State, Ending, Leaving, Halts, GivesUp, Setting, Next, On, End, act, step, go_on, after, code_of, unit_at, read, put, operand_of, outs_from, values_from, jump_if, is_accepted, is_rejected, is_null, is_known, is_bad, rewound, rewound_to, advanced, advanced_to, drawn, called, returned, given_up, leads_to, leaving_of, cursor_at, cursor_rows, row_behind, world_of}
+use Rattle.vm_code.specs.Machine.{Row, rows_of, Cursor, Closed, Open, Holding, Standing, Shared, Frame, State, Ending, Leaving, Halts, GivesUp, Setting, Next, On, End, act, step, go_on, after, code_of, unit_at, read, put, operand_of, outs_from, values_from, integer_in, is_missing, is_integer, skip_if, jump_if, is_accepted, is_rejected, is_null, is_known, is_bad, rewound, rewound_to, advanced, advanced_to, drawn, called, returned, given_up, leads_to, leaving_of, cursor_at, cursor_rows, row_behind, world_of}
 use Rattle.vm_code.specs.Reading.{below, prepend, under}
 use Rattle.vm_code.proofs.Runs.{after_add}
 
@@ -40,6 +40,10 @@ module _ (g : List Row) where
   given_up_given : (fs : List Frame) (x : Shared) (causes : CauseSet) → given_up fs (below g x) causes ≡ prepend g (given_up fs x causes)
   given_up_given [] x causes = refl
   given_up_given (f ∷ fs) x causes = either_given (is_skip causes) _ _ _ _ refl refl
+
+  skip_if_given : (b : Bool) (s : State) (causes : CauseSet) → skip_if b (under g s) causes ≡ prepend g (skip_if b s causes)
+  skip_if_given true s causes = refl
+  skip_if_given false s causes = given_up_given s.stack s.shared causes
 
   leads_to_given : (o : Leaving) (fs : List Frame) (x : Shared) → leads_to o fs (below g x) ≡ prepend g (leads_to o fs x)
   leads_to_given Halts fs x = refl
@@ -107,6 +111,7 @@ module _ (g : List Row) where
   act_given m (Some (op.Variable k to)) s = refl
   act_given m (Some (op.Copy from to)) s = refl
   act_given m (Some (op.Affinity r affinity)) s = refl
+  act_given m (Some (op.MustBeInt r)) s = skip_if_given (is_integer (read s.regs r)) s (only Mismatch)
   act_given m (Some (op.Unary o a to)) s = ap (λ v. put (under g s) to (unary_of o v)) (operand_given m s a)
   act_given m (Some (op.Binary o a b to)) s =
       ap (λ v. put (under g s) to (binary_of (keys_of m.hosts) o v (operand_of m (under g s) b))) (operand_given m s a)
@@ -120,12 +125,15 @@ module _ (g : List Row) where
   act_given m (Some (op.Merge from to)) s = refl
   act_given m (Some (op.OpenRead c t)) s = refl
   act_given m (Some (op.OpenWrite c t)) s = refl
+  act_given m (Some (op.RowOf c rowid first n)) s = refl
   act_given m (Some (op.Close c)) s = refl
   act_given m (Some (op.CloseFrom c)) s = refl
   act_given m (Some (op.Rewind c target)) s = rewound_given (cursor_at s.scene.cursors c) s c target
   act_given m (Some (op.Next c target)) s = advanced_given (cursor_at s.scene.cursors c) s c target
   act_given m (Some (op.Column c k to)) s = refl
   act_given m (Some (op.Rowid c to)) s = refl
+  act_given m (Some (op.NotExists c rowid target)) s =
+      jump_given (is_missing (cursor_rows (world_of s.shared) (cursor_at s.scene.cursors c)) (integer_in s.regs rowid)) s target
   act_given m (Some (op.NewRowid c to name)) s = drawn_given s to name (next_rowid (cursor_rows (world_of s.shared) (cursor_at s.scene.cursors c)))
   act_given m (Some (op.Insert c rowid first n)) s = refl
   act_given m (Some (op.Schema change)) s = refl

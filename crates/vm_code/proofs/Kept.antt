@@ -6,14 +6,14 @@ use Rattle.std.proofs.lemmas.Bool.{and_parts}
 use Rattle.eng_value.specs.Causes.{CauseSet, is_skip, only}
 use Rattle.eng_value.specs.StoredRows.{StoredRow, IsAscending, next_rowid}
 use Rattle.eng_value.specs.Written.{Written}
-use Rattle.eng_value.specs.declared.cause.Cause.TheVariants.{Full}
+use Rattle.eng_value.specs.declared.cause.Cause.TheVariants.{Full, Mismatch}
 use Rattle.eng_value.specs.declared.out.Out.{Out}
 use Rattle.vm_code.specs.declared.op.Op.{Op}
 use Rattle.vm_code.specs.declared.op.Op.TheVariants as op
 use Rattle.vm_code.specs.declared.program.Unit.{Unit}
 use Rattle.vm_code.specs.declared.schema_change.SchemaChange.{SchemaChange}
 use Rattle.vm_code.specs.declared.schema_change.SchemaChange.TheVariants.{AddTable, DropTable}
-use Rattle.vm_code.specs.Machine.{Row, World, IsSound, rows_of, row_under, put_row, is_free, Cursor, Closed, Open, Holding, Standing, Shared, Frame, State, Setting, Next, On, End, Leaving, Halts, GivesUp, Reaches, act, step, go_on, after, code_of, unit_at, read, outs_from, values_from, integer_in, jump_if, is_accepted, is_rejected, is_null, is_known, is_bad, rewound, rewound_to, advanced, advanced_to, drawn, with_given, with_row, with_table, with_schema, inserted, called, returned, given_up, leads_to, leaving_of, cursor_at, cursor_rows, row_behind, world_of}
+use Rattle.vm_code.specs.Machine.{Row, World, IsSound, rows_of, row_under, put_row, is_free, Cursor, Closed, Open, Holding, Standing, Shared, Frame, State, Setting, Next, On, End, Leaving, Halts, GivesUp, Reaches, act, step, go_on, after, code_of, unit_at, read, outs_from, values_from, integer_in, row_in, skip_if, is_missing, is_integer, jump_if, is_accepted, is_rejected, is_null, is_known, is_bad, rewound, rewound_to, advanced, advanced_to, drawn, with_given, with_row, with_table, with_schema, inserted, called, returned, given_up, leads_to, leaving_of, cursor_at, cursor_rows, row_behind, world_of}
 use Rattle.vm_code.proofs.Rows.{All-cons, All-nil, ascending_put, ascending_nil}
 
 -- what is shared behind an instruction
@@ -43,6 +43,10 @@ module _ (P : Shared → Type 0) (given : (x : Shared) (r : Row) → P x → P (
   given_up_keeps : (fs : List Frame) (x : Shared) (causes : CauseSet) → P x → P (shared_of (given_up fs x causes))
   given_up_keeps [] x causes p = p
   given_up_keeps (f ∷ fs) x causes p = either_keeps (is_skip causes) _ _ p p
+
+  skip_if_keeps : (b : Bool) (s : State) (causes : CauseSet) → P s.shared → P (shared_of (skip_if b s causes))
+  skip_if_keeps true s causes p = p
+  skip_if_keeps false s causes p = given_up_keeps s.stack s.shared causes p
 
   leads_to_keeps : (o : Leaving) (fs : List Frame) (x : Shared) → P x → P (shared_of (leads_to o fs x))
   leads_to_keeps Halts fs x p = p
@@ -102,6 +106,7 @@ module _ (P : Shared → Type 0) (given : (x : Shared) (r : Row) → P x → P (
   act_keeps m (Some (op.Variable k to)) s p = p
   act_keeps m (Some (op.Copy from to)) s p = p
   act_keeps m (Some (op.Affinity r affinity)) s p = p
+  act_keeps m (Some (op.MustBeInt r)) s p = skip_if_keeps (is_integer (read s.regs r)) s (only Mismatch) p
   act_keeps m (Some (op.Unary o a to)) s p = p
   act_keeps m (Some (op.Binary o a b to)) s p = p
   act_keeps m (Some (op.LikeEscaped a b c to)) s p = p
@@ -109,14 +114,17 @@ module _ (P : Shared → Type 0) (given : (x : Shared) (r : Row) → P x → P (
   act_keeps m (Some (op.Merge from to)) s p = p
   act_keeps m (Some (op.OpenRead c t)) s p = p
   act_keeps m (Some (op.OpenWrite c t)) s p = p
+  act_keeps m (Some (op.RowOf c rowid first n)) s p = p
   act_keeps m (Some (op.Close c)) s p = p
   act_keeps m (Some (op.CloseFrom c)) s p = p
   act_keeps m (Some (op.Rewind c target)) s p = rewound_keeps (cursor_at s.scene.cursors c) s c target p
   act_keeps m (Some (op.Next c target)) s p = advanced_keeps (cursor_at s.scene.cursors c) s c target p
   act_keeps m (Some (op.Column c k to)) s p = p
   act_keeps m (Some (op.Rowid c to)) s p = p
+  act_keeps m (Some (op.NotExists c rowid target)) s p =
+      jump_keeps (is_missing (cursor_rows (world_of s.shared) (cursor_at s.scene.cursors c)) (integer_in s.regs rowid)) s target p
   act_keeps m (Some (op.NewRowid c to name)) s p = drawn_keeps s to name (next_rowid (cursor_rows (world_of s.shared) (cursor_at s.scene.cursors c))) p
-  act_keeps m (Some (op.Insert c rowid first n)) s p = inserted_keeps (cursor_at s.scene.cursors c) s.shared (record { rowid = integer_in s.regs rowid; values = values_from s.regs first n }) p
+  act_keeps m (Some (op.Insert c rowid first n)) s p = inserted_keeps (cursor_at s.scene.cursors c) s.shared (row_in s.regs rowid first n) p
   act_keeps m (Some (op.Schema change)) s p = schema (s.shared, change) p
 
   go_on_keeps : (m : Setting) (n : ℕ) (x : Next) → ((s : State) → P s.shared → P (shared_of (after m n s))) → P (shared_of x) → P (shared_of (go_on x (after m n)))

@@ -30,6 +30,9 @@ pub mod Loops
 -- A loop over rows that a cursor stands on, whose turns cost what they cost in the state that each of them finds, as those do whose bodies
 -- change the tables that later ones look at (`t_along`):
 pub mod Along
+-- What stands in front of a row that is put (`t_must_be_int`, `t_not_exists`), and a cursor on the row that registers hold (`t_row_of`; between it
+-- and `Close` goes `st_opened`; `env_row_of`, `reads_row_of`, `reads_others`: what is read there):
+pub mod NewRows
 -- Bodies that are left in their middle, and what stands behind them goes on (`caught_does`):
 pub mod Caught
 -- Calls of units that change what is shared (`t_work`):

@@ -12,7 +12,7 @@ use Rattle.eng_value.specs.Comparisons.{like_escaped_of}
 use Rattle.eng_value.specs.Environments.{ItemRow, column_of}
 use Rattle.eng_value.specs.StoredRows.{StoredRow, next_rowid}
 use Rattle.eng_value.specs.Written.{Written}
-use Rattle.eng_value.specs.declared.cause.Cause.TheVariants.{Full}
+use Rattle.eng_value.specs.declared.cause.Cause.TheVariants.{Full, Mismatch}
 use Rattle.eng_value.specs.declared.out.Out.{Out}
 use Rattle.eng_value.specs.declared.out.Out.TheVariants.{Good}
 use Rattle.eng_value.specs.declared.value.Value.TheVariants.{Integer}
@@ -23,7 +23,7 @@ use Rattle.vm_code.specs.declared.operand.Operand.TheVariants as operand
 use Rattle.vm_code.specs.declared.program.Unit.{Unit}
 use Rattle.vm_code.specs.declared.schema_change.SchemaChange.{SchemaChange}
 use Rattle.vm_code.specs.declared.schema_change.SchemaChange.TheVariants.{AddTable, DropTable}
-use Rattle.vm_code.specs.Machine.{World, rows_of, row_under, row_behind, put_row, is_free, Cursor, Closed, Open, Holding, Standing, Frame, State, Ending, Finished, Failed, Leaving, Halts, GivesUp, Setting, Next, On, End, act, step, go_on, after, code_of, unit_at, read, put, skip, jump, operand_of, outs_from, values_from, integer_in, jump_if, is_accepted, is_rejected, is_null, is_known, is_bad, rewound, rewound_to, advanced, advanced_to, drawn, with_row, with_schema, with_cursor, with_cursors, inserted, wrote, called, frame_of, returned, resumed, given_up, leads_to, leaving_of, closed_from, current, cursor_at, cursor_rows, row_read, world_of}
+use Rattle.vm_code.specs.Machine.{World, rows_of, row_under, row_behind, put_row, is_free, Cursor, Closed, Open, Holding, Standing, Frame, State, Ending, Finished, Failed, Leaving, Halts, GivesUp, Setting, Next, On, End, act, step, go_on, after, code_of, unit_at, read, put, skip, jump, operand_of, outs_from, integer_in, row_in, is_missing, is_integer, skip_if, standing_on, jump_if, is_accepted, is_rejected, is_null, is_known, is_bad, rewound, rewound_to, advanced, advanced_to, drawn, with_row, with_schema, with_cursor, with_cursors, inserted, wrote, called, frame_of, returned, resumed, given_up, leads_to, leaving_of, closed_from, current, cursor_at, cursor_rows, row_read, world_of}
 use Rattle.vm_code.proofs.Drafts.{get-append, get-set, get-set_other}
 use Rattle.vm_code.proofs.Rows.{All-cons, All-head, All-tail}
 use Rattle.vm_code.specs.Reading.{opened_by, OpensOnly, IsIn, AreIn, StaysIn, Agree, shared_over, over, Alike}
@@ -177,6 +177,10 @@ module _ (tables : List ℕ) where
     given_up_alike (f ∷ fs) causes e =
         either_alike (is_skip causes) _ _ _ _ (resumed_alike f fs (Good (Integer (pos 1)) ∷ []) e) (end_alike (Failed (named causes)))
 
+    skip_if_alike : (b : Bool) (causes : CauseSet) → Alike tables (skip_if b s causes) (skip_if b (over v s) causes)
+    skip_if_alike true causes = skip_alike
+    skip_if_alike false causes = given_up_alike s.stack causes refl
+
     leads_to_alike : (o : Leaving) → Alike tables (leads_to o s.stack s.shared) (leads_to o s.stack (shared_over v s.shared))
     leads_to_alike Halts = end_alike Finished
     leads_to_alike (GivesUp causes) = given_up_alike s.stack causes refl
@@ -249,6 +253,7 @@ module _ (tables : List ℕ) where
     act_alike (op.Variable k to) opens = put_alike to _ _ refl
     act_alike (op.Copy from to) opens = put_alike to _ _ refl
     act_alike (op.Affinity r affinity) opens = put_alike r _ _ refl
+    act_alike (op.MustBeInt r) opens = skip_if_alike (is_integer (read s.regs r)) (only Mismatch)
     act_alike (op.Unary o a to) opens = put_alike to _ _ (ap (unary_of o) (operand_alike a))
     act_alike (op.Binary o a b to) opens =
         put_alike to _ _ (ap (λ x. binary_of (keys_of m.hosts) o x (operand_of m (over v s) b)) (operand_alike a) ∙ ap (binary_of (keys_of m.hosts) o (operand_of m s a)) (operand_alike b))
@@ -259,6 +264,7 @@ module _ (tables : List ℕ) where
     act_alike (op.Merge from to) opens = put_alike to _ _ refl
     act_alike (op.OpenRead c t) opens = move_alike (s.pc + 1) c (Open t None) (All-head (Contains tables) t [] opens)
     act_alike (op.OpenWrite c t) opens = move_alike (s.pc + 1) c (Open t None) (All-head (Contains tables) t [] opens)
+    act_alike (op.RowOf c rowid first n) opens = move_alike (s.pc + 1) c (standing_on (row_in s.regs rowid first n)) tt
     act_alike (op.Close c) opens = move_alike (s.pc + 1) c Closed tt
     act_alike (op.CloseFrom c) opens = cursors_alike (s.pc + 1) (closed_from c s.scene.cursors) (closed_from_in c s.scene.cursors stays.cursors)
     act_alike (op.Rewind c target) opens = rewound_alike (cursor_at s.scene.cursors c) c target (stays.cursors c)
@@ -267,10 +273,12 @@ module _ (tables : List ℕ) where
         put_alike to _ _ (ap (λ row. column_of row k) (current_alike (cursor_at s.scene.cursors c) (stays.cursors c)))
     act_alike (op.Rowid c to) opens =
         put_alike to _ _ (ap (λ (row : ItemRow). row.rowid) (current_alike (cursor_at s.scene.cursors c) (stays.cursors c)))
+    act_alike (op.NotExists c rowid target) opens =
+        subst (λ rows. Alike tables (jump_if (is_missing (cursor_rows w (cursor_at s.scene.cursors c)) (integer_in s.regs rowid)) s target) (jump_if (is_missing rows (integer_in s.regs rowid)) (over v s) target)) (sym (cursor_rows_alike (cursor_at s.scene.cursors c) (stays.cursors c))) (jump_if_alike (is_missing (cursor_rows w (cursor_at s.scene.cursors c)) (integer_in s.regs rowid)) target)
     act_alike (op.NewRowid c to name) opens =
         subst (λ rows. Alike tables (drawn s to name (next_rowid (cursor_rows w (cursor_at s.scene.cursors c)))) (drawn (over v s) to name (next_rowid rows))) (sym (cursor_rows_alike (cursor_at s.scene.cursors c) (stays.cursors c))) (drawn_alike to name (next_rowid (cursor_rows w (cursor_at s.scene.cursors c))))
     act_alike (op.Insert c rowid first n) opens =
-        inserted_alike (cursor_at s.scene.cursors c) (record { rowid = integer_in s.regs rowid; values = values_from s.regs first n }) (stays.cursors c)
+        inserted_alike (cursor_at s.scene.cursors c) (row_in s.regs rowid first n) (stays.cursors c)
     act_alike (op.Schema change) opens = schema_alike change
 
     step_alike : OpensOnly tables m.prog → Alike tables (step m s) (step m (over v s))

@@ -4,6 +4,7 @@ use Rattle.std.specs.List.{find}
 use Rattle.std.specs.Ordering.{int_eq}
 use Rattle.std.specs.declared.option.Option.{Option}
 use Rattle.eng_key.specs.Values.{value_keys}
+use Rattle.eng_number.specs.Numbers.{fits_integer}
 use Rattle.eng_value.specs.Applied.{unary_of, binary_of, function_by, merged}
 use Rattle.eng_value.specs.Casts.{store_as}
 use Rattle.eng_value.specs.Causes.{CauseSet, is_skip, named, only}
@@ -16,7 +17,7 @@ use Rattle.eng_value.specs.Outs.{bad, turned}
 use Rattle.eng_value.specs.Truths.{truth_in, truth_of}
 use Rattle.eng_value.specs.StoredRows.{StoredRow, IsAscending, next_rowid}
 use Rattle.eng_value.specs.Written.{Written, unwritten}
-use Rattle.eng_value.specs.declared.cause.Cause.TheVariants.{Full}
+use Rattle.eng_value.specs.declared.cause.Cause.TheVariants.{Full, Mismatch}
 use Rattle.eng_value.specs.declared.out.Out.{Out}
 use Rattle.eng_value.specs.declared.out.Out.TheVariants.{Good, Bad}
 use Rattle.eng_value.specs.declared.truth.Truth.{Truth}
@@ -53,6 +54,10 @@ rows_of w table = slice_index_or w table []
 abbrev pub row_under : List StoredRow → ℤ → Option StoredRow
 row_under rows rowid = find (λ r. int_eq r.rowid rowid) rows
 
+-- there is none
+abbrev pub is_missing : List StoredRow → ℤ → Bool
+is_missing rows rowid = not (is_some (row_under rows rowid))
+
 -- the first row of a greater rowid
 abbrev pub row_behind : List StoredRow → ℤ → Option StoredRow
 row_behind rows rowid = find (λ r. int_lt rowid r.rowid) rows
@@ -64,7 +69,7 @@ put_row (x ∷ xs) r = if int_lt r.rowid x.rowid then r ∷ x ∷ xs else x ∷ 
 
 -- there is the table, and it has no row of this rowid
 abbrev pub is_free : World → ℕ → ℤ → Bool
-is_free w table rowid = nat_lt table (length w) && not (is_some (row_under (rows_of w table) rowid))
+is_free w table rowid = nat_lt table (length w) && is_missing (rows_of w table) rowid
 
 -- ---- cursors
 
@@ -259,6 +264,11 @@ abbrev pub is_bad : Out → Bool
 is_bad (Good v) = false
 is_bad (Bad causes) = true
 
+-- whether it is an integer of 64 bits
+abbrev pub is_integer : Out → Bool
+is_integer (Good (Integer n)) = fits_integer n
+is_integer a = false
+
 -- the parameter of this number, from 1 on: NULL where there is none, and bad where it is too long
 abbrev pub parameter_at : List Value → ℕ → Out
 parameter_at params zero = Good Null
@@ -287,6 +297,10 @@ integer_of (Blob bytes) = pos 0
 
 abbrev pub integer_in : List Out → ℕ → ℤ
 integer_in regs r = integer_of (good_or_null (read regs r))
+
+-- the row that registers hold
+abbrev pub row_in : List Out → ℕ → ℕ → ℕ → StoredRow
+row_in regs rowid first n = record { rowid = integer_in regs rowid; values = values_from regs first n }
 
 abbrev pub with_cursors : State → List Cursor → State
 with_cursors s cursors = record s { scene = record s.scene { cursors = cursors } }
@@ -415,6 +429,11 @@ given_up [] shared causes = End (Failed (named causes)) shared
 given_up (f ∷ fs) shared causes =
     if is_skip causes then On (resumed f fs shared (Good (Integer (pos 1)) ∷ [])) else End (Failed (named causes)) shared
 
+-- it goes on, or gives up for causes
+abbrev pub skip_if : Bool → State → CauseSet → Next
+skip_if true s causes = skip s
+skip_if false s causes = given_up s.stack s.shared causes
+
 -- how a stretch of code leaves its unit: the run is at its end, or the unit gives up
 pub data Leaving : Type 0 where
   Halts : Leaving
@@ -433,6 +452,10 @@ leaving_of (Bad causes) = GivesUp causes
 abbrev pub drawn : State → ℕ → List ℕ → Option ℤ → Next
 drawn s r table None = given_up s.stack s.shared (only (Full table))
 drawn s r table (Some rowid) = put s r (Good (Integer rowid))
+
+-- on a row that is no table's, with none behind it
+abbrev pub standing_on : StoredRow → Cursor
+standing_on r = Standing (table_row r) []
 
 -- ---- the instructions
 
@@ -458,6 +481,7 @@ act m (Some (op.Bad cause to)) s = put s to (bad cause)
 act m (Some (op.Variable k to)) s = put s to (parameter_at m.params k)
 act m (Some (op.Copy from to)) s = put s to (read s.regs from)
 act m (Some (op.Affinity r affinity)) s = put s r (turned (store_as affinity) (read s.regs r))
+act m (Some (op.MustBeInt r)) s = skip_if (is_integer (read s.regs r)) s (only Mismatch)
 act m (Some (op.Unary o a to)) s = put s to (unary_of o (operand_of m s a))
 act m (Some (op.Binary o a b to)) s = put s to (binary_of (keys_of m.hosts) o (operand_of m s a) (operand_of m s b))
 act m (Some (op.LikeEscaped a b c to)) s = put s to (like_escaped_of (operand_of m s a) (operand_of m s b) (operand_of m s c))
@@ -465,14 +489,16 @@ act m (Some (op.Function f collation args to)) s = put s to (function_by (value_
 act m (Some (op.Merge from to)) s = put s to (merged (read s.regs from) (read s.regs to))
 act m (Some (op.OpenRead c table)) s = skip (with_cursor s c (Open table None))
 act m (Some (op.OpenWrite c table)) s = skip (with_cursor s c (Open table None))
+act m (Some (op.RowOf c rowid first n)) s = skip (with_cursor s c (standing_on (row_in s.regs rowid first n)))
 act m (Some (op.Close c)) s = skip (with_cursor s c Closed)
 act m (Some (op.CloseFrom c)) s = skip (with_cursors s (closed_from c s.scene.cursors))
 act m (Some (op.Rewind c target)) s = rewound (cursor_at s.scene.cursors c) s c target
 act m (Some (op.Next c target)) s = advanced (cursor_at s.scene.cursors c) s c target
 act m (Some (op.Column c k to)) s = put s to (column_of (current (world_of s.shared) (cursor_at s.scene.cursors c)) k)
 act m (Some (op.Rowid c to)) s = put s to (current (world_of s.shared) (cursor_at s.scene.cursors c)).rowid
+act m (Some (op.NotExists c rowid target)) s = jump_if (is_missing (cursor_rows (world_of s.shared) (cursor_at s.scene.cursors c)) (integer_in s.regs rowid)) s target
 act m (Some (op.NewRowid c to table)) s = drawn s to table (next_rowid (cursor_rows (world_of s.shared) (cursor_at s.scene.cursors c)))
-act m (Some (op.Insert c rowid first n)) s = wrote s (inserted (cursor_at s.scene.cursors c) s.shared.written (record { rowid = integer_in s.regs rowid; values = values_from s.regs first n }))
+act m (Some (op.Insert c rowid first n)) s = wrote s (inserted (cursor_at s.scene.cursors c) s.shared.written (row_in s.regs rowid first n))
 act m (Some (op.Schema change)) s = wrote s (with_schema change s.shared.written)
 
 -- ---- runs

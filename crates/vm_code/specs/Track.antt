@@ -34,17 +34,20 @@ way_of (op.HaltBad r) = way.Leaves
 way_of (op.Ret first n) = way.Leaves
 way_of (op.OpenRead c table) = way.Opens c
 way_of (op.OpenWrite c table) = way.Opens c
+way_of (op.RowOf c rowid first n) = way.Opens c
 way_of (op.Close c) = way.Closes c
 way_of (op.CloseFrom c) = way.ClosesFrom c
 way_of (op.Rewind c target) = way.Forks target
 way_of (op.Next c target) = way.Forks target
+way_of (op.NotExists c rowid target) = way.Forks target
 way_of other = way.Continues
 
--- the cursors that an instruction moves, closes or writes by
+-- the cursors that an instruction moves, closes or writes by, or whose table it looks at
 abbrev pub used_by : Op → List ℕ
 used_by (op.Close c) = c ∷ []
 used_by (op.Rewind c target) = c ∷ []
 used_by (op.Next c target) = c ∷ []
+used_by (op.NotExists c rowid target) = c ∷ []
 used_by (op.NewRowid c to table) = c ∷ []
 used_by (op.Insert c rowid first n) = c ∷ []
 used_by other = []

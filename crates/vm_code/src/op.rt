@@ -117,6 +117,10 @@ pub enum Op {
         register: u32,
         affinity: Affinity,
     },
+    /// Goes on where r[`register`] (p1) holds an integer. Else the unit gives up for `Mismatch`, also where the register is bad.
+    MustBeInt {
+        register: u32,
+    },
     /// r[`to`] (p2) is what the operator gives for its operand (p1). It stands for the opcodes of the operators with one operand, as
     /// Not, BitNot and Cast.
     Unary {
@@ -161,6 +165,14 @@ pub enum Op {
         cursor: u32,
         table: u32,
     },
+    /// From now on the cursor (p1) stands on a row that is no table's: its rowid is the one in r[`rowid`] (p2), and its values are those that the
+    /// `count` registers from `first` (p3) on hold now, where one that is bad counts as NULL. No row is behind it.
+    RowOf {
+        cursor: u32,
+        rowid: u32,
+        first: u32,
+        count: u32,
+    },
     /// Closes a cursor (p1).
     Close {
         cursor: u32,
@@ -189,6 +201,13 @@ pub enum Op {
     Rowid {
         cursor: u32,
         to: u32,
+    },
+    /// Jumps to `target` (p2) where the cursor's (p1) table has no row of the rowid in r[`rowid`] (p3). A cursor that is open on no table has no
+    /// row. The cursor stays where it is.
+    NotExists {
+        cursor: u32,
+        rowid: u32,
+        target: usize,
     },
     /// r[`to`] (p2) is the rowid behind the last of the cursor's (p1) table. Where there is none the unit gives up for `Full`, which
     /// names the table (p4).

@@ -40,10 +40,12 @@ pub(crate) fn way_of(op: &Op) -> Way
         Op::Ret { .. } => Way::Leaves,
         Op::OpenRead { cursor, .. } => Way::Opens(*cursor),
         Op::OpenWrite { cursor, .. } => Way::Opens(*cursor),
+        Op::RowOf { cursor, .. } => Way::Opens(*cursor),
         Op::Close { cursor } => Way::Closes(*cursor),
         Op::CloseFrom { cursor } => Way::ClosesFrom(*cursor),
         Op::Rewind { target, .. } => Way::Forks(*target),
         Op::Next { target, .. } => Way::Forks(*target),
+        Op::NotExists { target, .. } => Way::Forks(*target),
         _ => Way::Continues,
     }
 }

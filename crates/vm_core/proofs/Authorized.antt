@@ -64,6 +64,7 @@ module _ (told : Option (Option (Action → Verdict))) (ask : Oracle) (params : 
   op_beside s (op.Variable k to) = refl
   op_beside s (op.Copy from to) = refl
   op_beside s (op.Affinity r affinity) = refl
+  op_beside s (op.MustBeInt r) = refl
   op_beside s (op.Unary o a to) = ap (λ x. put s to (unary_of o x)) (operand_beside s a)
   op_beside s (op.Binary o a b to) =
       ap (λ keys. put s to (binary_of keys o (operand_of lent s a) (operand_of lent s b))) keys_beside
@@ -79,12 +80,14 @@ module _ (told : Option (Option (Action → Verdict))) (ask : Oracle) (params : 
   op_beside s (op.Merge from to) = refl
   op_beside s (op.OpenRead c table) = refl
   op_beside s (op.OpenWrite c table) = refl
+  op_beside s (op.RowOf c rowid first n) = refl
   op_beside s (op.Close c) = refl
   op_beside s (op.CloseFrom c) = refl
   op_beside s (op.Rewind c target) = refl
   op_beside s (op.Next c target) = refl
   op_beside s (op.Column c k to) = refl
   op_beside s (op.Rowid c to) = refl
+  op_beside s (op.NotExists c rowid target) = refl
   op_beside s (op.NewRowid c to table) = refl
   op_beside s (op.Insert c rowid first n) = refl
   op_beside s (op.Schema change) = refl

@@ -1,10 +1,11 @@
 // Units that are called, and how a unit is left.
 ghost use Rattle.std.specs.Prelude.{◌≡◌, ◌+◌, ◌^◌, ◌<◌, [], ◌∷◌, replicate, OnOk};
 ghost use Rattle.std.specs.Option.{option_copied};
-ghost use Rattle.eng_value.specs.Causes.{is_skip};
+ghost use Rattle.eng_value.specs.Causes.{is_skip, only};
+ghost use Rattle.eng_value.specs.declared.cause.Cause.TheVariants.{Mismatch};
 ghost use Rattle.eng_value.specs.declared.out.Out.TheVariants.{Good};
 ghost use Rattle.eng_value.specs.declared.value.Value.TheVariants.{Null};
-ghost use Rattle.vm_code.specs.Machine.{Closed, End, Finished, called, given_up, inputs_with, leads_to, leaving_of, no_store, outs_from, read as read_of, returned, unit_at};
+ghost use Rattle.vm_code.specs.Machine.{Closed, End, Finished, called, given_up, inputs_with, is_integer, leads_to, leaving_of, no_store, outs_from, read as read_of, returned, skip_if, unit_at};
 ghost use Rattle.vm_core.specs.Events.{Acts, StopsOrActs};
 
 use crate::Event;
@@ -155,6 +156,24 @@ impl Running {
             }
             Out::Bad(causes) => self.give_up(causes, event),
         }
+    }
+
+    /// Goes on where a register holds an integer; else gives up.
+    #[inline(never)]
+    pub fn must_be_int(
+        &mut self,
+        alloc: Global,
+        register: u32,
+        event: &mut Event,
+    ) -> Result<Pace, AllocError>
+        requires { self.old.pc + 1 < 2 ^ 64 }
+        ensures { StopsOrActs result event.new self.old self.new (λ s. skip_if (is_integer (read_of s.regs register)) s (only Mismatch)) }
+    {
+        if self.holds_integer(register) {
+            self.go_on();
+            return Ok(Pace::Going);
+        }
+        self.give_up(Causes::one(alloc, Cause::Mismatch), event)
     }
 
     /// Leaves the unit for causes. Where they say no more than that the row is left, it answers 1 to the frame that waits; else the run

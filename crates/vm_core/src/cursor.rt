@@ -1,15 +1,16 @@
 // Cursors over the tables.
 ghost use Rattle.std.specs.Prelude.{◌≡◌, replicate, IfOk};
-ghost use Rattle.eng_value.specs.Environments.{column_of};
+ghost use Rattle.eng_value.specs.Environments.{column_of, table_row};
 ghost use Rattle.eng_value.specs.StoredRows.{next_rowid};
-ghost use Rattle.vm_code.specs.Machine.{Closed, closed_from, current, cursor_at, cursor_rows};
+ghost use Rattle.eng_value.specs.declared.out.Out.TheVariants.{Good};
+ghost use Rattle.vm_code.specs.Machine.{Closed, closed_from, current, cursor_at, cursor_rows, is_missing, row_read, row_under, rows_of};
 ghost use Rattle.vm_tables.specs.Rows.{LendsColumn};
 ghost use Rattle.vm_core.specs.Cursors.{has_first, has_next, on_first, on_next, rowid_read, table_of};
 
 use eng_record::Lent;
-use eng_value::{Out, Value};
+use eng_value::{Out, StoredRow, Value};
 use std::alloc::{AllocError, Global};
-use vm_store::{Cursor, Spot};
+use vm_store::{Cursor, Place, Spot};
 use vm_tables::Tables;
 
 /// The table of a cursor of this number; none where it is closed.
@@ -27,7 +28,19 @@ fn table(cursor: &Cursor) -> Option<u32>
 {
     match cursor.spot() {
         Spot::Closed => None,
-        Spot::Open { table, place: _ } => Some(table),
+        Spot::Open { table, place: _ } => Some(*table),
+        Spot::Standing { row: _ } => None,
+    }
+}
+
+/// Whether a cursor's table has no row of a rowid.
+pub(crate) fn misses(cursor: &Cursor, tables: &Tables, rowid: i64) -> bool
+    ensures { result ≡ is_missing (cursor_rows tables.now.world cursor.now) rowid }
+{
+    match cursor.spot() {
+        Spot::Closed => true,
+        Spot::Open { table, place: _ } => !tables.has(*table, rowid),
+        Spot::Standing { row: _ } => true,
     }
 }
 
@@ -37,7 +50,8 @@ pub(crate) fn next_rowid(cursor: &Cursor, tables: &Tables) -> Option<i64>
 {
     match cursor.spot() {
         Spot::Closed => Some(1),
-        Spot::Open { table, place: _ } => tables.next_rowid(table),
+        Spot::Open { table, place: _ } => tables.next_rowid(*table),
+        Spot::Standing { row: _ } => Some(1),
     }
 }
 
@@ -59,15 +73,52 @@ pub(crate) fn column(
         Spot::Open {
             table,
             place: Some(place),
-        } => {
-            let value = tables.column(alloc, table, place.rowid, number, place.near)?;
-            Ok(Out::Good(value))
-        }
+        } => column_of_table(alloc, tables, *table, place, number),
+        Spot::Standing { row } => column_of_row(row, number),
     }
 }
 
-/// The integer or the text in a column of a cursor's row, where there is one.
-pub(crate) fn lent<'t>(cursor: &Cursor, tables: &'t Tables, number: usize) -> Lent<'t>
+/// A copy of a column of the row at a place of a table; NULL where there is none.
+fn column_of_table(
+    alloc: Global,
+    tables: &Tables,
+    table: u32,
+    place: &Place,
+    number: usize,
+) -> Result<Out, AllocError>
+    ensures { IfOk result (λ out. out ≡ column_of (row_read (row_under (rows_of tables.now.world table) place.now.rowid)) number) }
+{
+    let value = tables.column(alloc, table, place.rowid, number, place.near)?;
+    Ok(Out::Good(value))
+}
+
+/// A copy of a value of a row; NULL behind the last one.
+fn column_of_row(row: &StoredRow, number: usize) -> Result<Out, AllocError>
+    ensures { IfOk result (λ out. out ≡ column_of (table_row row.now) number) }
+{
+    match row.values().get(number) {
+        None => Ok(Out::Good(Value::Null)),
+        Some(value) => Ok(Out::Good(value.clone()?)),
+    }
+}
+
+/// The integer or the text in a column of the row of the cursor of this number, where there is one.
+#[inline(always)]
+pub(crate) fn lent_at<'t>(
+    cursors: &'t [Cursor],
+    tables: &'t Tables,
+    cursor: u32,
+    number: u32,
+) -> Lent<'t>
+    ensures { LendsColumn result (column_of (current tables.now.world (cursor_at cursors.now cursor)) number) }
+{
+    match cursors.get(cursor as usize) {
+        None => Lent::Other,
+        Some(cursor) => lent(cursor, tables, number as usize),
+    }
+}
+
+fn lent<'t>(cursor: &'t Cursor, tables: &'t Tables, number: usize) -> Lent<'t>
     ensures { LendsColumn result (column_of (current tables.now.world cursor.now) number) }
 {
     match cursor.spot() {
@@ -79,7 +130,29 @@ pub(crate) fn lent<'t>(cursor: &Cursor, tables: &'t Tables, number: usize) -> Le
         Spot::Open {
             table,
             place: Some(place),
-        } => tables.lent(table, place.rowid, number, place.near),
+        } => tables.lent(*table, place.rowid, number, place.near),
+        Spot::Standing { row } => lent_of_row(row, number),
+    }
+}
+
+/// The integer or the text that a value of a row is, where it is one.
+#[inline(never)]
+fn lent_of_row(row: &StoredRow, number: usize) -> Lent<'_>
+    ensures { LendsColumn result (column_of (table_row row.now) number) }
+{
+    match row.values().get(number) {
+        None => Lent::Other,
+        Some(value) => lent_of_value(value),
+    }
+}
+
+fn lent_of_value(value: &Value) -> Lent<'_>
+    ensures { LendsColumn result (Good value.now) }
+{
+    match value {
+        Value::Integer(n) => Lent::Integer(*n),
+        Value::Text(text) => Lent::Text(text.as_str()),
+        _ => Lent::Other,
     }
 }
 
@@ -96,8 +169,17 @@ pub(crate) fn rowid(cursor: &Cursor, tables: &Tables) -> Option<i64>
         Spot::Open {
             table,
             place: Some(place),
-        } => tables.rowid(table, place.rowid, place.near),
+        } => rowid_of_table(tables, *table, place),
+        Spot::Standing { row } => Some(row.rowid()),
     }
+}
+
+/// The rowid of the row at a place of a table, if there is one.
+#[tactic(auto, using(crate::proofs::Rowids::rowid_reads))]
+fn rowid_of_table(tables: &Tables, table: u32, place: &Place) -> Option<i64>
+    ensures { rowid_read result ≡ (row_read (row_under (rows_of tables.now.world table) place.now.rowid)).rowid }
+{
+    tables.rowid(table, place.rowid, place.near)
 }
 
 /// Brings a cursor to the first row of its table, and says whether there is one.
@@ -108,11 +190,13 @@ pub(crate) fn rewind(cursor: &mut Cursor, tables: &Tables) -> bool
     match cursor.spot() {
         Spot::Closed => false,
         Spot::Open { table, place: _ } => {
+            let table = *table;
             let mut near = 0;
             let rowid = tables.first(table, &mut near);
             cursor.come_to(table, rowid, near);
             rowid.is_some()
         }
+        Spot::Standing { row: _ } => false,
     }
 }
 
@@ -126,10 +210,15 @@ pub(crate) fn advance(cursor: &mut Cursor, tables: &Tables) -> bool
             table,
             place: Some(place),
         } => {
+            let table = *table;
             let mut near = place.near;
             let rowid = tables.behind(table, place.rowid, &mut near);
             cursor.come_to(table, rowid, near);
             rowid.is_some()
+        }
+        Spot::Standing { row: _ } => {
+            cursor.close();
+            false
         }
         _ => false,
     }

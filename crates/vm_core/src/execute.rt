@@ -117,6 +117,7 @@ fn execute(
         Op::Variable { number, to } => running.put_parameter(alloc, params, *number, *to),
         Op::Copy { from, to } => running.put_copy(*from, *to),
         Op::Affinity { register, affinity } => running.store_as(alloc, *register, *affinity),
+        Op::MustBeInt { register } => running.must_be_int(alloc, *register, event),
         Op::Unary {
             operator,
             operand,
@@ -151,6 +152,12 @@ fn execute(
         Op::Merge { from, to } => running.put_merged(*from, *to),
         Op::OpenRead { cursor, table } => running.open(*cursor, *table),
         Op::OpenWrite { cursor, table } => running.open(*cursor, *table),
+        Op::RowOf {
+            cursor,
+            rowid,
+            first,
+            count,
+        } => running.stand_on(alloc, *cursor, *rowid, *first, *count),
         Op::Close { cursor } => running.close(*cursor),
         Op::CloseFrom { cursor } => running.close_from(*cursor),
         Op::Rewind { cursor, target } => running.jump_where_empty(tables, *cursor, *target),
@@ -159,6 +166,11 @@ fn execute(
             alloc, tables, *cursor, *column, *to,
         ),
         Op::Rowid { cursor, to } => running.put_rowid(tables, *cursor, *to),
+        Op::NotExists {
+            cursor,
+            rowid,
+            target,
+        } => running.jump_where_missing(tables, *cursor, *rowid, *target),
         Op::NewRowid { cursor, to, table } => new_rowid(
             running, alloc, tables, *cursor, *to, table, event,
         ),

@@ -1,6 +1,6 @@
 // The instructions that jump, by a method each. The two that a scan runs for each row are inlined, since a call costs as much as they do.
 ghost use Rattle.std.specs.Prelude.{◌≡◌, ◌+◌, ◌^◌, ◌<◌};
-ghost use Rattle.vm_code.specs.Machine.{advanced, cursor_at, jump_if, read as read_of, rewound};
+ghost use Rattle.vm_code.specs.Machine.{advanced, cursor_at, cursor_rows, integer_in, is_missing, jump_if, read as read_of, rewound, world_of};
 ghost use Rattle.vm_core.specs.Events.{Acts, ActsOn};
 ghost use Rattle.vm_core.specs.Tests.{passes};
 
@@ -72,6 +72,25 @@ impl Running {
     {
         let found = self.rewind(tables, cursor);
         self.jump_if(!found, target);
+        Ok(Pace::Going)
+    }
+
+    /// Jumps where a cursor's table has no row of the rowid that a register holds.
+    #[inline(never)]
+    pub(crate) fn jump_where_missing(
+        &mut self,
+        tables: &Tables,
+        cursor: u32,
+        rowid: u32,
+        target: usize,
+    ) -> Result<Pace, AllocError>
+        requires { self.old.pc + 1 < 2 ^ 64 }
+        ensures { ActsOn result self.old tables.now.world self.new tables.now.world (λ s.
+            jump_if (is_missing (cursor_rows (world_of s.shared) (cursor_at s.scene.cursors cursor)) (integer_in s.regs rowid)) s target) }
+    {
+        let rowid = self.registers().integer(rowid);
+        let jumps = self.misses(tables, cursor, rowid);
+        self.jump_if(jumps, target);
         Ok(Pace::Going)
     }
 

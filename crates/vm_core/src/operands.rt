@@ -293,7 +293,7 @@ impl Running {
         }
     }
 
-    fn text_in<'a>(&self, tables: &'a Tables, cursor: u32, column: u32) -> Option<&'a str>
+    fn text_in<'a>(&'a self, tables: &'a Tables, cursor: u32, column: u32) -> Option<&'a str>
         ensures { option_copied result ≡ held_text (column_of (current tables.now.world (cursor_at self.now.scene.cursors cursor)) column) }
     {
         match self.lent(tables, cursor, column) {

@@ -9,7 +9,7 @@ ghost use Rattle.eng_value.specs.declared.out.Out.{Out as MeantOut};
 ghost use Rattle.eng_value.specs.declared.out.Out.TheVariants.{Good};
 ghost use Rattle.eng_value.specs.declared.value.Value.TheVariants as sql;
 ghost use Rattle.eng_value.specs.declared.value.Value.TheVariants.{Integer, Null};
-ghost use Rattle.vm_code.specs.Machine.{Closed, Open, closed_from, code_of, current, cursor_at, cursor_rows, inserted, is_bad, jump, put, read as read_of, skip, values_from, with_cursor, with_cursors, with_given, with_row, with_schema, with_table, without_rows, wrote};
+ghost use Rattle.vm_code.specs.Machine.{Closed, Open, closed_from, code_of, current, cursor_at, cursor_rows, inserted, is_bad, is_integer, is_missing, jump, put, read as read_of, row_in, skip, standing_on, values_from, with_cursor, with_cursors, with_given, with_row, with_schema, with_table, without_rows, wrote};
 ghost use Rattle.vm_tables.specs.Rows.{LendsColumn};
 ghost use Rattle.vm_core.specs.Cursors.{has_first, has_next, on_first, on_next, rowid_read};
 ghost use Rattle.vm_core.specs.Events.{Acts, ActsOn, StopsOrActs};
@@ -19,7 +19,7 @@ ghost use Rattle.vm_core.specs.Tests.{passes};
 use crate::Event;
 use crate::calling::unit_at;
 use crate::cursor::{
-    advance, close_from, closed, column, lent, next_rowid, rewind, rowid, table_at,
+    advance, close_from, closed, column, lent_at, misses, next_rowid, rewind, rowid, table_at,
 };
 use crate::jumping::Test;
 use crate::pace::Pace;
@@ -30,7 +30,7 @@ use std::alloc::{AllocError, Global};
 use std::marker::Model;
 use std::mem;
 use vm_code::{Op, Program, SchemaChange, Unit};
-use vm_store::{Cursor, Frames, Registers, is_bad};
+use vm_store::{Cursor, Frames, Registers, is_bad, is_integer};
 use vm_tables::Tables;
 
 /// The frame that runs, the frames that wait, how many rows were changed, and the rowid of the last row that was put. A register, an
@@ -238,6 +238,27 @@ impl Running {
         is_bad(self.registers.read(register, &Out::Good(Value::Null)))
     }
 
+    /// Whether a register holds an integer.
+    pub fn holds_integer(&self, register: u32) -> bool
+        ensures { result ≡ is_integer (read_of self.now.regs register) }
+    {
+        is_integer(self.registers.read(register, &Out::Good(Value::Null)))
+    }
+
+    /// The row that registers hold: a rowid, and so many values.
+    pub fn row_in(
+        &self,
+        alloc: Global,
+        rowid: u32,
+        first: u32,
+        count: u32,
+    ) -> Result<StoredRow, AllocError>
+        ensures { IfOk result (λ row. row ≡ row_in self.now.regs rowid first count) }
+    {
+        let values = self.registers.values(Row::empty(alloc), first, count)?;
+        Ok(StoredRow::new(self.registers.integer(rowid), values))
+    }
+
     /// Turns a register into what a column of the affinity would hold, and goes on.
     #[tactic(auto, using(crate::proofs::RegisterLaws::written_twice))]
     #[inline(never)]
@@ -290,6 +311,24 @@ impl Running {
         ensures { Acts result self.old self.new (λ s. skip (with_cursor s number (Open table None))) }
     {
         self.put_cursor(number, Cursor::open(table));
+        Ok(Pace::Going)
+    }
+
+    /// Puts a cursor on the row that registers hold, and goes on.
+    #[inline(never)]
+    pub fn stand_on(
+        &mut self,
+        alloc: Global,
+        number: u32,
+        rowid: u32,
+        first: u32,
+        count: u32,
+    ) -> Result<Pace, AllocError>
+        requires { self.old.pc + 1 < 2 ^ 64 }
+        ensures { Acts result self.old self.new (λ s. skip (with_cursor s number (standing_on (row_in s.regs rowid first count)))) }
+    {
+        let row = self.row_in(alloc, rowid, first, count)?;
+        self.put_cursor(number, Cursor::standing(row));
         Ok(Pace::Going)
     }
 
@@ -375,13 +414,10 @@ impl Running {
 
     /// The integer or the text in a column of a cursor's row, where there is one.
     #[inline(always)]
-    pub fn lent<'t>(&self, tables: &'t Tables, number: u32, place: u32) -> Lent<'t>
+    pub fn lent<'t>(&'t self, tables: &'t Tables, number: u32, place: u32) -> Lent<'t>
         ensures { LendsColumn result (column_of (current tables.now.world (cursor_at self.now.scene.cursors number)) place) }
     {
-        match self.cursors.get(number as usize) {
-            None => Lent::Other,
-            Some(cursor) => lent(cursor, tables, place as usize),
-        }
+        lent_at(&self.cursors, tables, number, place)
     }
 
     /// The rowid of a cursor's row, if it is on one.
@@ -392,6 +428,16 @@ impl Running {
         match self.cursors.get(number as usize) {
             None => None,
             Some(cursor) => rowid(cursor, tables),
+        }
+    }
+
+    /// Whether a cursor's table has no row of a rowid.
+    pub fn misses(&self, tables: &Tables, number: u32, rowid: i64) -> bool
+        ensures { result ≡ is_missing (cursor_rows tables.now.world (cursor_at self.now.scene.cursors number)) rowid }
+    {
+        match self.cursors.get(number as usize) {
+            None => true,
+            Some(cursor) => misses(cursor, tables, rowid),
         }
     }
 

@@ -7,20 +7,19 @@ ghost use Rattle.eng_value.specs.Collations.{own_keys};
 ghost use Rattle.eng_value.specs.Comparisons.{like_escaped_of};
 ghost use Rattle.eng_value.specs.Environments.{column_of};
 ghost use Rattle.eng_value.specs.Outs.{bad};
-ghost use Rattle.eng_value.specs.StoredRows.{StoredRow as MeantRow};
 ghost use Rattle.eng_value.specs.declared.out.Out.TheVariants.{Good};
 ghost use Rattle.eng_value.specs.declared.value.Value.TheVariants as value;
-ghost use Rattle.vm_code.specs.Machine.{current, cursor_at, inserted, integer_in, parameter_at, put, read as read_of, values_from, world_of, wrote};
+ghost use Rattle.vm_code.specs.Machine.{current, cursor_at, inserted, parameter_at, put, read as read_of, row_in, world_of, wrote};
 ghost use Rattle.vm_core.specs.Events.{Acts, ActsOn};
 ghost use Rattle.vm_core.specs.Operands.{operand_now};
 
+use crate::cursor::lent_at;
 use crate::pace::Pace;
 use crate::running::Running;
 use crate::values::{merge, parameter};
 use eng_record::Lent;
 use eng_value::{
-    BinaryOperator, Blob, Builtin, Cause, Collation, Out, Row, StoredRow, Text, UnaryOperator,
-    Value,
+    BinaryOperator, Blob, Builtin, Cause, Collation, Out, Row, Text, UnaryOperator, Value,
 };
 use std::alloc::{AllocError, Global};
 use vm_code::Operand;
@@ -271,9 +270,13 @@ impl Running {
         ensures { ActsOn result self.old tables.now.world self.new tables.now.world (λ s.
             put s to (column_of (current (world_of s.shared) (cursor_at s.scene.cursors cursor)) place)) }
     {
-        match self.lent(tables, cursor, place) {
+        match lent_at(&self.cursors, tables, cursor, place) {
             Lent::Integer(n) => self.put_integer(n, to),
-            Lent::Text(text) => self.put_str(alloc, text, to),
+            Lent::Text(text) => {
+                self.registers.write_str(alloc, to, text)?;
+                self.pc += 1;
+                Ok(Pace::Going)
+            }
             Lent::Other => self.put_any_column(alloc, tables, cursor, place, to),
         }
     }
@@ -327,12 +330,10 @@ impl Running {
     ) -> Result<Pace, AllocError>
         requires { self.old.pc + 1 < 2 ^ 64 }
         ensures leads { ActsOn result self.old tables.old.world self.new tables.new.world (λ s.
-            let row : MeantRow = record { rowid = integer_in s.regs rowid; values = values_from s.regs first count } in
-            wrote s (inserted (cursor_at s.scene.cursors cursor) s.shared.written row)) }
+            wrote s (inserted (cursor_at s.scene.cursors cursor) s.shared.written (row_in s.regs rowid first count))) }
         ensures marks { tables.new.marks ≡ tables.old.marks }
     {
-        let values = self.registers().values(Row::empty(alloc), first, count)?;
-        let row = StoredRow::new(self.registers().integer(rowid), values);
+        let row = self.row_in(alloc, rowid, first, count)?;
         self.insert(alloc, tables, cursor, &row)
     }
 }

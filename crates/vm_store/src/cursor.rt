@@ -1,21 +1,26 @@
 // Cursors.
 ghost use Rattle.std.specs.Prelude.{◌≡◌, None};
-ghost use Rattle.vm_code.specs.Machine.{Closed, Open};
+ghost use Rattle.vm_code.specs.Machine.{Closed, Open, standing_on};
 ghost use Rattle.vm_store.specs.Cursors.{cursor_of};
+ghost use Rattle.vm_store.specs.declared.cursor.Spot.TheVariants as spots;
 
+use eng_value::StoredRow;
 use std::marker::Model;
 
-/// A cursor: closed, or open on a table and there on a row or on none. Contracts see the cursor of the machine over lists.
+/// A cursor: closed, open on a table and there on a row or on none, or on a row that is no table's. Contracts see the cursor of the
+/// machine over lists.
 #[derive(Drop)]
 pub struct Cursor {
     spot: Spot,
 }
 
 /// Where a cursor stands.
-#[derive(Clone, Copy)]
+#[derive(Drop)]
 pub enum Spot {
     Closed,
     Open { table: u32, place: Option<Place> },
+    /// On a row that is no table's, with none behind it.
+    Standing { row: StoredRow },
 }
 
 /// A row by its rowid, and where the search for it came to, which makes the next search near it short. The row may stand
@@ -57,20 +62,50 @@ impl Cursor {
         }
     }
 
-    /// Where it stands.
-    pub fn spot(&self) -> Spot
-        ensures { cursor_of result ≡ self.now }
+    /// On a row that is no table's.
+    pub fn standing(row: StoredRow) -> Cursor
+        ensures { result ≡ standing_on row }
     {
-        self.spot
+        Cursor {
+            spot: Spot::Standing { row },
+        }
+    }
+
+    /// Where it stands.
+    pub fn spot(&self) -> &Spot
+        ensures { cursor_of result.now ≡ self.now }
+    {
+        &self.spot
     }
 
     /// Goes to the row of a rowid, or to none. `near` is where the search for it came to.
     pub fn come_to(&mut self, table: u32, rowid: Option<i64>, near: usize)
         ensures { self.new ≡ Open table rowid }
     {
-        self.spot = Spot::Open {
-            table,
-            place: rowid.map(|rowid| Place { rowid, near }),
-        };
+        let place = rowid.map(|rowid| Place { rowid, near });
+        move_to(&mut self.spot, table, place);
+    }
+
+    /// Comes off its row and its table.
+    pub fn close(&mut self)
+        ensures { self.new ≡ Closed }
+    {
+        self.spot = Spot::Closed;
+    }
+}
+
+/// Goes to a place of a table. Where it is on a table already it is written there, so that nothing of another kind is dropped.
+fn move_to(spot: &mut Spot, table: u32, place: Option<Place>)
+    ensures { spot.new ≡ spots.Open table place }
+{
+    match spot {
+        Spot::Open {
+            table: old_table,
+            place: old_place,
+        } => {
+            *old_table = table;
+            *old_place = place;
+        }
+        _ => *spot = Spot::Open { table, place },
     }
 }

@@ -3,7 +3,8 @@ ghost use Rattle.std.specs.Prelude.{◌≡◌};
 ghost use Rattle.eng_value.specs.Outs.{turned};
 ghost use Rattle.eng_value.specs.Truths.{truth_in, truth_of_number};
 ghost use Rattle.eng_value.specs.declared.out.Out.TheVariants.{Good};
-ghost use Rattle.vm_code.specs.Machine.{is_accepted, is_bad, is_false, is_known, is_null, is_rejected, is_true};
+ghost use Rattle.eng_number.specs.Numbers.{fits_integer};
+ghost use Rattle.vm_code.specs.Machine.{is_accepted, is_bad, is_false, is_integer, is_known, is_null, is_rejected, is_true};
 
 use eng_value::{Out, Value, to_number};
 use std::alloc::Global;
@@ -64,6 +65,23 @@ pub fn is_bad(out: &Out) -> bool
         Out::Good(_) => false,
         Out::Bad(_) => true,
     }
+}
+
+/// Whether it is an integer.
+pub fn is_integer(out: &Out) -> bool
+    ensures { result ≡ is_integer out.now }
+{
+    match out {
+        Out::Good(Value::Integer(n)) => fits(*n),
+        _ => false,
+    }
+}
+
+/// An integer of a register has 64 bits.
+fn fits(_n: i64) -> bool
+    ensures { result ≡ fits_integer _n }
+{
+    true
 }
 
 fn is_true(number: &Out, on_null: bool) -> bool

@@ -1,5 +1,5 @@
 // The tables.
-ghost use Rattle.std.specs.Prelude.{◌≡◌, ◌++◌, ◌∷◌, ◌<◌, [], true, drop, length, slice_get, slice_index_or, slice_set, IfOk, OnOk, OnErr};
+ghost use Rattle.std.specs.Prelude.{◌≡◌, ◌++◌, ◌∷◌, ◌<◌, [], true, drop, is_some, length, slice_get, slice_index_or, slice_set, IfOk, OnOk, OnErr};
 ghost use Rattle.eng_value.specs.Environments.{column_of};
 ghost use Rattle.eng_value.specs.StoredRows.{next_rowid};
 ghost use Rattle.eng_value.specs.declared.value.Value.TheVariants.{Null};
@@ -164,6 +164,16 @@ impl Tables {
         ensures { result ≡ on_row (row_under (rows_of self.now.world table) rowid) }
     {
         self.tables.get(table as usize)?.rowid(rowid, near)
+    }
+
+    /// Whether a table has a row of this rowid. In constant time for one that is not below the last row's.
+    pub fn has(&self, table: u32, rowid: i64) -> bool
+        ensures { result ≡ is_some (row_under (rows_of self.now.world table) rowid) }
+    {
+        match self.tables.get(table as usize) {
+            None => false,
+            Some(table) => table.has(rowid),
+        }
     }
 
     /// Whether there is the table, and it has no row of this rowid.

@@ -74,6 +74,9 @@ returns-in-Copy-clause-leads c ask = rw c.in-Copy.is (c.put_copy.ensures c.args.
 pub returns-in-Affinity-clause-leads : goal.returns-in-Affinity-clause-leads
 returns-in-Affinity-clause-leads c ask = rw c.in-Affinity.is (c.store_as.ensures c.args.event.now c.args.tables.now.world)
 
+pub returns-in-MustBeInt-clause-leads : goal.returns-in-MustBeInt-clause-leads
+returns-in-MustBeInt-clause-leads c ask = rw c.in-MustBeInt.is (c.must_be_int.ensures c.args.tables.now.world)
+
 pub returns-in-Unary-clause-leads : goal.returns-in-Unary-clause-leads
 returns-in-Unary-clause-leads c ask =
     let m = setting no_hosts ask c.args.params.now c.args.program.now in
@@ -116,6 +119,9 @@ returns-in-OpenRead-clause-leads c ask = rw c.in-OpenRead.is (c.open.ensures c.a
 pub returns-in-OpenWrite-clause-leads : goal.returns-in-OpenWrite-clause-leads
 returns-in-OpenWrite-clause-leads c ask = rw c.in-OpenWrite.is (c.open-in-OpenWrite.ensures c.args.event.now c.args.tables.now.world)
 
+pub returns-in-RowOf-clause-leads : goal.returns-in-RowOf-clause-leads
+returns-in-RowOf-clause-leads c ask = rw c.in-RowOf.is (c.stand_on.ensures c.args.event.now c.args.tables.now.world)
+
 pub returns-in-Close-clause-leads : goal.returns-in-Close-clause-leads
 returns-in-Close-clause-leads c ask = rw c.in-Close.is (c.close.ensures c.args.event.now c.args.tables.now.world)
 
@@ -133,6 +139,9 @@ returns-in-Column-clause-leads c ask = rw c.in-Column.is (c.put_column.ensures c
 
 pub returns-in-Rowid-clause-leads : goal.returns-in-Rowid-clause-leads
 returns-in-Rowid-clause-leads c ask = rw c.in-Rowid.is (c.put_rowid.ensures c.args.event.now)
+
+pub returns-in-NotExists-clause-leads : goal.returns-in-NotExists-clause-leads
+returns-in-NotExists-clause-leads c ask = rw c.in-NotExists.is (c.jump_where_missing.ensures c.args.event.now)
 
 pub returns-in-NewRowid-clause-leads : goal.returns-in-NewRowid-clause-leads
 returns-in-NewRowid-clause-leads c ask = rw c.in-NewRowid.is c.new_rowid.ensures
