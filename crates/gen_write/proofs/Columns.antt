@@ -1,13 +1,14 @@
 -- What columns store, in registers one after another, and their causes in one register.
-use Rattle.std.proofs.Common.{◌≡◌, ◌≢◌, ℕ, zero, suc, ◌+◌, ◌*◌, ◌≤◌, ◌<◌, List, [], ◌∷◌, ◌++◌, length, map, fold, get_or, take, true, Some, None, refl, sym, ap, ◌∙◌, subst, arith, length-append}
+use Rattle.std.proofs.Common.{◌≡◌, ◌≢◌, ℕ, zero, suc, ◌+◌, ◌≤◌, ◌<◌, List, [], ◌∷◌, ◌++◌, length, map, fold, get_or, take, true, sum_by, Some, None, refl, sym, ap, ◌∙◌, subst, arith, length-append}
 use Rattle.std.specs.Prelude.{slice_get, slice_index_or, slice_set}
 use Rattle.std.specs.declared.option.Option.{Option}
 use Rattle.std.proofs.Math.ListN.{length-set}
 use Rattle.std.proofs.lemmas.List.{get_or-set_same, get_or-set_other, length-map, map-append, take_more}
-use Rattle.std.proofs.lemmas.List.Sums.{fold-append}
+use Rattle.std.proofs.lemmas.List.Sums.{fold-append, sum_by-append}
+use Rattle.bound_tree.specs.Exprs.{BoundExpr}
 use Rattle.eng_value.specs.Applied.{merged}
 use Rattle.eng_value.specs.Casts.{store_as}
-use Rattle.eng_value.specs.Environments.{no_causes, with_causes}
+use Rattle.eng_value.specs.Environments.{Environment, no_causes, with_causes}
 use Rattle.eng_value.specs.Outs.{turned}
 use Rattle.eng_value.specs.declared.affinity.Affinity.{Affinity}
 use Rattle.eng_value.specs.declared.affinity.Affinity.TheVariants as affinity
@@ -15,21 +16,22 @@ use Rattle.eng_value.specs.declared.out.Out.{Out}
 use Rattle.eng_value.specs.declared.out.Out.TheVariants.{Good}
 use Rattle.eng_value.specs.declared.value.Value.{Value}
 use Rattle.eng_value.specs.declared.value.Value.TheVariants.{Null, Integer, Text, Blob}
-use Rattle.gen_write.specs.Stretches.{AreHeld, AreKept, HoldsKept, HoldsLiteral, Loads, SameBut, Stores, kept_at, kept_out, out_loaded, placed_for, stays}
-use Rattle.gen_write.specs.Writes.{stored_as}
+use Rattle.gen_expr.specs.Steps.{steps_of}
+use Rattle.gen_write.specs.Stretches.{AreHeld, AreKept, HoldsKept, HoldsLiteral, Loads, SameBut, Stored, Stores, kept_at, kept_out, out_loaded, stays, with_stored}
+use Rattle.gen_write.specs.Writes.{column_steps, column_with, stored_steps}
 use Rattle.gen_write.specs.declared.source.Kept.{Kept}
 use Rattle.gen_write.specs.declared.source.Kept.TheVariants as kept
-use Rattle.sql_meaning.specs.Expression.{literal_out}
-use Rattle.sql_meaning.specs.Statement.{value_at}
+use Rattle.sql_meaning.specs.Expression.{literal_out, value_of}
+use Rattle.sql_meaning.specs.Rows.{stored_for, value_for}
 use Rattle.sql_words.specs.declared.literal.Literal.{Literal}
 use Rattle.sql_words.specs.declared.literal.Literal.TheVariants as literal
 use Rattle.sql_meaning.specs.declared.bound.PutColumn.{PutColumn}
 use Rattle.vm_code.specs.declared.op.Op.{Op}
 use Rattle.vm_code.specs.declared.op.Op.TheVariants as op
 use Rattle.vm_code.specs.Draft.{Draft, with_op, taken}
-use Rattle.vm_code.specs.Tracked.{GoesOn}
+use Rattle.vm_code.specs.Tracked.{GoesOn, Steady}
 use Rattle.vm_code.specs.Machine.{On, Setting, State, act, outs_from, put, read, Reaches}
-use Rattle.vm_code.specs.Frames.{placed, Here, here, with_regs, Calls, Leaves}
+use Rattle.vm_code.specs.Frames.{placed, Grows, Here, Holds, Left, Ready, environment_of, here, with_regs, Calls, Leaves}
 use Rattle.vm_code.specs.Claims.{Claim, Labels, Last, on, Triple}
 use Rattle.vm_code.proofs.Runs.{leads_more, leads_then, reaches_none, reaches_op}
 use Rattle.vm_code.proofs.Drafts.{at_op, extends, g_op, g_taken, grows_none, grows_then, long_op}
@@ -40,9 +42,9 @@ use Rattle.vm_code.proofs.Triples.{ready_less}
 -- ---- a value is loaded
 
 -- what is loaded of a row's values is the one at the place
-pub loaded_is : (row : List Kept) (values : List Value) (q : List Out) (place : Option ℕ) → map (kept_out q) row ≡ map Good values → out_loaded q (kept_at row place) ≡ Good (value_at values place)
-loaded_is row values q None e = refl
-loaded_is row values q (Some place) e = by row values place e
+pub loaded_is : (env : Environment) (row : List Kept) (values : List Value) (q : List Out) (place : Option ℕ) → map (kept_out q) row ≡ map Good values → out_loaded q (kept_at row place) ≡ value_for env values place None
+loaded_is env row values q None e = refl
+loaded_is env row values q (Some place) e = by row values place e
   where
     by : (row : List Kept) (values : List Value) (k : ℕ) → map (kept_out q) row ≡ map Good values → out_loaded q (slice_get row k) ≡ Good (slice_index_or values k Null)
     by [] [] k e = refl
@@ -132,8 +134,12 @@ outs_both r first os ps old new =
     ∙ ap (λ z. os ++ z) new
 
 -- as many as there are columns
-pub stored-long : (columns : List PutColumn) (values : List Value) → length (stored_as columns values) ≡ length columns
-stored-long columns values = length-map columns (λ (c : PutColumn). store_as c.affinity (value_at values c.place))
+pub stored-long : (env : Environment) (columns : List PutColumn) (values : List Value) → length (stored_for env columns values) ≡ length columns
+stored-long env columns values =
+    length-map columns (λ (c : PutColumn). turned (store_as c.affinity) (value_for env values c.place c.default))
+
+pub stored-append : (env : Environment) (xs ys : List PutColumn) (values : List Value) → stored_for env (xs ++ ys) values ≡ stored_for env xs values ++ stored_for env ys values
+stored-append env xs ys values = map-append (λ (c : PutColumn). turned (store_as c.affinity) (value_for env values c.place c.default)) xs ys
 
 -- some columns and then others
 pub stores_then : {calls : Calls} {a b c : Draft} (causes : ℕ) (row : List Kept) (xs ys : List PutColumn) → causes < a.next → Stores calls a b causes row xs → Stores calls b c causes row ys → Stores calls a c causes row (xs ++ ys)
@@ -143,11 +149,11 @@ stores_then {calls} {a} {b} {c} causes row xs ys below x y = record {
   counted = y.counted;
   steady = st_then x.grows x.steady y.steady;
   stores = λ m called u at h s room start values kept_now.
-      let os = stored_as xs values in
-      let ps = stored_as ys values in
-      let outs : stored_as (xs ++ ys) values ≡ os ++ ps = map-append (λ (c : PutColumn). store_as c.affinity (value_at values c.place)) xs ys in
-      let long_os : length os ≡ length xs = stored-long xs values in
-      let long_ps : length ps ≡ length ys = stored-long ys values in
+      let env = environment_of m (here s) in
+      let os = stored_for env xs values in
+      let ps = stored_for env ys values in
+      let outs : stored_for env (xs ++ ys) values ≡ os ++ ps = stored-append env xs ys values in
+      let long_os : length os ≡ length xs = stored-long env xs values in
       let l = x.stores m called u at (y.grows.holds m.prog u at h) s (ready_less room y.grows.most y.grows.cursors) start values kept_now in
       let t : State = record s { pc = length b.code; regs = l.regs } in
       let kept_then : AreKept causes b.next row values t.regs = λ q same. kept_now q (λ k lt ne. same k (omega (arith, lt, x.next)) ne ∙ l.keeps k lt ne) in
@@ -157,7 +163,7 @@ stores_then {calls} {a} {b} {c} causes row xs ys below x y = record {
       let new : outs_from v.regs (a.next + length os) (length ps) ≡ ps = ap (λ j. outs_from v.regs j (length ps)) place ∙ v.has in
       record {
         regs = v.regs;
-        way = leads_more m (3 * length (xs ++ ys)) (omega (arith, length-append xs ys)) (leads_then m l.way v.way);
+        way = leads_more m (sum_by column_steps (xs ++ ys)) (omega (arith, sum_by-append column_steps xs ys)) (leads_then m l.way v.way);
         long = v.long ∙ l.long;
         has = subst (λ z. outs_from v.regs a.next (length z) ≡ z) (sym outs) (outs_both v.regs a.next os ps old new);
         gathers = v.gathers ∙ ap (λ o. fold with_causes o ps) l.gathers ∙ sym (fold-append with_causes (read s.regs causes) os ps) ∙ ap (fold with_causes (read s.regs causes)) (sym outs);
@@ -165,27 +171,47 @@ stores_then {calls} {a} {b} {c} causes row xs ys below x y = record {
       };
 }
 
--- one column
-pub stores_column : {calls : Calls} {a z : Draft} (c : PutColumn) (row : List Kept) (to causes : ℕ) → to ≡ a.next → causes < a.next → a.next ≤ a.most → Loads calls (taken a) z to (kept_at row c.place) → Stores calls a (with_op (with_op z (op.Affinity to c.affinity)) (op.Merge to causes)) causes row (c ∷ [])
-stores_column {calls} {a} {z} c row to causes to_is below counted x =
+-- ---- one column
+
+-- code that leaves in a register what is to be stored
+abbrev pub LeavesFor : Calls → Draft → Draft → ℕ → ℕ → List Kept → (Environment → List Value → Out) → ℕ → Type 0
+LeavesFor calls a z to causes row f most =
+    (m : Setting) → calls m → (u : ℕ) (at : ℕ → ℕ) → Holds z m.prog u at → (s : State) → Ready z u s → s.pc ≡ length a.code → (values : List Value) → AreKept causes a.next row values s.regs
+    → Left m most s (length z.code) (a.next + 1) to (f (environment_of m (here s)) values)
+
+pub loads_for : {calls : Calls} (a : Draft) {z : Draft} (to causes : ℕ) (row : List Kept) (place : Option ℕ) → Loads calls (taken a) z to (kept_at row place) → LeavesFor calls a z to causes row (λ env values. value_for env values place None) 1
+loads_for a to causes row place x m called u at h s room start values kept_now =
+    let l = x.loads m called u at h s room start in
+    record {
+      regs = l.regs;
+      way = l.way;
+      long = l.long;
+      has = l.has ∙ loaded_is (environment_of m (here s)) row values s.regs place (kept_now s.regs (λ k lt ne. refl));
+      keeps = l.keeps;
+    }
+
+pub default_for : {calls : Calls} (a : Draft) {z : Draft} (to causes : ℕ) (row : List Kept) (x : BoundExpr) → Leaves calls (taken a) z to (λ env. value_of x env) (λ env. steps_of x) → LeavesFor calls a z to causes row (λ env values. value_for env values None (Some x)) (steps_of x)
+default_for a to causes row e x m called u at h s room start values kept_now = x.leaves m called u at h s room start
+
+pub stores_column : {calls : Calls} {a z : Draft} (c : PutColumn) (row : List Kept) (to causes most : ℕ) → to ≡ a.next → causes < a.next → a.next ≤ a.most → most + 2 ≤ column_steps c → Grows (taken a) z → z.next ≡ a.next + 1 → Steady [] [] (taken a) z → LeavesFor calls a z to causes row (λ env values. value_for env values c.place c.default) most → Stores calls a (with_stored z c.affinity to causes) causes row (c ∷ [])
+stores_column {calls} {a} {z} c row to causes most to_is below counted few grows next steady x =
     let affinity = op.Affinity to c.affinity in
     let merge = op.Merge to causes in
     let b = with_op z affinity in
     record {
-      grows = grows_then (g_taken a) (grows_then x.grows (grows_then (g_op z affinity) (g_op b merge)));
-      next = omega (arith, x.next);
-      counted = omega (arith, x.next, x.grows.most);
-      steady = st_then (g_taken a) (st_taken [] [] a) (st_then x.grows x.steady (st_then (g_op z affinity) (st_op [] [] z affinity (refl, refl)) (st_op [] [] b merge (refl, refl))));
+      grows = grows_then (g_taken a) (grows_then grows (grows_then (g_op z affinity) (g_op b merge)));
+      next = omega (arith, next);
+      counted = omega (arith, next, grows.most);
+      steady = st_then (g_taken a) (st_taken [] [] a) (st_then grows steady (st_then (g_op z affinity) (st_op [] [] z affinity (refl, refl)) (st_op [] [] b merge (refl, refl))));
       stores = λ m called u at h s room start values kept_now.
-          let out = store_as c.affinity (value_at values c.place) in
+          let out = turned (store_as c.affinity) (value_for (environment_of m (here s)) values c.place c.default) in
           let hb = (g_op b merge).holds m.prog u at h in
           let hz = (g_op z affinity).holds m.prog u at hb in
-          let l = x.loads m called u at hz s (ready_less room (omega arith) (omega arith)) start in
-          let long : to < length l.regs = omega (arith, l.long, room.regs, x.grows.most, to_is) in
-          let loaded : read l.regs to ≡ Good (value_at values c.place) = l.has ∙ loaded_is row values s.regs c.place (kept_now s.regs (λ k lt ne. refl)) in
+          let l = x m called u at hz s (ready_less room (omega arith) (omega arith)) start values kept_now in
+          let long : to < length l.regs = omega (arith, l.long, room.regs, grows.most, to_is) in
           let turned_out = turned (store_as c.affinity) (read l.regs to) in
           let q = slice_set l.regs to turned_out in
-          let stored : read q to ≡ out = get_or-set_same l.regs to turned_out _ long ∙ ap (turned (store_as c.affinity)) loaded in
+          let stored : read q to ≡ out = get_or-set_same l.regs to turned_out _ long ∙ ap (turned (store_as c.affinity)) l.has in
           let v = merged (read q to) (read q causes) in
           let t : State = record s { pc = length z.code; regs = l.regs } in
           let then : State = record t { pc = length z.code + 1; regs = q } in
@@ -199,7 +225,7 @@ stores_column {calls} {a} {z} c row to causes to_is below counted x =
           let same : read q causes ≡ read s.regs causes = get_or-set_other l.regs to causes turned_out _ apart ∙ l.keeps causes (omega arith) apart in
           record {
             regs = slice_set q causes v;
-            way = subst (λ p. Reaches m 3 s (record s { pc = p; regs = slice_set q causes v })) (sym (long_op b merge)) (leads_more m 3 (omega arith) (leads_then m l.way (leads_then m first_at way)));
+            way = subst (λ p. Reaches m (sum_by column_steps (c ∷ [])) s (record s { pc = p; regs = slice_set q causes v })) (sym (long_op b merge)) (leads_more m (sum_by column_steps (c ∷ [])) (omega (arith, few)) (leads_then m l.way (leads_then m first_at way)));
             long = length-set q causes v ∙ length-set l.regs to turned_out ∙ l.long;
             has = ap (λ o. o ∷ []) (get_or-set_other q causes a.next v _ (omega (arith, below)) ∙ ap (read q) (sym to_is) ∙ stored);
             gathers = get_or-set_same q causes v _ fits ∙ ap (λ o. merged o (read q causes)) stored ∙ ap (merged out) same;
@@ -207,29 +233,27 @@ stores_column {calls} {a} {z} c row to causes to_is below counted x =
           };
     }
 
--- one that stores the value as it is
-pub stores_held : {calls : Calls} {a z : Draft} (c : PutColumn) (row : List Kept) (to causes : ℕ) → to ≡ a.next → causes < a.next → a.next ≤ a.most → AreHeld row (c ∷ []) → Loads calls (taken a) z to (kept_at row c.place) → Stores calls a z causes row (c ∷ [])
-stores_held {calls} {a} {z} c row to causes to_is below counted held x = record {
-  grows = grows_then (g_taken a) x.grows;
-  next = omega (arith, x.next);
-  counted = omega (arith, x.next, x.grows.most);
-  steady = st_then (g_taken a) (st_taken [] [] a) x.steady;
+-- the same of a column that takes the same value
+pub stores_as : {calls : Calls} {a b : Draft} (causes : ℕ) (row : List Kept) (c d : PutColumn) → ((env : Environment) (values : List Value) → stored_for env (c ∷ []) values ≡ stored_for env (d ∷ []) values) → column_steps c ≤ column_steps d → Stores calls a b causes row (c ∷ []) → Stores calls a b causes row (d ∷ [])
+stores_as {calls} {a} {b} causes row c d same few x = record {
+  grows = x.grows;
+  next = x.next;
+  counted = x.counted;
+  steady = x.steady;
   stores = λ m called u at h s room start values kept_now.
-      let value = value_at values c.place in
-      let l = x.loads m called u at h s (ready_less room (omega arith) (omega arith)) start in
-      let same = kept_now s.regs (λ k lt ne. refl) in
-      let loaded : read l.regs to ≡ Good value = l.has ∙ loaded_is row values s.regs c.place same in
-      let outs : stored_as (c ∷ []) values ≡ Good value ∷ [] = held s.regs values same in
-      let apart : causes ≢ to = omega (arith, to_is, below) in
-      record {
+      let l = x.stores m called u at h s room start values kept_now in
+      subst (Stored m (sum_by column_steps (d ∷ [])) s (length b.code) a.next causes) (same (environment_of m (here s)) values) (record {
         regs = l.regs;
-        way = leads_more m 3 (omega arith) l.way;
+        way = leads_more m (sum_by column_steps (d ∷ [])) (omega (arith, few)) l.way;
         long = l.long;
-        has = subst (λ os. outs_from l.regs a.next (length os) ≡ os) (sym outs) (ap (λ o. o ∷ []) (ap (read l.regs) (sym to_is) ∙ loaded));
-        gathers = l.keeps causes (omega arith) apart ∙ ap (fold with_causes (read s.regs causes)) (sym outs);
-        keeps = λ k lt ne. l.keeps k (omega arith) (omega (arith, to_is, lt));
-      };
+        has = l.has;
+        gathers = l.gathers;
+        keeps = l.keeps;
+      });
 }
+
+pub held_as : (row : List Kept) (c d : PutColumn) → ((env : Environment) (values : List Value) → stored_for env (c ∷ []) values ≡ stored_for env (d ∷ []) values) → AreHeld row (c ∷ []) → AreHeld row (d ∷ [])
+held_as row c d same x q values env kept_now = ap (fold with_causes no_causes) (sym (same env values)) ∙ x q values env kept_now
 
 -- ---- what is held
 
@@ -251,40 +275,69 @@ stays_is affinity.Text (Blob t) e = refl
 stays_is affinity.Blob v e = refl
 stays_is affinity.None v e = refl
 
-held_place : (a : Affinity) (k : Option Kept) (v : Value) (q : List Out) → HoldsKept a k → out_loaded q k ≡ Good v → store_as a v ≡ Good v
-held_place a None v q h e = let is : Null ≡ v = cc in subst (λ w. store_as a w ≡ Good w) is (stays_is a Null h)
+held_place : (a : Affinity) (k : Option Kept) (v : Out) (q : List Out) → HoldsKept a k → out_loaded q k ≡ v → (w : Value) × (v ≡ Good w) × (turned (store_as a) v ≡ v)
+held_place a None v q h e = (Null, sym e, ap (turned (store_as a)) (sym e) ∙ stays_is a Null h ∙ e)
 held_place a (Some (kept.Literal l)) v q h e = by l.now h e
   where
-    by : (l : Literal) → HoldsLiteral a l → literal_out l ≡ Good v → store_as a v ≡ Good v
-    by (literal.Value w) h e = let is : w ≡ v = cc in subst (λ w. store_as a w ≡ Good w) is (stays_is a w h)
+    by : (l : Literal) → HoldsLiteral a l → literal_out l ≡ v → (w : Value) × (v ≡ Good w) × (turned (store_as a) v ≡ v)
+    by (literal.Value w) h e = (w, sym e, ap (turned (store_as a)) (sym e) ∙ stays_is a w h ∙ e)
     by (literal.Bad why) h e = absurd h
 held_place a (Some (kept.Register r)) v q h e = absurd h
 
-pub held_one : (c : PutColumn) (row : List Kept) → HoldsKept c.affinity (kept_at row c.place) → AreHeld row (c ∷ [])
-held_one c row h q values same =
-    ap (λ o. o ∷ []) (held_place c.affinity (kept_at row c.place) (value_at values c.place) q h (loaded_is row values q c.place same))
+-- a column that stores its value as it is
+pub held_one : (a : Affinity) (place : Option ℕ) (row : List Kept) → HoldsKept a (kept_at row place) → AreHeld row (column_with a place None ∷ [])
+held_one a place row h q values env same =
+    let known = held_place a (kept_at row place) (value_for env values place None) q h (loaded_is env row values q place same) in
+    ap (λ o. with_causes no_causes o) (known.2 ∙ known.1)
+
+pub stores_held : {calls : Calls} {a z : Draft} (affinity : Affinity) (place : Option ℕ) (row : List Kept) (to causes : ℕ) → to ≡ a.next → causes < a.next → a.next ≤ a.most → HoldsKept affinity (kept_at row place) → Loads calls (taken a) z to (kept_at row place) → Stores calls a z causes row (column_with affinity place None ∷ [])
+stores_held {calls} {a} {z} affinity place row to causes to_is below counted held x =
+    let few : 1 ≤ column_steps (column_with affinity place None) = one_within place in
+    record {
+      grows = grows_then (g_taken a) x.grows;
+      next = omega (arith, x.next);
+      counted = omega (arith, x.next, x.grows.most);
+      steady = st_then (g_taken a) (st_taken [] [] a) x.steady;
+      stores = λ m called u at h s room start values kept_now.
+          let env = environment_of m (here s) in
+          let same = kept_now s.regs (λ k lt ne. refl) in
+          let known = held_place affinity (kept_at row place) (value_for env values place None) s.regs held (loaded_is env row values s.regs place same) in
+          let l = loads_for a to causes row place x m called u at h s (ready_less room (omega arith) (omega arith)) start values kept_now in
+          let apart : causes ≢ to = omega (arith, to_is, below) in
+          record {
+            regs = l.regs;
+            way = leads_more m (sum_by column_steps (column_with affinity place None ∷ [])) (omega (arith, few)) l.way;
+            long = l.long;
+            has = ap (λ o. o ∷ []) (ap (read l.regs) (sym to_is) ∙ l.has ∙ sym known.2);
+            gathers = l.keeps causes (omega arith) apart ∙ sym (ap (λ o. with_causes (read s.regs causes) o) (known.2 ∙ known.1));
+            keeps = λ k lt ne. l.keeps k (omega arith) (omega (arith, to_is, lt));
+          };
+    }
+  where
+    one_within : (place : Option ℕ) → 1 ≤ stored_steps place None
+    one_within None = omega arith
+    one_within (Some k) = omega arith
+
+pub value_few : (affinity : Affinity) (place : Option ℕ) → 1 + 2 ≤ column_steps (column_with affinity place None)
+value_few affinity None = omega arith
+value_few affinity (Some k) = omega arith
 
 pub held_none : (row : List Kept) → AreHeld row []
-held_none row q values same = refl
+held_none row q values env same = refl
 
 pub held_then : (row : List Kept) (xs ys : List PutColumn) → AreHeld row xs → AreHeld row ys → AreHeld row (xs ++ ys)
-held_then row xs ys x y q values same =
-    map-append (λ (c : PutColumn). store_as c.affinity (value_at values c.place)) xs ys
-    ∙ ap (λ os. os ++ stored_as ys values) (x q values same)
-    ∙ ap (λ os. map Good (placed_for xs values) ++ os) (y q values same)
-    ∙ sym (ap (map Good) (map-append (λ (c : PutColumn). value_at values c.place) xs ys) ∙ map-append Good (placed_for xs values) (placed_for ys values))
+held_then row xs ys x y q values env same =
+    ap (fold with_causes no_causes) (stored-append env xs ys values)
+    ∙ fold-append with_causes no_causes (stored_for env xs values) (stored_for env ys values)
+    ∙ ap (λ o. fold with_causes o (stored_for env ys values)) (x q values env same)
+    ∙ y q values env same
 
 -- a column more of a list
 pub held_next : (row : List Kept) (all : List PutColumn) (i : ℕ) (d : PutColumn) → i < length all → AreHeld row (take i all) → AreHeld row (get_or all i d ∷ []) → AreHeld row (take (i + 1) all)
 held_next row all i d lt x y = subst (AreHeld row) (sym (take_more all i d lt)) (held_then row (take i all) (get_or all i d ∷ []) x y)
 
--- where all are there are no causes
-pub held_calm : (values : List Value) → fold with_causes no_causes (map Good values) ≡ no_causes
-held_calm [] = refl
-held_calm (v ∷ values) = held_calm values
-
 -- code that stores columns, inside another stretch
-pub t_stores : (m : Setting) {calls : Calls} {a b : Draft} {causes : ℕ} {row : List Kept} {columns : List PutColumn} (called : calls m) (values : List Value) (g : Labels) (e : Last) (p q : Claim) → Stores calls a b causes row columns → ((h0 h : Here) → p h0 h → AreKept causes a.next row values h.regs) → ((h0 h : Here) (regs : List Out) → p h0 h → length regs ≡ length h.regs → outs_from regs a.next (length (stored_as columns values)) ≡ stored_as columns values → read regs causes ≡ fold with_causes (read h.regs causes) (stored_as columns values) → SameBut causes a.next h.regs regs → q h0 (with_regs h regs)) → Triple m a b (λ h0. 3 * length columns) g e p q
+pub t_stores : (m : Setting) {calls : Calls} {a b : Draft} {causes : ℕ} {row : List Kept} {columns : List PutColumn} (called : calls m) (values : List Value) (g : Labels) (e : Last) (p q : Claim) → Stores calls a b causes row columns → ((h0 h : Here) → p h0 h → AreKept causes a.next row values h.regs) → ((h0 h : Here) (regs : List Out) → p h0 h → let outs = stored_for (environment_of m h) columns values in outs_from regs a.next (length outs) ≡ outs → read regs causes ≡ fold with_causes (read h.regs causes) outs → SameBut causes a.next h.regs regs → q h0 (with_regs h regs)) → Triple m a b (λ h0. sum_by column_steps columns) g e p q
 t_stores m called values g e p q x kept_now goes = record {
   extends = extends x.grows;
   runs = λ u at h h0 s room start pre.
@@ -297,7 +350,7 @@ t_stores m called values g e p q x kept_now goes = record {
         way = l.way;
         long = l.long;
         wide = refl;
-        holds = goes h0 (here s) l.regs pre l.long l.has l.gathers l.keeps;
+        holds = goes h0 (here s) l.regs pre l.has l.gathers l.keeps;
       });
 }
 

@@ -1,54 +1,174 @@
 -- The code of a row puts it.
-use Rattle.std.proofs.Common.{◌≡◌, ◌≢◌, ℕ, ◌+◌, ◌-◌, ◌*◌, ◌≤◌, ◌<◌, Bool, List, [], ◌∷◌, true, false, length, map, fold, ℤ, pos, Some, None, Contains, refl, sym, ap, ◌∙◌, subst, arith, inl, inr, ◌⊎◌}
-use Rattle.std.specs.Prelude.{slice_set, unwrap_or}
-use Rattle.std.specs.declared.option.Option.{Option}
+use Rattle.std.proofs.Common.{◌≡◌, ◌≢◌, ℕ, zero, suc, ◌+◌, ◌≤◌, ◌<◌, Bool, List, [], ◌∷◌, ◌++◌, true, false, length, map, fold, sum_by, ℤ, pos, Option, Some, None, All, Contains, Ok, is_some, if◌then◌else◌, refl, sym, ap, ◌∙◌, subst, arith, inr, ◌⊎◌, ⊎_elim, length-append}
+use Rattle.std.specs.Prelude.{slice_index_or, slice_set}
 use Rattle.std.proofs.Math.ListN.{length-set}
-use Rattle.std.proofs.lemmas.List.{get_or-set_same, get_or-set_other}
-use Rattle.eng_value.specs.Causes.{only}
-use Rattle.eng_value.specs.Environments.{no_causes, with_causes}
+use Rattle.std.proofs.lemmas.List.{length-map, map-append, map-set}
+use Rattle.std.proofs.lemmas.List.Elements.{All-cons, All-nil}
+use Rattle.std.proofs.lemmas.List.Sums.{sum_by-append}
+use Rattle.eng_number.specs.Numbers.{fits_integer}
+use Rattle.eng_value.specs.Causes.{CauseSet, only}
+use Rattle.eng_value.specs.Environments.{Environment, no_causes, with_causes}
 use Rattle.eng_value.specs.StoredRows.{StoredRow, next_rowid}
-use Rattle.eng_value.specs.declared.cause.Cause.TheVariants.{Full}
+use Rattle.eng_value.specs.Written.{Written}
+use Rattle.eng_value.specs.declared.cause.Cause.TheVariants.{Constraint, Full, Mismatch}
+use Rattle.eng_value.specs.declared.cause.ConstraintKind.TheVariants as constraint
 use Rattle.eng_value.specs.declared.out.Out.{Out}
-use Rattle.eng_value.specs.declared.out.Out.TheVariants.{Good, Bad}
+use Rattle.eng_value.specs.declared.out.Out.TheVariants.{Good}
 use Rattle.eng_value.specs.declared.value.Value.{Value}
-use Rattle.eng_value.specs.declared.value.Value.TheVariants.{Integer, Null}
-use Rattle.gen_write.specs.Stretches.{AreHeld, AreKept, Puts, Stores, placed_for, row_course, with_bad_refused, with_row_inserted, with_row_tested}
-use Rattle.gen_write.specs.Writes.{Course, failed, finished, row_put, row_steps, row_under, stored_as, with_row_put}
+use Rattle.eng_value.specs.declared.value.Value.TheVariants.{Integer, Null, Text, Blob}
+use Rattle.bound_tree.specs.Exprs.{BoundExpr}
+use Rattle.gen_write.specs.Stretches.{AreHeld, AreKept, ChecksRow, Puts, SameBut, SteadyAt, Stores, first_broken, rowid_register, scene_on, seen_from, with_nulls_refused, with_row_tested, with_rowid_fixed, with_taken_tested}
+use Rattle.gen_write.specs.Writes.{Course, checks_steps, column_steps, columns_beside, course_of, failed, finished, null_steps, row_effect, row_put, row_steps, rowid_given, rowid_steps}
 use Rattle.gen_write.specs.declared.source.Kept.{Kept}
-use Rattle.gen_write.proofs.Causing.{calm-good, item-bad, item-good}
-use Rattle.gen_write.proofs.Columns.{held_calm, stored-long, t_stores}
+use Rattle.gen_write.proofs.Causing.{calm-good}
+use Rattle.gen_write.proofs.Checking.{first_broken-same, t_passes}
+use Rattle.gen_write.proofs.Columns.{stored-append, stored-long, t_stores}
+use Rattle.gen_write.proofs.Fitting.{Stands, Missing, Beside, Within, beside-is, beside-long, effect_bad, effect_broken, effect_free, effect_null, effect_taken, effect_unfixed, new-bad, new-good, new_of, stands}
+use Rattle.gen_write.proofs.Fresh.{next_rowid-free}
+use Rattle.gen_write.proofs.Opens.{at_none, at_of, at_standing, at_then}
 use Rattle.gen_write.proofs.Refusals.{grows_refused, steady_refused, t_refused}
-use Rattle.gen_write.proofs.RowRuns.{HasFailed, HasRun, puts_of}
-use Rattle.sql_meaning.specs.Statement as meaning
+use Rattle.gen_write.proofs.RowRuns.{HasFailed, HasRun, IsSetAt, puts_of}
+use Rattle.gen_write.proofs.Testing.{grows_nulls, grows_taken, grows_tested, same_nulls, steady_nulls, steady_taken, steady_tested, t_draws, t_nulls, t_taken, t_tested}
+use Rattle.gen_write.proofs.Views.{scene_at, sees-none, sees-row, stored-same}
+use Rattle.sql_meaning.specs.Rows.{NewRow, at_row, drawn, fixed, given_rowid, good_or_null, is_taken, lacks_value, new_row, rowid_beside, stored_for, with_rowid_in}
+use Rattle.sql_meaning.specs.Steps.{Step, Done, Fails}
 use Rattle.sql_meaning.specs.declared.bound.BoundInsert.{BoundInsert}
+use Rattle.sql_meaning.specs.declared.bound.PutColumn.{PutColumn}
+use Rattle.sql_meaning.specs.declared.bound.RowidFrom.{RowidFrom}
+use Rattle.sql_meaning.specs.declared.bound.RowidFrom.TheVariants as rowid
 use Rattle.vm_code.specs.declared.op.Op.TheVariants as op
 use Rattle.vm_code.specs.Draft.{Draft, with_op, taken, released}
 use Rattle.vm_code.specs.Tracked.{Steady}
 use Rattle.vm_code.specs.Machine as machine
-use Rattle.vm_code.specs.Machine.{Open, Setting, Shared, State, On, GivesUp, act, cursor_at, cursor_rows, drawn, inserted, integer_in, integer_of, is_bad, leaving_of, outs_from, put, read, rows_of, values_from, world_of}
-use Rattle.vm_code.specs.Frames.{placed, Calls, Grows, Here, here, there, with_regs}
-use Rattle.vm_code.specs.Claims.{Claim, Last, Triple}
+use Rattle.vm_code.specs.Machine.{World, Closed, IsSound, Open, Setting, Shared, State, GivesUp, cursor_at, inserted, integer_in, integer_of, is_bad, is_integer, leaving_of, outs_from, read, row_in, row_under, rows_of, standing_on, values_from, with_row, world_of}
+use Rattle.vm_code.specs.Frames.{Calls, Grows, Here, environment_of, here, with_regs}
+use Rattle.vm_code.specs.Claims.{Claim, Labels, Last, Triple}
 use Rattle.vm_code.proofs.Drafts.{g_op, g_released, g_taken, grows_none, grows_then}
+use Rattle.vm_code.proofs.Kept.{ordered_rows}
+use Rattle.vm_code.proofs.Loops.{moved, t_move}
+use Rattle.vm_code.proofs.NewRows.{t_row_of}
 use Rattle.vm_code.proofs.Tracks.{st_inner, st_none, st_released, st_taken, st_then, st_use}
 use Rattle.vm_code.proofs.Registers.{outs_same, values_outs}
-use Rattle.vm_code.proofs.Triples.{no_labels, t_seq, t_use, t_more, t_draft, t_op, t_op_if, t_end, t_either}
+use Rattle.vm_code.proofs.Triples.{no_labels, t_seq, t_use, t_more, t_draft, t_op}
 use Rattle.vm_code.proofs.Effects.{But, but_none, but_regs}
 
--- the machine's word for what a register counts as in a row is the definitions'
-good_or_null-same : (outs : List Out) → map machine.good_or_null outs ≡ map meaning.good_or_null outs
-good_or_null-same [] = refl
-good_or_null-same (Good v ∷ outs) = ap (λ l. v ∷ l) (good_or_null-same outs)
-good_or_null-same (Bad c ∷ outs) = ap (λ l. Null ∷ l) (good_or_null-same outs)
+-- ---- registers
 
-module _ {calls : Calls} (a y refused : Draft) (cursor causes : ℕ) (insert : BoundInsert) (row : List Kept) (below : causes < a.next) (sy : Stores calls a y causes row insert.columns) (grows_tested : Grows y refused) (same_next : refused.next ≡ y.next) (steady_tested : (uses : List ℕ) → Steady uses [] y refused) where
+-- the first of them
+outs_prefix : (r : List Out) (first : ℕ) (xs ys : List Out) → outs_from r first (length (xs ++ ys)) ≡ xs ++ ys → outs_from r first (length xs) ≡ xs
+outs_prefix r first [] ys e = refl
+outs_prefix r first (x ∷ xs) ys e =
+    let all : read r first ∷ outs_from r (first + 1) (length (xs ++ ys)) ≡ x ∷ (xs ++ ys) = e in
+    let head : read r first ≡ x = cc in
+    let tail : outs_from r (first + 1) (length (xs ++ ys)) ≡ xs ++ ys = cc in
+    ap (λ o. o ∷ outs_from r (first + 1) (length xs)) head
+    ∙ ap (λ l. x ∷ l) (outs_prefix r (first + 1) xs ys tail)
+
+-- one of them
+outs_read : (r : List Out) (first : ℕ) (xs : List Out) (k : ℕ) (d : Out) → outs_from r first (length xs) ≡ xs → k < length xs → read r (first + k) ≡ slice_index_or xs k d
+outs_read r first [] k d e lt = absurd (omega (arith, lt))
+outs_read r first (x ∷ xs) zero d e lt =
+    let all : read r first ∷ outs_from r (first + 1) (length xs) ≡ x ∷ xs = e in
+    let place : first + 0 ≡ first = omega arith in
+    ap (read r) place ∙ cc
+outs_read r first (x ∷ xs) (suc k) d e lt =
+    let all : read r first ∷ outs_from r (first + 1) (length xs) ≡ x ∷ xs = e in
+    let tail : outs_from r (first + 1) (length xs) ≡ xs = cc in
+    let place : first + suc k ≡ first + 1 + k = omega arith in
+    ap (read r) place ∙ outs_read r (first + 1) xs k d tail (omega arith)
+
+-- of which one is another
+outs_set : (r q : List Out) (n first i : ℕ) (v : Out) → read q (first + i) ≡ v → ((k : ℕ) → k ≢ first + i → read q k ≡ read r k) → outs_from q first n ≡ slice_set (outs_from r first n) i v
+outs_set r q zero first i v is same = refl
+outs_set r q (suc n) first zero v is same =
+    let place : first ≡ first + 0 = omega arith in
+    ap (λ o. o ∷ outs_from q (first + 1) n) (ap (read q) place ∙ is)
+    ∙ ap (λ l. v ∷ l) (outs_same q r n (first + 1) (λ k le lt. same k (omega (arith, le))))
+outs_set r q (suc n) first (suc i) v is same =
+    let place : first + 1 + i ≡ first + suc i = omega arith in
+    ap (λ o. o ∷ outs_from q (first + 1) n) (same first (omega arith))
+    ∙ ap (λ l. read r first ∷ l) (outs_set r q n (first + 1) i v (ap (read q) place ∙ is) (λ k ne. same k (λ e. ne (e ∙ sym place))))
+
+-- the machine's word for what a register counts as in a row is the definitions'
+good_or_null-same : (values : List Value) → map machine.good_or_null (map Good values) ≡ values
+good_or_null-same [] = refl
+good_or_null-same (v ∷ values) = ap (λ l. v ∷ l) (good_or_null-same values)
+
+read-good : (values : List Value) (k : ℕ) → slice_index_or (map Good values) k (Good Null) ≡ Good (slice_index_or values k Null)
+read-good [] k = refl
+read-good (v ∷ values) zero = refl
+read-good (v ∷ values) (suc k) = read-good values k
+
+good-is : {v w : Value} → Good v ≡ Good w → v ≡ w
+good-is e = cc
+
+-- a family of stretches over what is claimed of some number
+t_some : {m : Setting} {a b : Draft} {n : Here → ℕ} {g : Labels} {e : Last} {q : Claim} (p : ℤ → Claim) → ((k : ℤ) → Triple m a b n g e (p k) q) → Triple m a b n g e (λ h0 h. (k : ℤ) × p k h0 h) q
+t_some p x = record { extends = (x (pos 0)).extends; runs = λ u at h h0 s room start pre. (x pre.0).runs u at h h0 s room start pre.1 }
+
+-- ---- a rowid that is fixed
+
+null-is : (v : Value) → machine.is_null (Good v) ≡ true → v ≡ Null
+null-is Null e = refl
+null-is (Integer n) e = absurd (cc)
+null-is (Text t) e = absurd (cc)
+null-is (Blob t) e = absurd (cc)
+
+fixed-drawn : (name : List ℕ) (rows : List StoredRow) (v : Value) (x : Written) (o : Option ℤ) → v ≡ Null → next_rowid rows ≡ o → fixed name rows v x ≡ drawn name o x
+fixed-drawn name rows v x o is next = ap (λ v. fixed name rows v x) is ∙ ap (λ o. drawn name o x) next
+
+fixed-given : (name : List ℕ) (rows : List StoredRow) (v : Value) (x : Written) (n : ℤ) → v ≡ Integer n → fits_integer n ≡ true → fixed name rows v x ≡ Done n x
+fixed-given name rows v x n is fits =
+    ap (λ v. fixed name rows v x) is ∙ ap (λ b. if b then Done n x else Fails (only Mismatch) x) fits
+
+fixed-wrong : (name : List ℕ) (rows : List StoredRow) (v : Value) (x : Written) → machine.is_null (Good v) ≡ false → is_integer (Good v) ≡ false → fixed name rows v x ≡ Fails (only Mismatch) x
+fixed-wrong name rows Null x e f = absurd (cc)
+fixed-wrong name rows (Integer n) x e f = ap (λ b. if b then Done n x else Fails (only Mismatch) x) f
+fixed-wrong name rows (Text t) x e f = refl
+fixed-wrong name rows (Blob t) x e f = refl
+
+drawn-some : (name : List ℕ) (o : Option ℤ) (x : Written) (n : ℤ) → drawn name o x ≡ Done n x → o ≡ Some n
+drawn-some name None x n e = absurd (cc)
+drawn-some name (Some k) x n e = ap (λ s. by s) e
+  where
+    by : Step ℤ → Option ℤ
+    by (Done k y) = Some k
+    by other = None
+
+-- how many instructions that takes
+abbrev fix_steps : Option ℕ → ℕ
+fix_steps None = 1
+fix_steps (Some k) = 4
+
+abbrev taken_steps : Option ℕ → ℕ
+taken_steps None = 0
+taken_steps (Some k) = 3
+
+steps-both : (o : Option ℕ) → fix_steps o + taken_steps o ≡ rowid_steps o
+steps-both None = refl
+steps-both (Some k) = refl
+
+with_rowid-long : (from : RowidFrom) (n : ℤ) (values : List Value) → length (with_rowid_in from n values) ≡ length values
+with_rowid-long rowid.Drawn n values = refl
+with_rowid-long (rowid.Given place) n values = refl
+with_rowid-long (rowid.Column place) n values = length-set values place (Integer n)
+
+stands-within : {from : RowidFrom} {values beside : List Value} {k : ℕ} → Stands from values beside (Some k) → k < length values + length beside
+stands-within (Beside k is lt e same) = lt
+stands-within (Within k lt e same) = omega (arith, lt)
+
+stands-is : {from : RowidFrom} {values beside : List Value} {k : ℕ} → Stands from values beside (Some k) → given_rowid from beside values ≡ slice_index_or (values ++ beside) k Null
+stands-is (Beside k is lt e same) = e
+stands-is (Within k lt e same) = e
+
+-- ---- the code
+
+module _ (calls : Calls) (a y c : Draft) (may : Bool) (o : Option ℕ) (causes : ℕ) (insert : BoundInsert) (row : List Kept) (below : causes < a.next) (cursors_are : a.cursors ≡ 2) where
   abbrev first : ℕ
   first = a.next
 
-  abbrev count : ℕ
-  count = y.next - first
-
-  abbrev rowid : ℕ
-  rowid = refused.next
+  abbrev width : ℕ
+  width = length insert.columns
 
   abbrev table : ℕ
   table = insert.table
@@ -56,224 +176,475 @@ module _ {calls : Calls} (a y refused : Draft) (cursor causes : ℕ) (insert : B
   abbrev name : List ℕ
   name = insert.name
 
-  abbrev taking : Draft
-  taking = taken refused
+  abbrev all_columns : List PutColumn
+  all_columns = insert.columns ++ columns_beside insert.rowid
 
-  abbrev drawing : Draft
-  drawing = with_op taking (op.NewRowid cursor rowid name)
+  abbrev refused : Draft
+  refused = with_row_tested may y causes
+
+  abbrev fixing : Draft
+  fixing = with_rowid_fixed o refused first name
+
+  abbrev rid : ℕ
+  rid = rowid_register o first refused.next
+
+  abbrev nulling : Draft
+  nulling = with_nulls_refused fixing insert.columns name first causes
+
+  abbrev finding : Draft
+  finding = with_taken_tested o c name rid causes
 
   abbrev putting : Draft
-  putting = with_op drawing (op.Insert cursor rowid first count)
+  putting = with_op finding (op.Insert 1 rid first width)
 
   abbrev pub row_code : Draft
-  row_code = released (with_row_inserted refused cursor first count name) first
+  row_code = released putting first
 
-  grows_putting : Grows refused putting
-  grows_putting =
-      grows_then (g_taken refused) (grows_then (g_op taking (op.NewRowid cursor rowid name)) (g_op drawing (op.Insert cursor rowid first count)))
+  module _ (sy : Stores calls a y causes row all_columns) (held : may ≡ false → AreHeld row all_columns) (checks : ChecksRow calls nulling c name insert.checks rid first width) (placed : (values beside : List Value) → width ≡ length values → length beside ≡ length (columns_beside insert.rowid) → Stands insert.rowid values beside o) where
+    -- ---- how drafts grow
 
-  grows_row : Grows a row_code
-  grows_row =
-      grows_then sy.grows (grows_then grows_tested (grows_then grows_putting (g_released putting first)))
+    abbrev uses : List ℕ
+    uses = 1 ∷ []
 
-  -- the cursor of the table
-  abbrev uses : List ℕ
-  uses = cursor ∷ []
+    used : All (Contains uses) uses
+    used = All-cons (Contains uses) 1 [] (0, omega arith, refl) (All-nil (Contains uses))
 
-  used : Contains uses cursor
-  used = (0, omega arith, refl)
+    grows_refusing : (may : Bool) → Grows y (with_row_tested may y causes)
+    grows_refusing true = grows_refused y causes
+    grows_refusing false = grows_none y
 
-  steady_putting : Steady uses [] refused putting
-  steady_putting =
-      st_then (g_taken refused) (st_taken uses [] refused) (st_then (g_op taking (op.NewRowid cursor rowid name)) (st_use uses [] taking (op.NewRowid cursor rowid name) cursor refl refl used) (st_use uses [] drawing (op.Insert cursor rowid first count) cursor refl refl used))
+    steady_refusing : (may : Bool) → Steady uses [] y (with_row_tested may y causes)
+    steady_refusing true = steady_refused y causes uses
+    steady_refusing false = st_none uses [] y
 
-  steady_row : Steady uses [] a row_code
-  steady_row =
-      st_then sy.grows (st_inner uses [] sy.steady) (st_then grows_tested (steady_tested uses) (st_then grows_putting steady_putting (st_released uses [] putting first)))
+    next_refusing : (may : Bool) → (with_row_tested may y causes).next ≡ y.next
+    next_refusing true = refl
+    next_refusing false = refl
 
-  module _ (kept_values : List Value) where
-    abbrev outs : List Out
-    outs = stored_as insert.columns kept_values
+    grows_fixing : (o : Option ℕ) → Grows refused (with_rowid_fixed o refused first name)
+    grows_fixing None = grows_then (g_taken refused) (g_op (taken refused) (op.NewRowid 1 refused.next name))
+    grows_fixing (Some k) = grows_tested refused (first + k) name
 
-    abbrev all : Out
-    all = fold with_causes no_causes outs
+    steady_fixing : (o : Option ℕ) → Steady uses [] refused (with_rowid_fixed o refused first name)
+    steady_fixing None =
+        st_then (g_taken refused) (st_taken uses [] refused) (st_use uses [] (taken refused) (op.NewRowid 1 refused.next name) 1 refl refl (0, omega arith, refl))
+    steady_fixing (Some k) = steady_tested refused (first + k) name
 
-    count_is : count ≡ length outs
-    count_is = omega (arith, sy.next, stored-long insert.columns kept_values)
+    next_fixing : (o : Option ℕ) → refused.next ≤ (with_rowid_fixed o refused first name).next
+    next_fixing None = omega arith
+    next_fixing (Some k) = omega arith
 
-    -- what is known on the way
-    abbrev course : Shared → Course
-    course = row_course insert kept_values
+    grows_taking : (o : Option ℕ) → Grows c (with_taken_tested o c name rid causes)
+    grows_taking None = grows_none c
+    grows_taking (Some k) = grows_taken c name rid causes
 
-    abbrev drawn_now : Here → Option ℤ
-    drawn_now h = next_rowid (rows_of (world_of h.shared) table)
+    steady_taking : (o : Option ℕ) → Steady uses [] c (with_taken_tested o c name rid causes)
+    steady_taking None = st_none uses [] c
+    steady_taking (Some k) = steady_taken c name rid causes
 
-    abbrev values : List Value
-    values = map meaning.good_or_null outs
+    grows_checking : (l : List BoundExpr) → ChecksRow calls nulling c name l rid first width → Grows nulling c
+    grows_checking [] e = subst (Grows nulling) (sym e) (grows_none nulling)
+    grows_checking (k ∷ ks) x =
+        subst (Grows nulling) (sym x.is) (grows_then (g_op nulling (op.RowOf 0 rid first width)) (grows_then x.checked.grows (g_op x.last (op.Close 0))))
 
-    abbrev started : Claim
-    started h0 h = But first causes h0 h × (cursor_at h.scene.cursors cursor ≡ Open table None)
+    steady_checking : (l : List BoundExpr) → ChecksRow calls nulling c name l rid first width → SteadyAt uses nulling c
+    steady_checking [] e = subst (SteadyAt uses nulling) (sym e) (at_none uses nulling)
+    steady_checking (k ∷ ks) x =
+        subst (SteadyAt uses nulling) (sym x.is) (at_standing rid first width (grows_then (g_op nulling (op.RowOf 0 rid first width)) x.checked.grows) x.checked.steady)
 
-    abbrev begun : Claim
-    begun h0 h = started h0 h × (read h.regs causes ≡ no_causes) × AreKept causes first row kept_values h.regs
+    grows_to_fixing : Grows y fixing
+    grows_to_fixing = grows_then (grows_refusing may) (grows_fixing o)
 
-    abbrev stored : Claim
-    stored h0 h = started h0 h × (outs_from h.regs first count ≡ outs) × (read h.regs causes ≡ all)
+    grows_to_nulling : Grows a nulling
+    grows_to_nulling =
+        grows_then sy.grows (grows_then grows_to_fixing (grows_nulls fixing insert.columns name first causes))
 
-    abbrev good : Claim
-    good h0 h = stored h0 h × (is_bad all ≡ false)
+    grows_row : Grows a row_code
+    grows_row =
+        grows_then grows_to_nulling (grows_then (grows_checking insert.checks checks) (grows_then (grows_taking o) (grows_then (g_op finding (op.Insert 1 rid first width)) (g_released putting first))))
 
-    abbrev is_full : Claim
-    is_full h0 h = good h0 h × (drawn_now h0 ≡ None)
+    steady_row : SteadyAt uses a row_code
+    steady_row =
+        at_then (at_of uses used (st_inner uses [] sy.steady)) (at_then (at_of uses used (steady_refusing may)) (at_then (at_of uses used (steady_fixing o)) (at_then (at_of uses used (steady_nulls uses fixing insert.columns name first causes)) (at_then (steady_checking insert.checks checks) (at_then (at_of uses used (steady_taking o)) (at_then (at_of uses used (st_use uses [] finding (op.Insert 1 rid first width) 1 refl refl (0, omega arith, refl))) (at_of uses used (st_released uses [] putting first))))))))
 
-    abbrev is_free : Claim
-    is_free h0 h = good h0 h × ((n : ℤ) × (drawn_now h0 ≡ Some n))
+    -- what is taken of registers
+    wide_y : refused.next ≡ first + (width + length (columns_beside insert.rowid))
+    wide_y = omega (arith, next_refusing may, sy.next, length-append insert.columns (columns_beside insert.rowid))
 
-    abbrev has_rowid : Claim
-    has_rowid h0 h = good h0 h × ((n : ℤ) × (drawn_now h0 ≡ Some n) × (read h.regs rowid ≡ Good (Integer n)))
+    causes_there : causes < fixing.most
+    causes_there = omega (arith, sy.counted, sy.next, below, grows_to_fixing.most)
 
-    abbrev done : Claim
-    done = HasRun course first causes
+    next_nulling : refused.next ≤ nulling.next
+    next_nulling =
+        let same = same_nulls fixing insert.columns name first causes in omega (arith, same.next, next_fixing o)
 
-    abbrev last : Last
-    last = HasFailed course
+    module _ (m : Setting) (w : World) (kept_values : List Value) where
+      abbrev env : Environment
+      env = seen_from m w
 
-    -- other registers from the mark on change nothing
-    same_start : (h0 h : Here) (regs : List Out) → ((k : ℕ) → k < first → k ≢ causes → read regs k ≡ read h.regs k) → started h0 h → started h0 (with_regs h regs)
-    same_start h0 h regs same pre = (but_regs regs same pre.0, pre.1)
+      abbrev outs : List Out
+      outs = stored_for env insert.columns kept_values
 
-    -- the course of a good row
-    course_good : (h0 h : Here) → good h0 h → course h0.shared ≡ row_under table name h0.shared values (drawn_now h0) finished
-    course_good h0 h pre = ap (λ i. row_put table name h0.shared i finished) (item-good outs pre.1)
+      abbrev beside : List Out
+      beside = rowid_beside insert.rowid kept_values
 
-    module _ (m : Setting) where
-      stores : calls m → Triple m a y (λ h0. 3 * length insert.columns) no_labels last begun stored
-      stores called = t_stores m called kept_values no_labels last begun stored sy (λ h0 h pre. pre.2) (λ h0 h regs pre long is gathers same.
-          (same_start h0 h regs same pre.0, ap (outs_from regs first) count_is ∙ is, gathers ∙ ap (λ o. fold with_causes o outs) pre.1))
+      abbrev values : List Value
+      values = map good_or_null outs
 
-      tests : Triple m y (with_bad_refused y causes) (λ h0. 3) no_labels last stored good
-      tests = t_refused y causes m last stored good (λ h0 h pre e. (pre, ap is_bad (sym pre.2) ∙ e)) (λ h0 h pre e.
-          let bad = item-bad outs all (ap is_bad (sym pre.2) ∙ e) in
-          (bad.0, ap leaving_of (pre.2 ∙ bad.1), ap (λ i. row_put table name h0.shared i finished) bad.2 ∙ ap (failed bad.0) (sym pre.0.0.shared)))
+      abbrev values_beside : List Value
+      values_beside = map good_or_null beside
 
-      abbrev Front : Draft → Type 0
-      Front z = Triple m a z (λ h0. 3 * length insert.columns + 3) no_labels last begun good
+      abbrev all : Out
+      all = fold with_causes no_causes (outs ++ beside)
 
-      front_tested : refused ≡ with_bad_refused y causes → calls m → Front refused
-      front_tested is called = subst Front (sym is) (t_seq (stores called) tests)
+      abbrev all_values : List Value
+      all_values = values ++ values_beside
 
-      front_held : refused ≡ y → calls m → AreHeld row insert.columns → Front refused
-      front_held is called held =
-          subst Front (sym is) (t_more (λ h0. 3 * length insert.columns + 3) (λ h0. omega arith) (t_stores m called kept_values no_labels last begun good sy (λ h0 h pre. pre.2) (λ h0 h regs pre long is gathers same.
-          let known = held h.regs kept_values (pre.2 h.regs (λ k lt ne. refl)) in (
-            (same_start h0 h regs same pre.0, ap (outs_from regs first) count_is ∙ is, gathers ∙ ap (λ o. fold with_causes o outs) pre.1),
-            ap is_bad (ap (fold with_causes no_causes) known ∙ held_calm (placed_for insert.columns kept_values)),
-          ))))
+      abbrev new : NewRow
+      new = new_of insert.rowid outs beside
 
-      -- what is drawn
-      draws_from : (h0 h : Here) → good h0 h → next_rowid (cursor_rows (world_of h.shared) (cursor_at h.scene.cursors cursor)) ≡ drawn_now h0
-      draws_from h0 h pre =
-          ap (λ c. next_rowid (cursor_rows (world_of h.shared) c)) pre.0.0.1
-          ∙ ap (λ (x : Shared). next_rowid (rows_of (world_of x) table)) pre.0.0.0.shared
+      abbrev row_of : ℤ → StoredRow
+      row_of n = record { rowid = n; values = with_rowid_in insert.rowid n values }
 
-      abbrev rowid_out : Here → Out
-      rowid_out h =
-          Good (Integer (unwrap_or (next_rowid (cursor_rows (world_of h.shared) (cursor_at h.scene.cursors cursor))) (pos 0)))
+      abbrev rows : Here → List StoredRow
+      rows h0 = rows_of (world_of h0.shared) table
 
-      abbrev with_rowid : Here → Here
-      with_rowid h = with_regs h (slice_set h.regs rowid (rowid_out h))
+      abbrev x0 : Here → Written
+      x0 h0 = h0.shared.written
 
-      draws_free : Triple m taking drawing (λ h0. 1) no_labels last is_free has_rowid
-      draws_free = t_op_if m taking (op.NewRowid cursor rowid name) with_rowid no_labels last is_free has_rowid law (λ h. (length-set h.regs rowid _, refl)) goes
-        where
-          law : (at : ℕ → ℕ) (h0 : Here) (s : State) → is_free h0 (here s) → act m (Some (placed at (op.NewRowid cursor rowid name))) s ≡ On (there s (s.pc + 1) (with_rowid (here s)).regs s.scene s.store s.shared)
-          law at h0 s pre =
-              let is = draws_from h0 (here s) pre.0 ∙ pre.1.1 in
-              ap (drawn s rowid name) is ∙ ap (λ o. put s rowid (Good (Integer (unwrap_or o (pos 0))))) (sym is)
+      abbrev course : Shared → Course
+      course = row_put env insert kept_values
 
-          goes : (h0 h : Here) → taking.most ≤ length h.regs → taking.cursors ≤ length h.scene.cursors → is_free h0 h → has_rowid h0 (record (with_rowid h) { inputs = h.inputs })
-          goes h0 h most wide pre =
-              let is = draws_from h0 h pre.0 ∙ pre.1.1 in
-              let regs = slice_set h.regs rowid (rowid_out h) in
-              let other : (k : ℕ) → k ≢ rowid → read regs k ≡ read h.regs k = λ k ne. get_or-set_other h.regs rowid k (rowid_out h) _ ne in
-              let apart : causes ≢ rowid = omega (arith, sy.next, same_next, below) in (
-                (
-                  (
-                    same_start h0 h regs (λ k lt ne. other k (omega (arith, lt, sy.next, same_next))) pre.0.0.0,
-                    outs_same regs h.regs count first (λ k le lt. other k (omega (arith, lt, sy.next, same_next))) ∙ pre.0.0.1,
-                    other causes apart ∙ pre.0.0.2,
-                  ),
-                  pre.0.1,
-                ),
-                (pre.1.0, pre.1.1, get_or-set_same h.regs rowid (rowid_out h) _ (omega (arith, most)) ∙ ap (λ o. Good (Integer (unwrap_or o (pos 0)))) is),
-              )
+      abbrev done : Claim
+      done = HasRun course first causes
 
-      draws_none : Triple m taking drawing (λ h0. 1) no_labels last is_full (λ h0 h. ⊥)
-      draws_none = t_end m taking (op.NewRowid cursor rowid name) no_labels last is_full (λ h. GivesUp (only (Full name))) (λ at h0 s pre. ap (drawn s rowid name) (draws_from h0 (here s) pre.0 ∙ pre.1)) (λ h0 h pre.
-          (only (Full name), refl, course_good h0 h pre.0 ∙ ap (λ o. row_under table name h0.shared values o finished) pre.1 ∙ ap (failed (only (Full name))) (sym pre.0.0.0.0.shared)))
+      abbrev last : Last
+      last = HasFailed course
 
-      full_or_free : (h0 h : Here) → good h0 h → is_full h0 h ⊎ is_free h0 h
-      full_or_free h0 h pre = by (drawn_now h0) refl
-        where
-          by : (o : Option ℤ) → drawn_now h0 ≡ o → is_full h0 h ⊎ is_free h0 h
-          by None is = inl (pre, is)
-          by (Some n) is = inr (pre, (n, is))
+      all_outs : stored_for env all_columns kept_values ≡ outs ++ beside
+      all_outs =
+          stored-append env insert.columns (columns_beside insert.rowid) kept_values
+          ∙ ap (λ l. outs ++ l) (sym (beside-is env insert.rowid kept_values))
 
-      draws : Triple m refused drawing (λ h0. 1) no_labels last good has_rowid
-      draws =
+      wide_values : width ≡ length values
+      wide_values = sym (length-map outs good_or_null ∙ stored-long env insert.columns kept_values)
+
+      wide_beside : length values_beside ≡ length (columns_beside insert.rowid)
+      wide_beside = length-map beside good_or_null ∙ beside-long insert.rowid kept_values
+
+      stands_o : Stands insert.rowid values values_beside o
+      stands_o = placed values values_beside wide_values wide_beside
+
+      made : is_bad all ≡ false → new_row env insert kept_values ≡ Ok new
+      made e = new-good insert.rowid outs beside e
+
+      -- ---- what is known on the way
+
+      abbrev Based : Claim
+      Based h0 h = But first causes h0 h × IsSetAt table causes h0 × IsSound (world_of h0.shared)
+
+      abbrev begun : Claim
+      begun h0 h = Based h0 h × (read h.regs causes ≡ no_causes) × AreKept causes first row kept_values h.regs
+
+      abbrev stored : Claim
+      stored h0 h = Based h0 h × (outs_from h.regs first (length (outs ++ beside)) ≡ outs ++ beside) × (read h.regs causes ≡ all) × (may ≡ false → is_bad all ≡ false)
+
+      abbrev good : Claim
+      good h0 h =
+          Based h0 h × (outs_from h.regs first (length (map Good all_values)) ≡ map Good all_values) × (read h.regs causes ≡ no_causes)
+          × (is_bad all ≡ false)
+
+      -- the rowid is in this register
+      abbrev has_row : ℕ → ℤ → Claim
+      has_row r n h0 h =
+          Based h0 h × (fixed name (rows h0) new.rowid (x0 h0) ≡ Done n (x0 h0)) × (read h.regs r ≡ Good (Integer n))
+          × (outs_from h.regs first width ≡ map Good (row_of n).values) × (read h.regs causes ≡ no_causes) × (is_bad all ≡ false)
+
+      abbrev known : ℤ → Claim
+      known n h0 h = has_row rid n h0 h × (lacks_value insert.columns (row_of n).values ≡ false)
+
+      abbrev passes : ℤ → Claim
+      passes n h0 h = known n h0 h × (first_broken name insert.checks (at_row env (row_of n)) ≡ None)
+
+      abbrev free : ℤ → Claim
+      free n h0 h = passes n h0 h × (row_under (rows h0) n ≡ None)
+
+      based_regs : (h0 h : Here) (regs : List Out) → SameBut causes first h.regs regs → Based h0 h → Based h0 (with_regs h regs)
+      based_regs h0 h regs same base = (but_regs regs same base.0, base.1, base.2)
+
+      scene_is : (h0 h : Here) → Based h0 h → h.scene ≡ scene_on table
+      scene_is h0 h base = base.0.scene ∙ base.1.scene
+
+      args_are : (h0 h : Here) → Based h0 h → h.inputs.args ≡ []
+      args_are h0 h base = ap (λ (i : machine.Inputs). i.args) base.0.inputs ∙ base.1.args
+
+      opened : (h0 h : Here) → Based h0 h → cursor_at h.scene.cursors 1 ≡ Open table None
+      opened h0 h base = ap (λ (s : machine.Scene). cursor_at s.cursors 1) (scene_is h0 h base)
+
+      rows_now : (h0 h : Here) → Based h0 h → rows_of (world_of h.shared) table ≡ rows h0
+      rows_now h0 h base = ap (λ (x : Shared). rows_of (world_of x) table) base.0.shared
+
+      fails : (h0 h : Here) (why : CauseSet) → Based h0 h → row_effect env insert kept_values (x0 h0) ≡ Fails why (x0 h0) → last h0 (GivesUp why) h.shared
+      fails h0 h why base e = (why, refl, ap (course_of h0.shared) e ∙ ap (failed why) (sym base.0.shared))
+
+      -- ---- what is stored
+
+      stores : calls m → Triple m a y (λ h0. sum_by column_steps all_columns) no_labels last begun stored
+      stores called = t_stores m called kept_values no_labels last begun stored sy (λ h0 h pre. pre.2) (λ h0 h regs pre is gathers same.
+          let seen = stored-same (environment_of m h) env all_columns kept_values (sees-none m w table h (scene_is h0 h pre.0) (args_are h0 h pre.0)) ∙ all_outs in (
+            based_regs h0 h regs same pre.0,
+            subst (λ l. outs_from regs first (length l) ≡ l) seen is,
+            gathers ∙ ap (λ o. fold with_causes o (stored_for (environment_of m h) all_columns kept_values)) pre.1 ∙ ap (fold with_causes no_causes) seen,
+            λ none. ap is_bad (ap (fold with_causes no_causes) (sym all_outs) ∙ held none h.regs kept_values env (pre.2 h.regs (λ k lt ne. refl))),
+          ))
+
+      good_if : (h0 h : Here) → stored h0 h → is_bad all ≡ false → good h0 h
+      good_if h0 h pre e =
+          let calm = calm-good (outs ++ beside) e in
+          let same : outs ++ beside ≡ map Good all_values = calm.1 ∙ ap (map Good) (map-append good_or_null outs beside) in
+          (pre.0, subst (λ l. outs_from h.regs first (length l) ≡ l) same pre.1, pre.2 ∙ calm.0, e)
+
+      tests : (b : Bool) → (b ≡ false → is_bad all ≡ false ⊎ (may ≡ false)) → Triple m y (with_row_tested b y causes) (λ h0. 3) no_labels last stored good
+      tests true none = t_refused y causes m last stored good (λ h0 h pre e. good_if h0 h pre (ap is_bad (sym pre.2) ∙ e)) (λ h0 h pre e.
+          let bad = new-bad insert.rowid outs beside all (ap is_bad (sym pre.2) ∙ e) in
+          (bad.0, ap leaving_of (pre.2 ∙ bad.1), ap (course_of h0.shared) (effect_bad env insert kept_values (x0 h0) bad.0 bad.2) ∙ ap (failed bad.0) (sym pre.0.0.shared)))
+      tests false none =
+          t_more (λ h0. 3) (λ h0. omega arith) (t_use stored good (λ h0 h pre. pre) (λ h0 h pre. good_if h0 h pre (⊎_elim (λ e. e) (λ e. pre.3 e) (none refl))) (t_draft m no_labels last stored (grows_none y) refl))
+
+      -- ---- the rowid
+
+      first_values : (h0 h : Here) → good h0 h → outs_from h.regs first width ≡ map Good values
+      first_values h0 h pre =
+          let apart = subst (λ l. outs_from h.regs first (length l) ≡ l) (map-append Good values values_beside) pre.1 in
+          let long : length (map Good values) ≡ width = length-map values Good ∙ sym wide_values in
+          ap (outs_from h.regs first) (sym long) ∙ outs_prefix h.regs first (map Good values) (map Good values_beside) apart
+
+      read_given : (k : ℕ) (h0 h : Here) → Stands insert.rowid values values_beside (Some k) → good h0 h → read h.regs (first + k) ≡ Good new.rowid
+      read_given k h0 h st pre =
+          let inside : k < length (map Good all_values) = omega (arith, stands-within st, length-map all_values Good, length-append values values_beside) in
+          outs_read h.regs first (map Good all_values) k (Good Null) pre.1 inside
+          ∙ read-good all_values k
+          ∙ ap Good (sym (stands-is st))
+
+      values_fixed : (k : ℕ) (h0 h : Here) (n : ℤ) (regs : List Out) → Stands insert.rowid values values_beside (Some k) → good h0 h → read regs (first + k) ≡ Good (Integer n) → ((j : ℕ) → j ≢ first + k → read regs j ≡ read h.regs j) → outs_from regs first width ≡ map Good (row_of n).values
+      values_fixed k h0 h n regs (Beside _ at lt e none) pre is same =
+          outs_same regs h.regs width first (λ j le below. same j (omega (arith, le, below, at, wide_values)))
+          ∙ first_values h0 h pre
+          ∙ ap (map Good) (sym (none n))
+      values_fixed k h0 h n regs (Within _ lt e set) pre is same =
+          outs_set h.regs regs width first k (Good (Integer n)) is same
+          ∙ ap (λ l. slice_set l k (Good (Integer n))) (first_values h0 h pre)
+          ∙ sym (map-set Good values k (Integer n))
+          ∙ ap (map Good) (sym (set n))
+
+      fixed_at : (k : ℕ) (h0 h : Here) (n : ℤ) (regs : List Out) → Stands insert.rowid values values_beside (Some k) → good h0 h → fixed name (rows h0) new.rowid (x0 h0) ≡ Done n (x0 h0) → read regs (first + k) ≡ Good (Integer n) → ((j : ℕ) → j ≢ first + k → read regs j ≡ read h.regs j) → has_row (first + k) n h0 (with_regs h regs)
+      fixed_at k h0 h n regs st pre e is same = (
+        based_regs h0 h regs (λ j lt ne. same j (omega (arith, lt))) pre.0,
+        e,
+        is,
+        values_fixed k h0 h n regs st pre is same,
+        same causes (omega (arith, below)) ∙ pre.2,
+        pre.3,
+      )
+
+      abbrev some_row : ℕ → Claim
+      some_row r h0 h = (n : ℤ) × has_row r n h0 h
+
+      full : (h0 h : Here) → good h0 h → new.rowid ≡ Null → next_rowid (rows_of (world_of h.shared) table) ≡ None → last h0 (GivesUp (only (Full name))) h.shared
+      full h0 h pre null none =
+          fails h0 h (only (Full name)) pre.0 (effect_unfixed env insert kept_values (x0 h0) new (made pre.3) (only (Full name)) (fixed-drawn name (rows h0) new.rowid (x0 h0) None null (ap next_rowid (sym (rows_now h0 h pre.0)) ∙ none)))
+
+      draws : (h0 h : Here) (n : ℤ) → good h0 h → new.rowid ≡ Null → next_rowid (rows_of (world_of h.shared) table) ≡ Some n → fixed name (rows h0) new.rowid (x0 h0) ≡ Done n (x0 h0)
+      draws h0 h n pre null next =
+          fixed-drawn name (rows h0) new.rowid (x0 h0) (Some n) null (ap next_rowid (sym (rows_now h0 h pre.0)) ∙ next)
+
+      fixes : (o : Option ℕ) → Stands insert.rowid values values_beside o → Triple m refused (with_rowid_fixed o refused first name) (λ h0. fix_steps o) no_labels last good (some_row (rowid_register o first refused.next))
+      fixes None (Missing null none) =
+          let r = refused.next in
           let take = t_draft m no_labels last good (g_taken refused) refl in
-          let either = t_either is_full is_free (t_use is_full has_rowid (λ h0 h pre. pre) (λ h0 h pre. absurd pre) draws_none) draws_free in
-          t_more (λ h0. 1) (λ h0. omega arith) (t_seq take (t_use good has_rowid full_or_free (λ h0 h pre. pre) either))
+          let draw = t_draws m (taken refused) r name table no_labels last good (some_row r) (omega arith) (λ h0 h pre. opened h0 h pre.0) (λ h0 h regs n pre next is same. (
+            n,
+            (
+              based_regs h0 h regs (λ j lt ne. same j (omega (arith, lt, wide_y))) pre.0,
+              draws h0 h n pre null next,
+              is,
+              outs_same regs h.regs width first (λ j le lt. same j (omega (arith, lt, wide_y))) ∙ first_values h0 h pre ∙ ap (map Good) (sym (none n)),
+              same causes (omega (arith, below, wide_y)) ∙ pre.2,
+              pre.3,
+            ),
+          )) (λ h0 h pre none. full h0 h pre null none) in
+          t_more (λ h0. 1) (λ h0. omega arith) (t_seq take draw)
+      fixes (Some k) st =
+          let there : first + k < refused.most = omega (arith, stands-within st, wide_values, wide_beside, wide_y, next_refusing may, sy.counted, (grows_refusing may).most) in
+          let null_if = λ (h0 h : Here) (pre : good h0 h) (e : machine.is_null (read h.regs (first + k)) ≡ true). null-is new.rowid (ap machine.is_null (sym (read_given k h0 h st pre)) ∙ e) in
+          t_tested refused (first + k) name m table last good (some_row (first + k)) there (λ h0 h pre. opened h0 h pre.0) (λ h0 h regs n pre e next is same. (n, fixed_at k h0 h n regs st pre (draws h0 h n pre (null_if h0 h pre e) next) is same)) (λ h0 h pre e none. full h0 h pre (null_if h0 h pre e) none) (λ h0 h n pre is fits.
+          let given : new.rowid ≡ Integer n = good-is (sym (read_given k h0 h st pre) ∙ is) in
+          (n, fixed_at k h0 h n h.regs st pre (fixed-given name (rows h0) new.rowid (x0 h0) n given fits) is (λ j ne. refl))) (λ h0 h pre e f.
+          let is = read_given k h0 h st pre in
+          fails h0 h (only Mismatch) pre.0 (effect_unfixed env insert kept_values (x0 h0) new (made pre.3) (only Mismatch) (fixed-wrong name (rows h0) new.rowid (x0 h0) (ap machine.is_null (sym is) ∙ e) (ap is_integer (sym is) ∙ f))))
 
-      -- the row that the registers hold
-      abbrev row_in : Here → StoredRow
-      row_in h = record { rowid = integer_in h.regs rowid; values = values_from h.regs first count }
+      -- ---- the tests of a row whose rowid is this
 
-      abbrev with_put : Here → Here
-      with_put h =
-          record h { shared = record h.shared { written = inserted (cursor_at h.scene.cursors cursor) h.shared.written (row_in h) } }
+      module _ (n : ℤ) where
+        abbrev stored_row : StoredRow
+        stored_row = row_of n
 
-      row_is : (h0 h : Here) (pre : has_rowid h0 h) → row_in h ≡ record { rowid = pre.1.0; values = values }
-      row_is h0 h pre =
-          let number : integer_in h.regs rowid ≡ pre.1.0 = ap (λ v. integer_of (machine.good_or_null v)) pre.1.2 in
-          let same : values_from h.regs first count ≡ values = values_outs h.regs count first ∙ good_or_null-same (outs_from h.regs first count) ∙ ap (map meaning.good_or_null) pre.0.0.1 in
-          ap (λ n. record { rowid = n; values = values_from h.regs first count }) number
-          ∙ ap (λ vs. record { rowid = pre.1.0; values = vs }) same
+        long_values : length stored_row.values ≡ width
+        long_values = with_rowid-long insert.rowid n values ∙ sym wide_values
 
-      puts : Triple m drawing putting (λ h0. 1) no_labels last has_rowid done
-      puts = t_op m drawing (op.Insert cursor rowid first count) with_put no_labels last has_rowid done (λ at s. refl) (λ h. (refl, refl)) (λ h0 h most wide pre.
-          let known = pre.0.0.0 in
-          let now : (with_put h).shared ≡ with_row_put h0.shared table (record { rowid = pre.1.0; values = values }) = ap (λ c. record h.shared { written = inserted c h.shared.written (row_in h) }) known.1 ∙ ap (λ x. with_row_put x table (row_in h)) known.0.shared ∙ ap (with_row_put h0.shared table) (row_is h0 h pre) in
-          record {
-            regs = known.0.regs;
-            calm = pre.0.0.2 ∙ (calm-good outs pre.0.1).0;
-            scene = known.0.scene;
-            store = known.0.store;
-            is = course_good h0 h pre.0 ∙ ap (λ o. row_under table name h0.shared values o finished) pre.1.1 ∙ ap finished (sym now);
-          })
+        nulls : Triple m fixing nulling (λ h0. sum_by null_steps insert.columns) no_labels last (has_row rid n) (known n)
+        nulls = t_nulls m fixing insert.columns name first causes last (has_row rid n) (known n) stored_row.values long_values causes_there (λ h0 h pre. pre.3) (λ h0 h pre e. (pre, e)) (λ h0 h pre e.
+            fails h0 h (only (Constraint constraint.NotNull name)) pre.0 (effect_null env insert kept_values (x0 h0) new (made pre.5) n pre.1 e))
 
-      whole : Front refused → Triple m a row_code (λ h0. row_steps (length insert.columns)) no_labels last begun done
-      whole front =
-          let all_code = t_seq (t_seq front draws) puts in
+        -- the row that the registers hold
+        row_is : (h0 h : Here) → has_row rid n h0 h → row_in h.regs rid first width ≡ stored_row
+        row_is h0 h pre =
+            let number : integer_in h.regs rid ≡ n = ap (λ v. integer_of (machine.good_or_null v)) pre.2 in
+            let same : values_from h.regs first width ≡ stored_row.values = values_outs h.regs width first ∙ ap (map machine.good_or_null) pre.3 ∙ good_or_null-same stored_row.values in
+            ap (λ k. record { rowid = k; values = values_from h.regs first width }) number
+            ∙ ap (λ vs. record { rowid = n; values = vs }) same
+
+        -- with the registers in front of a place as they were
+        register_below : (o : Option ℕ) → Stands insert.rowid values values_beside o → rowid_register o first refused.next < (with_rowid_fixed o refused first name).next
+        register_below None st = omega arith
+        register_below (Some k) st = omega (arith, stands-within st, wide_values, wide_beside, wide_y)
+
+        rid_below : rid < nulling.next
+        rid_below =
+            let same = same_nulls fixing insert.columns name first causes in
+            omega (arith, same.next, register_below o stands_o)
+
+        known_regs : (h0 h : Here) (regs : List Out) → ((k : ℕ) → k < nulling.next → read regs k ≡ read h.regs k) → known n h0 h → known n h0 (with_regs h regs)
+        known_regs h0 h regs same pre =
+            let row = pre.0 in (
+              (
+                based_regs h0 h regs (λ k lt ne. same k (omega (arith, lt, next_nulling, wide_y))) row.0,
+                row.1,
+                same rid rid_below ∙ row.2,
+                outs_same regs h.regs width first (λ k le lt. same k (omega (arith, lt, next_nulling, wide_y))) ∙ row.3,
+                same causes (omega (arith, below, next_nulling, wide_y)) ∙ row.4,
+                row.5,
+              ),
+              pre.1,
+            )
+
+        -- a cursor stands on it, and all else is as it is known
+        abbrev settled : Here → Here
+        settled h = record h { scene = scene_on table }
+
+        abbrev on_row : Claim
+        on_row h0 h = known n h0 (settled h) × (h.scene ≡ scene_at table stored_row)
+
+        abbrev on_passed : Claim
+        on_passed h0 h = passes n h0 (settled h) × (h.scene ≡ scene_at table stored_row)
+
+        settled_is : (h0 h : Here) → Based h0 h → h ≡ settled h
+        settled_is h0 h base = ap (λ s. record h { scene = s }) (scene_is h0 h base)
+
+        cursor_there : 0 < nulling.cursors
+        cursor_there = omega (arith, grows_to_nulling.cursors, cursors_are)
+
+        checked : calls m → (l : List BoundExpr) → insert.checks ≡ l → ChecksRow calls nulling c name l rid first width → Triple m nulling c (λ h0. checks_steps l) no_labels last (known n) (passes n)
+        checked called [] is e =
+            subst (λ z. Triple m nulling z (λ h0. 0) no_labels last (known n) (passes n)) (sym e) (t_use (known n) (passes n) (λ h0 h pre. pre) (λ h0 h pre. (pre, ap (λ l. first_broken name l (at_row env stored_row)) is)) (t_draft m no_labels last (known n) (grows_none nulling) refl))
+        checked called (k ∷ ks) is x =
+            let l = k ∷ ks in
+            let standing = t_row_of m nulling 0 rid first width no_labels last (known n) on_row cursor_there (λ h0 h pre lt.
+            let scene = scene_is h0 h pre.0.0 in (
+              subst (known n h0) (settled_is h0 h pre.0.0) pre,
+              ap (λ (s : machine.Scene). record s { cursors = slice_set s.cursors 0 (standing_on (row_in h.regs rid first width)) }) scene ∙ ap (λ r. scene_at table r) (row_is h0 h pre.0),
+            )) in
+            let sees = λ (h0 h : Here) (pre : on_row h0 h). first_broken-same name l (environment_of m h) (at_row env stored_row) (sees-row m w table stored_row h pre.1 (args_are h0 (settled h) pre.0.0.0)) in
+            let same = λ (why : Option CauseSet) (e : first_broken name l (at_row env stored_row) ≡ why). ap (λ l. first_broken name l (at_row env stored_row)) is ∙ e in
+            let pass = t_passes m called no_labels last on_row on_passed x.checked (λ h0 h regs pre none keeps. ((known_regs h0 (settled h) regs keeps pre.0, same None (sym (sees h0 h pre) ∙ none)), pre.1)) (λ h0 h why pre some.
+            let row = pre.0.0 in
+            fails h0 (settled h) why row.0 (effect_broken env insert kept_values (x0 h0) new (made row.5) n row.1 pre.0.1 why (same (Some why) (sym (sees h0 h pre) ∙ some)))) in
+            let close = t_move m x.last (op.Close 0) 0 Closed no_labels last on_passed (passes n) (omega (arith, cursor_there, x.checked.grows.cursors)) (λ at s. refl) (λ h0 h pre e.
+            let back : (moved h 0 Closed).scene ≡ scene_on table = ap (λ (s : machine.Scene). record s { cursors = slice_set s.cursors 0 Closed }) pre.1 in
+            subst (λ s. passes n h0 (record h { scene = s })) (sym back) pre.0) in
+            subst (λ z. Triple m nulling z (λ h0. checks_steps l) no_labels last (known n) (passes n)) (sym x.is) (t_more (λ h0. checks_steps l) (λ h0. omega arith) (t_seq (t_seq standing pass) close))
+
+        -- ---- the rowid is free
+
+        takes : (o : Option ℕ) → Stands insert.rowid values values_beside o → rowid_register o first refused.next ≡ rid → Triple m c (with_taken_tested o c name rid causes) (λ h0. taken_steps o) no_labels last (passes n) (free n)
+        takes None (Missing null none) r = t_use (passes n) (free n) (λ h0 h pre. pre) (λ h0 h pre.
+            let row = pre.0.0 in
+            let next : next_rowid (rows h0) ≡ Some n = drawn-some name (next_rowid (rows h0)) (x0 h0) n (sym (ap (λ v. fixed name (rows h0) v (x0 h0)) null) ∙ row.1) in
+            (pre, next_rowid-free (rows h0) n (ordered_rows (world_of h0.shared) table row.0.2) next)) (t_draft m no_labels last (passes n) (grows_none c) refl)
+        takes (Some k) st r =
+            let causes_in_c : causes < c.most = omega (arith, causes_there, (grows_nulls fixing insert.columns name first causes).most, (grows_checking insert.checks checks).most) in
+            let looked = λ (h0 h : Here) (pre : passes n h0 h). ap (λ j. row_under (rows_of (world_of h.shared) table) j) (ap (λ v. integer_of (machine.good_or_null v)) pre.0.0.2) ∙ ap (λ l. row_under l n) (rows_now h0 h pre.0.0.0) in
+            t_taken c name rid causes m table last (passes n) (free n) causes_in_c (λ h0 h pre. opened h0 h pre.0.0.0) (λ h0 h pre is. (pre, sym (looked h0 h pre) ∙ is)) (λ h0 h x pre is.
+            let row = pre.0.0 in
+            let taken_now : is_taken (rows h0) n ≡ true = ap is_some (sym (looked h0 h pre) ∙ is) in
+            fails h0 h (only (Constraint constraint.Unique name)) row.0 (effect_taken env insert kept_values (x0 h0) new (made row.5) n row.1 pre.0.1 pre.1 taken_now))
+
+        -- ---- the row is put
+
+        abbrev with_put : Here → Here
+        with_put h =
+            record h { shared = record h.shared { written = inserted (cursor_at h.scene.cursors 1) h.shared.written (row_in h.regs rid first width) } }
+
+        puts : Triple m finding putting (λ h0. 1) no_labels last (free n) done
+        puts = t_op m finding (op.Insert 1 rid first width) with_put no_labels last (free n) done (λ at s. refl) (λ h. (refl, refl)) (λ h0 h most wide pre.
+            let row = pre.0.0.0 in
+            let base = row.0 in
+            let none : is_taken (rows h0) n ≡ false = ap is_some pre.1 in
+            let effect = effect_free env insert kept_values (x0 h0) new (made row.5) n row.1 pre.0.0.1 pre.0.1 none in
+            let now : (with_put h).shared ≡ record h0.shared { written = with_row h0.shared.written table stored_row } = ap (λ k. record h.shared { written = inserted k h.shared.written (row_in h.regs rid first width) }) (opened h0 h base) ∙ ap (λ (x : Shared). record x { written = with_row x.written table (row_in h.regs rid first width) }) base.0.shared ∙ ap (λ r. record h0.shared { written = with_row h0.shared.written table r }) (row_is h0 h row) in
+            record {
+              regs = base.0.regs;
+              calm = row.4;
+              scene = base.0.scene;
+              store = base.0.store;
+              is = ap (course_of h0.shared) effect ∙ ap finished (sym now);
+            })
+
+        abbrev behind_steps : ℕ
+        behind_steps = sum_by null_steps insert.columns + checks_steps insert.checks + taken_steps o + 1
+
+        behind : calls m → Triple m fixing putting (λ h0. behind_steps) no_labels last (has_row rid n) done
+        behind called = t_more (λ h0. behind_steps) (λ h0. omega arith) (t_seq (t_seq (t_seq nulls (checked called insert.checks refl checks)) (takes o stands_o refl)) puts)
+
+      whole : calls m → (rowid_steps o ≡ rowid_steps (rowid_given insert.rowid width)) → Triple m a row_code (λ h0. row_steps insert) no_labels last begun done
+      whole called steps_are =
+          let front = t_seq (t_seq (stores called) (tests may (λ e. inr e))) (fixes o stands_o) in
+          let rest = t_some (has_row rid) (λ n. behind n called) in
           let back = t_draft m no_labels last done (g_released putting first) refl in
-          t_more (λ h0. row_steps (length insert.columns)) (λ h0. omega arith) (t_seq all_code back)
+          t_more (λ h0. row_steps insert) (λ h0. omega (arith, steps_are, steps-both o, sum_by-append column_steps insert.columns (columns_beside insert.rowid))) (t_seq (t_seq front rest) back)
 
-  abbrev PutsRow : Type 0
-  PutsRow = Puts calls a row_code cursor table causes (AreKept causes first row) (row_course insert) (row_steps (length insert.columns))
+pub row-puts : {calls : Calls} (a y c : Draft) (may : Bool) (causes : ℕ) (insert : BoundInsert) (row : List Kept) → causes < a.next → a.cursors ≡ 2 → Stores calls a y causes row (insert.columns ++ columns_beside insert.rowid) → (may ≡ false → AreHeld row (insert.columns ++ columns_beside insert.rowid)) → let o = rowid_given insert.rowid (length insert.columns) in let refused = with_row_tested may y causes in let rid = rowid_register o a.next refused.next in ChecksRow calls (with_nulls_refused (with_rowid_fixed o refused a.next insert.name) insert.columns insert.name a.next causes) c insert.name insert.checks rid a.next (length insert.columns)
+    → Puts calls a (released (with_op (with_taken_tested o c insert.name rid causes) (op.Insert 1 rid a.next (length insert.columns))) a.next) insert.table causes (AreKept causes a.next row) (λ env. row_put env insert) (row_steps insert)
+row-puts {calls} a y c may causes insert row below cursors_are sy held checks =
+    let o = rowid_given insert.rowid (length insert.columns) in
+    let placed = λ (values beside : List Value) (wide : length insert.columns ≡ length values) (long : length beside ≡ length (columns_beside insert.rowid)). stands insert.rowid values beside (length insert.columns) wide long in
+    puts_of insert.table causes (AreKept causes a.next row) (λ env. row_put env insert) (λ m w x. begun calls a y c may o causes insert row below cursors_are sy held checks placed m w x) (grows_row calls a y c may o causes insert row below cursors_are sy held checks placed) refl (steady_row calls a y c may o causes insert row below cursors_are sy held checks placed) (λ m w x s sound set kept_now. ((but_none a.next causes (here s), record { scene = set.scene; args = set.args; calm = set.calm }, sound), set.calm, kept_now)) (λ m called w x. whole calls a y c may o causes insert row below cursors_are sy held checks placed m w x called refl)
 
-  -- where the row is tested, since a value may not be stored
-  tested-puts : refused ≡ with_bad_refused y causes → PutsRow
-  tested-puts is =
-      puts_of cursor table causes (AreKept causes first row) (row_course insert) begun grows_row refl steady_row (λ x h opened calm kept_now. ((but_none first causes h, opened), calm, kept_now)) (λ m called x. whole x m (front_tested x m is called))
+-- ---- registers and cursors along it
 
-  -- where all values are stored as they are
-  held-puts : refused ≡ y → AreHeld row insert.columns → PutsRow
-  held-puts is held =
-      puts_of cursor table causes (AreKept causes first row) (row_course insert) begun grows_row refl steady_row (λ x h opened calm kept_now. ((but_none first causes h, opened), calm, kept_now)) (λ m called x. whole x m (front_held x m is called held))
+pub row-keeps : (y : Draft) (may : Bool) (o : Option ℕ) (columns : List PutColumn) (name : List ℕ) (first causes : ℕ) → let d = with_nulls_refused (with_rowid_fixed o (with_row_tested may y causes) first name) columns name first causes in (d.cursors ≡ y.cursors) × (y.next ≤ y.most → d.next ≤ d.most) × (y.next ≤ d.next)
+row-keeps y may o columns name first causes = by may o
+  where
+    from : (f : Draft) → (f.cursors ≡ y.cursors) → (y.next ≤ y.most → f.next ≤ f.most) → (y.next ≤ f.next) → let d = with_nulls_refused f columns name first causes in (d.cursors ≡ y.cursors) × (y.next ≤ y.most → d.next ≤ d.most) × (y.next ≤ d.next)
+    from f cursors counted more =
+        let same = same_nulls f columns name first causes in
+        (same.cursors ∙ cursors, λ le. omega (arith, counted le, same.next, same.most), omega (arith, more, same.next))
 
-pub row-puts : {calls : Calls} (a y : Draft) (may : Bool) (cursor causes : ℕ) (insert : BoundInsert) (row : List Kept) → causes < a.next → Stores calls a y causes row insert.columns → (may ≡ false → AreHeld row insert.columns)
-    → Puts calls a (released (with_row_inserted (with_row_tested may y causes) cursor a.next (y.next - a.next) insert.name) a.next) cursor insert.table causes (AreKept causes a.next row) (row_course insert) (row_steps (length insert.columns))
-row-puts a y true cursor causes insert row below sy held =
-    tested-puts a y (with_bad_refused y causes) cursor causes insert row below sy (grows_refused y causes) refl (steady_refused y causes) refl
-row-puts a y false cursor causes insert row below sy held =
-    held-puts a y y cursor causes insert row below sy (grows_none y) refl (λ uses. st_none uses [] y) refl (held refl)
+    by : (may : Bool) (o : Option ℕ) → let d = with_nulls_refused (with_rowid_fixed o (with_row_tested may y causes) first name) columns name first causes in (d.cursors ≡ y.cursors) × (y.next ≤ y.most → d.next ≤ d.most) × (y.next ≤ d.next)
+    by true None = from (with_rowid_fixed None (with_row_tested true y causes) first name) refl (λ le. omega arith) (omega arith)
+    by true (Some k) = from (with_rowid_fixed (Some k) (with_row_tested true y causes) first name) refl (λ le. omega arith) (omega arith)
+    by false None = from (with_rowid_fixed None (with_row_tested false y causes) first name) refl (λ le. omega arith) (omega arith)
+    by false (Some k) = from (with_rowid_fixed (Some k) (with_row_tested false y causes) first name) refl (λ le. omega arith) (omega arith)
+
+pub taken-keeps : (c : Draft) (o : Option ℕ) (name : List ℕ) (rid causes : ℕ) → let d = with_taken_tested o c name rid causes in (d.cursors ≡ c.cursors) × (d.next ≡ c.next)
+taken-keeps c None _ r causes = (refl, refl)
+taken-keeps c (Some k) _ r causes = (refl, refl)
+
+pub row-counted : (y r f n : Draft) (may : Bool) (o : Option ℕ) (columns : List PutColumn) (name : List ℕ) (first causes : ℕ) → r ≡ with_row_tested may y causes → f ≡ with_rowid_fixed o r first name → n ≡ with_nulls_refused f columns name first causes → (n.cursors ≡ y.cursors) × (y.next ≤ y.most → n.next ≤ n.most) × (y.next ≤ n.next)
+row-counted y r f n may o columns name first causes r_is f_is n_is = rw (n_is, f_is, r_is) (row-keeps y may o columns name first causes)
+
+-- by what the calls of the Builder made
+pub row-puts-as : {calls : Calls} (a y r f n c t d : Draft) (may : Bool) (given : Option ℕ) (rid first count causes : ℕ) (insert : BoundInsert) (row : List Kept) → first ≡ a.next → count ≡ length insert.columns → given ≡ rowid_given insert.rowid count → r ≡ with_row_tested may y causes → rid ≡ rowid_register given first r.next → f ≡ with_rowid_fixed given r first insert.name → n ≡ with_nulls_refused f insert.columns insert.name first causes → ChecksRow calls n c insert.name insert.checks rid first count → t ≡ with_taken_tested given c insert.name rid causes → d ≡ released (with_op t (op.Insert 1 rid first count)) first → causes < a.next → a.cursors ≡ 2 → Stores calls a y causes row (insert.columns ++ columns_beside insert.rowid) → (may ≡ false → AreHeld row (insert.columns ++ columns_beside insert.rowid)) → Puts calls a d insert.table causes (AreKept causes a.next row) (λ env. row_put env insert) (row_steps insert)
+row-puts-as a y r f n c t d may given rid first count causes insert row first_is count_is given_is r_is rid_is f_is n_is checks t_is d_is below cursors_are sy held =
+    let checked = rw (n_is, f_is, rid_is, given_is, r_is, count_is, first_is) at checks in
+    rw (d_is, t_is, rid_is, given_is, r_is, count_is, first_is) (row-puts a y c may causes insert row below cursors_are sy held checked)

@@ -3,38 +3,41 @@ use Rattle.std.proofs.Common.{◌≡◌, ℕ, zero, suc, ◌+◌, ◌*◌, ◌�
 use Rattle.std.specs.declared.option.Option.{Option}
 use Rattle.std.proofs.lemmas.List.{length-map, take_all, take_more}
 use Rattle.eng_value.specs.Causes.{CauseSet}
-use Rattle.eng_value.specs.Environments.{no_causes}
+use Rattle.eng_value.specs.Environments.{Environment, no_causes}
 use Rattle.eng_value.specs.declared.out.Out.{Out}
 use Rattle.eng_value.specs.declared.out.Out.TheVariants.{Good}
 use Rattle.eng_value.specs.declared.value.Value.{Value}
-use Rattle.gen_write.specs.Stretches.{AreAllKept, AreKept, Puts, Ran, SameBut, and_on, kept_out, row_course, unless_failed}
-use Rattle.gen_write.specs.Writes.{Course, failed, finished, row_steps, rows_run}
+use Rattle.gen_write.specs.Stretches.{AreAllKept, AreKept, IsSet, Puts, Ran, SameBut, SteadyAt, kept_out, scene_on, seen_from}
+use Rattle.gen_write.specs.Writes.{Course, and_on, failed, finished, row_put, rows_run, unless_failed}
 use Rattle.gen_write.specs.declared.source.Kept.{Kept}
 use Rattle.gen_write.proofs.Courses.{rows_run-last}
+use Rattle.gen_write.proofs.Opens.{at_none, at_then}
 use Rattle.sql_meaning.specs.declared.bound.BoundInsert.{BoundInsert}
 use Rattle.vm_code.specs.Draft.{Draft}
-use Rattle.vm_code.specs.Tracked.{Steady}
-use Rattle.vm_code.specs.Machine.{IsSound, Shared, Setting, State, GivesUp, Open, Reaches, Leads, cursor_at, leads_to, read, world_of}
+use Rattle.vm_code.specs.Machine.{World, IsSound, Shared, Setting, State, GivesUp, Reaches, Leads, leads_to, read, world_of}
 use Rattle.vm_code.specs.Frames.{Calls, Grows, Here, here, there}
 use Rattle.vm_code.specs.Claims.{Claim, Labels, Last, Exits, on, off, ends, Triple}
 use Rattle.vm_code.proofs.Runs.{leads_more, leads_then, reaches_none}
 use Rattle.vm_code.proofs.Drafts.{extends, grows_none, grows_then}
-use Rattle.vm_code.proofs.Tracks.{st_none, st_then}
 use Rattle.vm_code.proofs.Kept.{sound_after}
 use Rattle.vm_code.proofs.Triples.{no_labels, ready_less}
 
 -- ---- one course and then another
 
-pub puts_none : (calls : Calls) (a : Draft) (cursor causes : ℕ) (b : BoundInsert) (source : List (List Kept)) (width : ℕ) → Puts calls a a cursor b.table causes (AreAllKept causes a.next source) (λ rows. rows_run b (take 0 rows)) (0 * row_steps width)
-puts_none calls a cursor causes b source width = record {
+abbrev pub PutsFirst : Calls → Draft → Draft → BoundInsert → ℕ → List (List Kept) → ℕ → ℕ → Type 0
+PutsFirst calls a b insert causes source i most =
+    Puts calls a b insert.table causes (AreAllKept causes a.next source) (λ env rows. rows_run env insert (take i rows)) most
+
+pub puts_none : (calls : Calls) (a : Draft) (causes : ℕ) (b : BoundInsert) (source : List (List Kept)) (most : ℕ) → PutsFirst calls a a b causes source 0 (0 * most)
+puts_none calls a causes b source most = record {
   grows = grows_none a;
   next = refl;
-  steady = st_none (cursor ∷ []) [] a;
-  puts = λ m called u at h s room start opened calm rows kept_now. record {
+  steady = at_none (1 ∷ []) a;
+  puts = λ m called u at h s room start set w rows kept_now. record {
     regs = s.regs;
-    way = leads_more m (0 * row_steps width) (omega arith) (subst (λ p. Reaches m 0 s (record s { pc = p })) start (reaches_none m s));
+    way = leads_more m (0 * most) (omega arith) (subst (λ p. Reaches m 0 s (record s { pc = p })) start (reaches_none m s));
     long = refl;
-    calm = calm;
+    calm = set.calm;
     keeps = λ k lt ne. refl;
   };
 }
@@ -54,6 +57,11 @@ ran_then m i n s p1 p2 mark causes None x f up l next =
       keeps = λ k lt ne. v.keeps k lt ne ∙ l.keeps k lt ne;
     }
 
+ran_more : (m : Setting) (i n : ℕ) → i ≤ n → (s : State) (place mark causes : ℕ) (o : Option CauseSet) (y : Shared) → Ran m i s place mark causes o y → Ran m n s place mark causes o y
+ran_more m i n le s place mark causes (Some why) y z = leads_more m n le z
+ran_more m i n le s place mark causes None y l =
+    record { regs = l.regs; way = leads_more m n le l.way; long = l.long; calm = l.calm; keeps = l.keeps }
+
 -- what is kept of one row is part of what is kept of all
 row_kept : (f : List Kept → List Out) (source : List (List Kept)) (rows : List (List Value)) (i : ℕ) (row : List Kept) → map f source ≡ map (map Good) rows → i < length source → row ≡ get_or source i row → f row ≡ map Good (get_or rows i [])
 row_kept f [] rows i row e lt is = absurd (omega (arith, lt))
@@ -67,39 +75,36 @@ rows_long causes mark source rows regs e =
     sym (length-map source (map (kept_out regs))) ∙ ap length (e regs (λ k lt ne. refl)) ∙ length-map rows (map Good)
 
 -- one row more
-pub puts_row : {calls : Calls} {a b d : Draft} {cursor causes : ℕ} (insert : BoundInsert) (source : List (List Kept)) (i most : ℕ) (row : List Kept) → i < length source → row ≡ get_or source i row → Puts calls a b cursor insert.table causes (AreAllKept causes a.next source) (λ rows. rows_run insert (take i rows)) (i * most) → Puts calls b d cursor insert.table causes (AreKept causes b.next row) (row_course insert) most → Puts calls a d cursor insert.table causes (AreAllKept causes a.next source) (λ rows. rows_run insert (take (i + 1) rows)) ((i + 1) * most)
-puts_row {calls} {a} {b} {d} {cursor} {causes} insert source i most row lt is x y = record {
+pub puts_row : {calls : Calls} {a b d : Draft} {causes : ℕ} (insert : BoundInsert) (source : List (List Kept)) (i most : ℕ) (row : List Kept) → i < length source → row ≡ get_or source i row → PutsFirst calls a b insert causes source i (i * most) → Puts calls b d insert.table causes (AreKept causes b.next row) (λ env. row_put env insert) most → PutsFirst calls a d insert causes source (i + 1) ((i + 1) * most)
+puts_row {calls} {a} {b} {d} {causes} insert source i most row lt is x y = record {
   grows = grows_then x.grows y.grows;
   next = y.next ∙ x.next;
-  steady = st_then x.grows x.steady y.steady;
-  puts = λ m called u at h s room start opened calm rows kept_now.
+  steady = at_then x.steady y.steady;
+  puts = λ m called u at h s room start set w rows kept_now.
+      let env = seen_from m w in
       let values = get_or rows i [] in
-      let first = rows_run insert (take i rows) in
+      let first = rows_run env insert (take i rows) in
       let inside : i < length rows = omega (arith, lt, rows_long causes a.next source rows s.regs kept_now) in
       let more : take (i + 1) rows ≡ take i rows ++ values ∷ [] = take_more rows i [] inside in
-      let all : and_on (first s.shared) (row_course insert values) ≡ rows_run insert (take (i + 1) rows) s.shared = rows_run-last insert (take i rows) values s.shared ∙ ap (λ l. rows_run insert l s.shared) (sym more) in
-      let both = ran_then m (i * most) most s (length b.code) (length d.code) a.next causes (first s.shared).causes (first s.shared).shared (row_course insert values) room.sound (x.puts m called u at (y.grows.holds m.prog u at h) s (ready_less room y.grows.most y.grows.cursors) start opened calm rows kept_now) (λ regs long calm_then same up.
+      let all : and_on (first s.shared) (row_put env insert values) ≡ rows_run env insert (take (i + 1) rows) s.shared = rows_run-last env insert (take i rows) values s.shared ∙ ap (λ l. rows_run env insert l s.shared) (sym more) in
+      let both = ran_then m (i * most) most s (length b.code) (length d.code) a.next causes (first s.shared).causes (first s.shared).shared (row_put env insert values) room.sound (x.puts m called u at (y.grows.holds m.prog u at h) s (ready_less room y.grows.most y.grows.cursors) start set w rows kept_now) (λ regs long calm_then same up.
       let t : State = record s { pc = length b.code; regs = regs; shared = (first s.shared).shared } in
       let row_now : AreKept causes b.next row values t.regs = λ q agree. row_kept (map (kept_out q)) source rows i row (kept_now q (λ k below ne. agree k (omega (arith, below, x.next)) ne ∙ same k below ne)) lt is in
-      subst (λ k. Ran m most t (length d.code) k causes (row_course insert values t.shared).causes (row_course insert values t.shared).shared) x.next (y.puts m called u at h t (record { unit = room.unit; regs = omega (arith, room.regs, long); cursors = room.cursors; sound = up }) refl opened calm_then values row_now)) in
+      subst (λ k. Ran m most t (length d.code) k causes (row_put env insert values t.shared).causes (row_put env insert values t.shared).shared) x.next (y.puts m called u at h t (record { unit = room.unit; regs = omega (arith, room.regs, long); cursors = room.cursors; sound = up }) refl (record { scene = set.scene; args = set.args; calm = calm_then }) w values row_now)) in
       let steps : i * most + most ≤ (i + 1) * most = omega arith in
-      ran_more m (i * most + most) ((i + 1) * most) steps s (length d.code) a.next causes (rows_run insert (take (i + 1) rows) s.shared).causes (rows_run insert (take (i + 1) rows) s.shared).shared (subst (λ (c : Course). Ran m (i * most + most) s (length d.code) a.next causes c.causes c.shared) all both);
+      ran_more m (i * most + most) ((i + 1) * most) steps s (length d.code) a.next causes (rows_run env insert (take (i + 1) rows) s.shared).causes (rows_run env insert (take (i + 1) rows) s.shared).shared (subst (λ (c : Course). Ran m (i * most + most) s (length d.code) a.next causes c.causes c.shared) all both);
 }
-  where
-    ran_more : (m : Setting) (i n : ℕ) → i ≤ n → (s : State) (place mark causes : ℕ) (o : Option CauseSet) (y : Shared) → Ran m i s place mark causes o y → Ran m n s place mark causes o y
-    ran_more m i n le s place mark causes (Some why) y z = leads_more m n le z
-    ran_more m i n le s place mark causes None y l =
-        record { regs = l.regs; way = leads_more m n le l.way; long = l.long; calm = l.calm; keeps = l.keeps }
 
 -- all rows
-pub puts_all : {calls : Calls} {a b : Draft} {cursor causes : ℕ} (insert : BoundInsert) (source : List (List Kept)) (i width : ℕ) → i ≡ length source → Puts calls a b cursor insert.table causes (AreAllKept causes a.next source) (λ rows. rows_run insert (take i rows)) (i * row_steps width) → Puts calls a b cursor insert.table causes (AreAllKept causes a.next source) (rows_run insert) (length source * row_steps width)
-puts_all {calls} {a} {b} {cursor} {causes} insert source i width i_is x = record {
+pub puts_all : {calls : Calls} {a b : Draft} {causes : ℕ} (insert : BoundInsert) (source : List (List Kept)) (i most : ℕ) → i ≡ length source → PutsFirst calls a b insert causes source i (i * most) → Puts calls a b insert.table causes (AreAllKept causes a.next source) (λ env. rows_run env insert) (length source * most)
+puts_all {calls} {a} {b} {causes} insert source i most i_is x = record {
   grows = x.grows;
   next = x.next;
   steady = x.steady;
-  puts = λ m called u at h s room start opened calm rows kept_now.
+  puts = λ m called u at h s room start set w rows kept_now.
+      let env = seen_from m w in
       let whole : take i rows ≡ rows = take_all i rows (omega (arith, i_is, rows_long causes a.next source rows s.regs kept_now)) in
-      subst (λ l. Ran m (length source * row_steps width) s (length b.code) a.next causes (rows_run insert l s.shared).causes (rows_run insert l s.shared).shared) whole (subst (λ n. Ran m (n * row_steps width) s (length b.code) a.next causes (rows_run insert (take i rows) s.shared).causes (rows_run insert (take i rows) s.shared).shared) i_is (x.puts m called u at h s room start opened calm rows kept_now));
+      subst (λ l. Ran m (length source * most) s (length b.code) a.next causes (rows_run env insert l s.shared).causes (rows_run env insert l s.shared).shared) whole (subst (λ n. Ran m (n * most) s (length b.code) a.next causes (rows_run env insert (take i rows) s.shared).causes (rows_run env insert (take i rows) s.shared).shared) i_is (x.puts m called u at h s room start set w rows kept_now));
 }
 
 -- ---- as stretches
@@ -116,20 +121,20 @@ abbrev pub HasFailed : (Shared → Course) → Last
 HasFailed course h0 o x = (why : CauseSet) × (o ≡ GivesUp why) × (course h0.shared ≡ failed why x)
 
 -- a stretch that takes the course
-pub puts_of : {X : Type 0} {calls : Calls} {a b : Draft} {most : ℕ} (cursor table causes : ℕ) (IsThere : X → List Out → Type 0) (course : X → Shared → Course) (p : X → Claim) → Grows a b → b.next ≡ a.next → Steady (cursor ∷ []) [] a b → ((x : X) (h : Here) → cursor_at h.scene.cursors cursor ≡ Open table None → read h.regs causes ≡ no_causes → IsThere x h.regs → p x h h) → ((m : Setting) → calls m → (x : X) → Triple m a b (λ h0. most) no_labels (HasFailed (course x)) (p x) (HasRun (course x) a.next causes)) → Puts calls a b cursor table causes IsThere course most
-puts_of {X} {calls} {a} {b} {most} cursor table causes IsThere course p grows next steady begins run = record {
+pub puts_of : {X : Type 0} {calls : Calls} {a b : Draft} {most : ℕ} (table causes : ℕ) (IsThere : X → List Out → Type 0) (course : Environment → X → Shared → Course) (p : Setting → World → X → Claim) → Grows a b → b.next ≡ a.next → SteadyAt (1 ∷ []) a b → ((m : Setting) (w : World) (x : X) (s : State) → IsSound (world_of s.shared) → IsSet table causes s → IsThere x s.regs → p m w x (here s) (here s)) → ((m : Setting) → calls m → (w : World) (x : X) → Triple m a b (λ h0. most) no_labels (HasFailed (course (seen_from m w) x)) (p m w x) (HasRun (course (seen_from m w) x) a.next causes)) → Puts calls a b table causes IsThere course most
+puts_of {X} {calls} {a} {b} {most} table causes IsThere course p grows next steady begins run = record {
   grows = grows;
   next = next;
   steady = steady;
-  puts = λ m called u at h s room start opened calm x kept_now.
-      by m at s x ((run m called x).runs u at h (here s) s room start (begins x (here s) opened calm kept_now));
+  puts = λ m called u at h s room start set w x kept_now.
+      by m at s (course (seen_from m w) x) ((run m called w x).runs u at h (here s) s room start (begins m w x s room.sound set kept_now));
 }
   where
-    by : (m : Setting) (at : ℕ → ℕ) (s : State) (x : X) → Exits m at most (λ l h. ⊥) (HasFailed (course x) (here s)) s (length b.code) (HasRun (course x) a.next causes (here s)) → Ran m most s (length b.code) a.next causes (course x s.shared).causes (course x s.shared).shared
-    by m at s x (off l h) = absurd h.holds
-    by m at s x (ends o y z h) =
+    by : (m : Setting) (at : ℕ → ℕ) (s : State) (f : Shared → Course) → Exits m at most (λ l h. ⊥) (HasFailed f (here s)) s (length b.code) (HasRun f a.next causes (here s)) → Ran m most s (length b.code) a.next causes (f s.shared).causes (f s.shared).shared
+    by m at s f (off l h) = absurd h.holds
+    by m at s f (ends o y z h) =
         subst (λ (c : Course). Ran m most s (length b.code) a.next causes c.causes c.shared) (sym h.2) (subst (λ v. Leads m most s (leads_to v s.stack y)) h.1 z)
-    by m at s x (on h) = subst (λ (c : Course). Ran m most s (length b.code) a.next causes c.causes c.shared) (sym h.holds.is) (record {
+    by m at s f (on h) = subst (λ (c : Course). Ran m most s (length b.code) a.next causes c.causes c.shared) (sym h.holds.is) (record {
       regs = h.regs;
       way = subst (λ y. Reaches m most s (there s (length b.code) h.regs s.scene y h.shared)) h.holds.store (subst (λ c. Reaches m most s (there s (length b.code) h.regs c h.store h.shared)) h.holds.scene h.way);
       long = h.long;
@@ -137,17 +142,23 @@ puts_of {X} {calls} {a} {b} {most} cursor table causes IsThere course p grows ne
       keeps = h.holds.regs;
     })
 
+-- what is there in front of a row, as a claim
+pub record IsSetAt (table causes : ℕ) (h : Here) : Type 0 where
+  pub scene : h.scene ≡ scene_on table
+  pub args : h.inputs.args ≡ []
+  pub calm : read h.regs causes ≡ no_causes
+
 -- code that takes the course of what is there, inside another stretch
-pub t_puts : (m : Setting) {X : Type 0} {calls : Calls} {a b : Draft} {cursor table causes most : ℕ} {IsThere : X → List Out → Type 0} {course : X → Shared → Course} (called : calls m) (what : Here → X) (g : Labels) (e : Last) (p q : Claim) → Puts calls a b cursor table causes IsThere course most → ((h0 h : Here) → p h0 h → (cursor_at h.scene.cursors cursor ≡ Open table None) × (read h.regs causes ≡ no_causes) × IsThere (what h0) h.regs) → ((h0 h : Here) (regs : List Out) (x : Shared) → p h0 h → course (what h0) h.shared ≡ finished x → q h0 (record h { regs = regs; shared = x })) → ((h0 h : Here) (why : CauseSet) (x : Shared) → p h0 h → course (what h0) h.shared ≡ failed why x → e h0 (GivesUp why) x) → Triple m a b (λ h0. most) g e p q
-t_puts m {X} {calls} {a} {b} {cursor} {table} {causes} {most} {IsThere} {course} called what g e p q x known goes fails = record {
+pub t_puts : (m : Setting) {X : Type 0} {calls : Calls} {a b : Draft} {table causes most : ℕ} {IsThere : X → List Out → Type 0} {course : Environment → X → Shared → Course} (called : calls m) (w : Here → World) (what : Here → X) (g : Labels) (e : Last) (p q : Claim) → Puts calls a b table causes IsThere course most → ((h0 h : Here) → p h0 h → IsSetAt table causes h × IsThere (what h0) h.regs) → ((h0 h : Here) (regs : List Out) (x : Shared) → p h0 h → course (seen_from m (w h0)) (what h0) h.shared ≡ finished x → q h0 (record h { regs = regs; shared = x })) → ((h0 h : Here) (why : CauseSet) (x : Shared) → p h0 h → course (seen_from m (w h0)) (what h0) h.shared ≡ failed why x → e h0 (GivesUp why) x) → Triple m a b (λ h0. most) g e p q
+t_puts m {X} {calls} {a} {b} {table} {causes} {most} {IsThere} {course} called w what g e p q x known goes fails = record {
   extends = extends x.grows;
   runs = λ u at h h0 s room start pre.
       let now = known h0 (here s) pre in
-      let c = course (what h0) s.shared in
-      by at h0 s pre c.causes c.shared refl (x.puts m called u at h s room start now.0 now.1 (what h0) now.2);
+      let c = course (seen_from m (w h0)) (what h0) s.shared in
+      by at h0 s pre c.causes c.shared refl (x.puts m called u at h s room start (record { scene = now.0.scene; args = now.0.args; calm = now.0.calm }) (w h0) (what h0) now.1);
 }
   where
-    by : (at : ℕ → ℕ) (h0 : Here) (s : State) → p h0 (here s) → (o : Option CauseSet) (y : Shared) → course (what h0) s.shared ≡ record { causes = o; shared = y } → Ran m most s (length b.code) a.next causes o y → Exits m at most (λ l. g l h0) (e h0) s (length b.code) (q h0)
+    by : (at : ℕ → ℕ) (h0 : Here) (s : State) → p h0 (here s) → (o : Option CauseSet) (y : Shared) → course (seen_from m (w h0)) (what h0) s.shared ≡ record { causes = o; shared = y } → Ran m most s (length b.code) a.next causes o y → Exits m at most (λ l. g l h0) (e h0) s (length b.code) (q h0)
     by at h0 s pre None y is l =
         on (record { regs = l.regs; scene = s.scene; store = s.store; shared = y; way = l.way; long = l.long; wide = refl; holds = goes h0 (here s) l.regs y pre is })
     by at h0 s pre (Some why) y is z = ends (GivesUp why) y z (fails h0 (here s) why y pre is)

@@ -6,7 +6,7 @@ use Rattle.bound_tree.specs.Exprs.{BoundArms, BoundExpr, BoundExprs, BoundMatche
 use Rattle.eng_value.specs.Applied.{binary_of, member_of, unary_of}
 use Rattle.eng_value.specs.Collations.{keys_of}
 use Rattle.eng_value.specs.Comparisons.{comparison_of, like_escaped_of}
-use Rattle.eng_value.specs.Environments.{Environment, ItemRow, column_of, null_row, row_at}
+use Rattle.eng_value.specs.Environments.{Environment, ItemRow, Lists, column_of, null_row, row_at}
 use Rattle.eng_value.specs.Truths.{choice_of}
 use Rattle.eng_value.specs.declared.compare_op.CompareOp.TheVariants as compare
 use Rattle.eng_value.specs.declared.out.Out.{Out}
@@ -15,9 +15,9 @@ use Rattle.sql_meaning.specs.Expression.{arms_of, between_of, chosen_in, first_k
 three : (f : Out → Out → Out → Out) {a a' b b' c c' : Out} → a ≡ a' → b ≡ b' → c ≡ c' → f a b c ≡ f a' b' c'
 three f {a} {a'} {b} {b'} {c} {c'} p q r = ap (λ o. f o b c) p ∙ ap (λ o. f a' o c) q ∙ ap (f a' b') r
 
-module _ (x : Environment) (rows : List ItemRow) (same : (item : ℕ) → row_at x item ≡ slice_index_or rows item null_row) where
+module _ (x : Environment) (rows : List ItemRow) (world : Lists) (same : (item : ℕ) → row_at x item ≡ slice_index_or rows item null_row) where
   abbrev other : Environment
-  other = record x { rows = rows }
+  other = record x { rows = rows; world = world }
 
   mutual
     -- an expression comes to the same

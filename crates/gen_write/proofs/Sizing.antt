@@ -1,14 +1,19 @@
--- How many instructions an INSERT takes by how large its source is.
-use Rattle.std.proofs.Common.{◌≡◌, ℕ, zero, suc, ◌+◌, ◌*◌, ◌≤◌, ◌<◌, Bool, true, false, ◌&&◌, List, [], ◌∷◌, length, refl, ap, ◌∙◌, arith}
+-- How many instructions an INSERT takes by how large it is.
+use Rattle.std.proofs.Common.{◌≡◌, ℕ, zero, suc, ◌+◌, ◌*◌, ◌≤◌, ◌<◌, Bool, true, false, not, ◌&&◌, List, [], ◌∷◌, length, if◌then◌else◌, refl, ap, ◌∙◌, arith}
 use Rattle.std.specs.Prelude.{Option, Some, None, is_some, sum_by}
 use Rattle.std.specs.List.{list_all}
+use Rattle.std.proofs.Math.Nat.{mul-le-mul_left}
 use Rattle.std.proofs.lemmas.List.Sums.{sum_by-cons}
 use Rattle.gen_expr.specs.Steps.{steps_of}
 use Rattle.gen_expr.proofs.Bounds.{steps_and_two_within}
-use Rattle.gen_write.specs.Writes.{LiteralsTakeNoSteps, StepsAreFew, and_refused, is_plain, plain_literal, read_steps, row_steps, steps_unless, value_steps}
+use Rattle.gen_write.specs.Writes.{LiteralsTakeNoSteps, StepsAreFew, and_refused, check_steps, checks_steps, column_steps, columns_beside, default_nodes, is_bare, is_plain, nodes_within, null_steps, plain_literal, read_steps, row_bound, row_steps, rowid_given, rowid_steps, source_of, steps_unless, stored_steps, turns_of, value_steps}
 use Rattle.bound_size.specs.Sizes.{all_nodes}
 use Rattle.bound_tree.specs.Exprs.{BoundExpr}
+use Rattle.sql_meaning.specs.Statement.{refusal_of}
 use Rattle.sql_meaning.specs.declared.bound.BoundInsert.{BoundInsert}
+use Rattle.sql_meaning.specs.declared.bound.PutColumn.{PutColumn}
+use Rattle.sql_meaning.specs.declared.bound.RowidFrom.{RowidFrom}
+use Rattle.sql_meaning.specs.declared.bound.RowidFrom.TheVariants as rowid
 use Rattle.sql_words.specs.declared.literal.Literal.{Literal}
 
 -- ---- a test takes three, and none where there is nothing to test
@@ -31,21 +36,59 @@ unless-few : (o : Option Literal) (n : ℕ) → steps_unless o n ≤ n + 1
 unless-few None n = omega arith
 unless-few (Some l) n = omega arith
 
-values-few : (es : List BoundExpr) → sum_by value_steps es ≤ 4 * all_nodes es
+values-few : (es : List BoundExpr) → sum_by value_steps es ≤ 3 * all_nodes es
 values-few [] = omega arith
 values-few (e ∷ es) = omega (arith, steps_and_two_within e, unless-few (plain_literal e) (steps_of e), values-few es, sum_by-cons value_steps e es)
 
-rows-few : (rows : List (List BoundExpr)) → sum_by read_steps rows ≤ 4 * sum_by all_nodes rows + 3 * length rows
+rows-few : (rows : List (List BoundExpr)) → sum_by read_steps rows ≤ 3 * sum_by all_nodes rows + 3 * length rows
 rows-few [] = omega arith
 rows-few (row ∷ rows) =
     omega (arith, refused-few (sum_by value_steps row), values-few row, rows-few rows, sum_by-cons read_steps row rows, sum_by-cons all_nodes row rows)
 
+-- a row of values by its columns, defaults and CHECKs
+stored-few : (place : Option ℕ) (default : Option BoundExpr) → stored_steps place default ≤ 3 * nodes_within default + 3
+stored-few None None = omega arith
+stored-few None (Some x) = omega (arith, steps_and_two_within x)
+stored-few (Some k) default = omega arith
+
+columns-few : (columns : List PutColumn) → sum_by column_steps columns ≤ 3 * sum_by default_nodes columns + 3 * length columns
+columns-few [] = omega arith
+columns-few (c ∷ columns) =
+    omega (arith, stored-few c.place c.default, columns-few columns, sum_by-cons column_steps c columns, sum_by-cons default_nodes c columns)
+
+beside-few : (from : RowidFrom) → sum_by column_steps (columns_beside from) ≤ 3
+beside-few rowid.Drawn = omega arith
+beside-few (rowid.Given place) = omega arith
+beside-few (rowid.Column place) = omega arith
+
+null-few : (b : Bool) → (if b then 3 else 0) ≤ 3
+null-few true = omega arith
+null-few false = omega arith
+
+nulls-few : (columns : List PutColumn) → sum_by null_steps columns ≤ 3 * length columns
+nulls-few [] = omega arith
+nulls-few (c ∷ columns) = omega (arith, null-few c.not_null, nulls-few columns, sum_by-cons null_steps c columns)
+
+each-few : (checks : List BoundExpr) → sum_by check_steps checks ≤ 3 * all_nodes checks + 3 * length checks
+each-few [] = omega arith
+each-few (c ∷ checks) = omega (arith, steps_and_two_within c, each-few checks, sum_by-cons check_steps c checks)
+
+checks-few : (checks : List BoundExpr) → checks_steps checks ≤ 3 * all_nodes checks + 3 * length checks + 2
+checks-few [] = omega arith
+checks-few (c ∷ checks) = omega (arith, each-few (c ∷ checks))
+
+rowid-few : (given : Option ℕ) → rowid_steps given ≤ 7
+rowid-few None = omega arith
+rowid-few (Some place) = omega arith
+
+row-few : (b : BoundInsert) → row_steps b ≤ row_bound b
+row-few b =
+    omega (arith, columns-few b.columns, beside-few b.rowid, rowid-few (rowid_given b.rowid (length b.columns)), nulls-few b.columns, checks-few b.checks)
+
 pub steps-few : (b : BoundInsert) → StepsAreFew b
 steps-few b x =
-    let rows = length b.rows in
-    let width = length b.columns in
-    let all : rows * (3 * width + 8) ≡ rows * row_steps width + rows * 3 = omega arith in
-    omega (arith, rows-few b.rows, all)
+    let turns = turns_of (refusal_of (source_of b x)) (length b.rows) in
+    omega (arith, rows-few b.rows, mul-le-mul_left turns (row-few b))
 
 -- ---- of literals
 
@@ -69,5 +112,34 @@ rows-none (row ∷ rows) h =
     let known = both (list_all is_plain row) (list_all (list_all is_plain) rows) h in
     omega (arith, ap and_refused (values-none row known.0), rows-none rows known.1, sum_by-cons read_steps row rows)
 
+bare : (c : PutColumn) → is_bare c ≡ true → (column_steps c ≡ 3) × (null_steps c ≡ 0)
+bare c h = by c.place c.default c.not_null h
+  where
+    by : (place : Option ℕ) (default : Option BoundExpr) (not_null : Bool) → (not not_null && not (is_some default)) ≡ true → (stored_steps place default ≡ 3) × (◌≡◌ {A = ℕ} (if not_null then 3 else 0) 0)
+    by place default true h = absurd (cc)
+    by None None false h = (refl, refl)
+    by None (Some x) false h = absurd (cc)
+    by (Some k) default false h = (refl, refl)
+
+bare-all : (columns : List PutColumn) → list_all is_bare columns ≡ true → (sum_by column_steps columns ≡ 3 * length columns) × (sum_by null_steps columns ≡ 0)
+bare-all [] h = (omega arith, refl)
+bare-all (c ∷ columns) h =
+    let known = both (is_bare c) (list_all is_bare columns) h in
+    let first = bare c known.0 in
+    let rest = bare-all columns known.1 in
+    (omega (arith, first.0, rest.0, sum_by-cons column_steps c columns), omega (arith, first.1, rest.1, sum_by-cons null_steps c columns))
+
+row-bare : (b : BoundInsert) → list_all is_bare b.columns ≡ true → b.checks ≡ [] → b.rowid ≡ rowid.Drawn → row_steps b ≡ 3 * length b.columns + 5
+row-bare b h none drawn =
+    let columns = bare-all b.columns h in
+    let beside : sum_by column_steps (columns_beside b.rowid) ≡ 0 = ap (λ from. sum_by column_steps (columns_beside from)) drawn in
+    let rowids : rowid_steps (rowid_given b.rowid (length b.columns)) ≡ 1 = ap (λ from. rowid_steps (rowid_given from (length b.columns))) drawn in
+    let checks : checks_steps b.checks ≡ 0 = ap checks_steps none in
+    omega (arith, columns.0, columns.1, beside, rowids, checks)
+
 pub literals-none : (b : BoundInsert) → LiteralsTakeNoSteps b
-literals-none b h x = ap (λ n. n + length b.rows * row_steps (length b.columns) + 4) (rows-none b.rows h) ∙ omega arith
+literals-none b h bare_columns none drawn x =
+    let turns = turns_of (refusal_of (source_of b x)) (length b.rows) in
+    ap (λ n. n + turns * row_steps b + 4) (rows-none b.rows h)
+    ∙ ap (λ n. 0 + turns * n + 4) (row-bare b bare_columns none drawn)
+    ∙ omega arith

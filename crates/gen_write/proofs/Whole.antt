@@ -1,13 +1,14 @@
 -- The programs of an INSERT, of a CREATE TABLE and a DROP TABLE, and of a statement that does nothing.
-use Rattle.std.proofs.Common.{◌≡◌, ℕ, zero, suc, ◌+◌, ◌*◌, List, [], ◌∷◌, length, sum_by, ℤ, Some, None, refl, sym, ap, ◌∙◌, subst, arith}
-use Rattle.std.specs.Prelude.{slice_index_or}
+use Rattle.std.proofs.Common.{◌≡◌, ℕ, zero, suc, ◌+◌, ◌*◌, ◌≤◌, List, [], ◌∷◌, length, sum_by, ℤ, Some, None, refl, sym, ap, ◌∙◌, subst, arith}
+use Rattle.std.specs.Prelude.{slice_index_or, slice_set}
 use Rattle.std.specs.declared.option.Option.{Option}
 use Rattle.eng_value.specs.Causes.{CauseSet}
-use Rattle.eng_value.specs.Environments.{Surroundings, environment, no_causes, null_row}
+use Rattle.eng_value.specs.Environments.{Environment, Surroundings, environment, no_causes, null_row}
 use Rattle.eng_value.specs.declared.out.Out.{Out}
-use Rattle.gen_write.specs.Stretches.{AreAllKept, KeepsRows, Puts, SourcedBy, items_for, values_in}
-use Rattle.gen_write.specs.Writes.{create_run, create_steps, drop_run, drop_steps, finished, items_in, nothing_run, nothing_steps, put_run, put_steps, read_steps, row_steps, rows_run, run_by, source_of, source_run, untouched}
+use Rattle.gen_write.specs.Stretches.{AreAllKept, KeepsRows, Puts, SourcedBy, items_for, scene_on, values_in}
+use Rattle.gen_write.specs.Writes.{create_run, create_steps, drop_run, drop_steps, finished, items_in, nothing_run, nothing_steps, put_run, put_steps, read_steps, row_steps, rows_run, run_by, seen_in, source_of, source_run, turns_of, untouched}
 use Rattle.gen_write.specs.declared.source.Kept.{Kept}
+use Rattle.gen_write.proofs.Opens.{at_of, at_opened, steady_from}
 use Rattle.gen_write.proofs.RowRuns.{t_puts}
 use Rattle.gen_write.proofs.Seeing.{value_of-same}
 use Rattle.sql_meaning.specs.Expression.{value_of}
@@ -18,19 +19,17 @@ use Rattle.vm_code.specs.declared.op.Op.TheVariants as op
 use Rattle.vm_code.specs.declared.program.Program.{Program}
 use Rattle.vm_code.specs.declared.schema_change.SchemaChange.{SchemaChange}
 use Rattle.vm_code.specs.declared.schema_change.SchemaChange.TheVariants.{AddTable, DropTable}
-use Rattle.vm_code.specs.declared.way.Way.TheVariants as way
-use Rattle.vm_code.specs.Tracked.{Steady}
 use Rattle.vm_code.specs.Draft.{Draft, begun, taken, with_op, with_cursor}
-use Rattle.vm_code.specs.Machine.{Closed, Cursor, Open, Finished, GivesUp, Run, Setting, Shared, State, Performs, cursor_at, ending_by, read, with_schema, world_of}
+use Rattle.vm_code.specs.Machine.{Closed, Cursor, Open, Finished, GivesUp, Inputs, Run, Scene, Setting, Shared, State, Performs, cursor_at, ending_by, read, with_schema, world_of}
 use Rattle.vm_code.specs.Frames.{Calls, Here, IsProgramOf, environment_of, here, no_calls, surroundings_of, with_regs}
 use Rattle.vm_code.specs.Balanced.{IsBalanced}
 use Rattle.vm_code.specs.Claims.{Claim, Exits, Labels, Last, Triple, ends, on}
 use Rattle.vm_code.proofs.Drafts.{extends, g_cursor, g_op, g_taken, grows_then}
-use Rattle.vm_code.proofs.Triples.{no_labels, t_seq, t_more, t_draft, t_op, t_halt}
+use Rattle.vm_code.proofs.Triples.{no_labels, t_seq, t_more, t_more_where, t_draft, t_op, t_halt}
 use Rattle.vm_code.proofs.Effects.{t_put}
 use Rattle.vm_code.proofs.Loops.{t_move}
 use Rattle.vm_code.proofs.Balancing.{balanced_of}
-use Rattle.vm_code.proofs.Tracks.{st_none, st_op, st_opened, st_taken, st_then}
+use Rattle.vm_code.proofs.Tracks.{st_cursor, st_none, st_op, st_taken, st_then}
 use Rattle.vm_code.proofs.Whole.{Begins, EndsAs, performs_of}
 
 -- ---- what is shared at the start of a run
@@ -43,34 +42,40 @@ untouched_is h0 h pre = ap (λ (q : Here). q.shared) pre.0 ∙ pre.1.shared
 
 -- ---- what the source sees
 
--- the cursor of the table reads NULL
-one_closed : (cursors : List Cursor) → length cursors ≡ 1 → cursor_at cursors 0 ≡ Closed → cursors ≡ Closed ∷ []
-one_closed [] e shut = absurd (omega arith)
-one_closed (c ∷ []) e shut = ap (λ x. x ∷ []) shut
-one_closed (c ∷ d ∷ cs) e shut = absurd (omega arith)
+-- two cursors that are closed read NULL
+two_closed : (cursors : List Cursor) → length cursors ≡ 2 → cursor_at cursors 0 ≡ Closed → cursor_at cursors 1 ≡ Closed → cursors ≡ Closed ∷ Closed ∷ []
+two_closed [] e x y = absurd (omega arith)
+two_closed (c ∷ []) e x y = absurd (omega arith)
+two_closed (c ∷ d ∷ []) e x y = ap (λ k. k ∷ d ∷ []) x ∙ ap (λ k. Closed ∷ k ∷ []) y
+two_closed (c ∷ d ∷ k ∷ cs) e x y = absurd (omega arith)
 
-no_row : (item : ℕ) → slice_index_or (null_row ∷ []) item null_row ≡ slice_index_or [] item null_row
+no_row : (item : ℕ) → slice_index_or (null_row ∷ null_row ∷ []) item null_row ≡ slice_index_or [] item null_row
 no_row zero = refl
-no_row (suc k) = refl
+no_row (suc zero) = refl
+no_row (suc (suc k)) = refl
 
-values-same : (x : Surroundings) (row : List BoundExpr) → values_in row (environment x [] [] (null_row ∷ [])) ≡ values_in row (environment x [] [] [])
+values-same : (x : Surroundings) (row : List BoundExpr) → values_in row (environment x [] [] (null_row ∷ null_row ∷ [])) ≡ values_in row (seen_in x)
 values-same x [] = refl
 values-same x (e ∷ row) =
-    ap (λ o. o ∷ values_in row (environment x [] [] (null_row ∷ []))) (value_of-same (environment x [] [] (null_row ∷ [])) [] no_row e)
-    ∙ ap (λ l. value_of e (environment x [] [] []) ∷ l) (values-same x row)
+    ap (λ o. o ∷ values_in row (environment x [] [] (null_row ∷ null_row ∷ []))) (value_of-same (environment x [] [] (null_row ∷ null_row ∷ [])) [] x.world no_row e)
+    ∙ ap (λ l. value_of e (seen_in x) ∷ l) (values-same x row)
 
-items-same : (x : Surroundings) (rows : List (List BoundExpr)) → items_for rows (environment x [] [] (null_row ∷ [])) ≡ items_in rows x
+items-same : (x : Surroundings) (rows : List (List BoundExpr)) → items_for rows (environment x [] [] (null_row ∷ null_row ∷ [])) ≡ items_in rows x
 items-same x [] = refl
 items-same x (row ∷ rows) =
-    ap (λ outs. item_of no_causes outs ∷ items_for rows (environment x [] [] (null_row ∷ []))) (values-same x row)
-    ∙ ap (λ l. item_of no_causes (values_in row (environment x [] [] [])) ∷ l) (items-same x rows)
+    ap (λ outs. item_of no_causes outs ∷ items_for rows (environment x [] [] (null_row ∷ null_row ∷ []))) (values-same x row)
+    ∙ ap (λ l. item_of no_causes (values_in row (seen_in x)) ∷ l) (items-same x rows)
 
 -- a main unit has no arguments, and nothing in its slots
-sees : (m : Setting) (h : Here) → Begins 1 h → environment_of m h ≡ environment (surroundings_of m h.shared) [] [] (null_row ∷ [])
+scene_begins : (h : Here) → Begins 2 h → h.scene ≡ record { cursors = Closed ∷ Closed ∷ []; slots = [] }
+scene_begins h b =
+    ap (λ l. record h.scene { cursors = l }) (two_closed h.scene.cursors b.wide (b.shut 0 (omega arith)) (b.shut 1 (omega arith)))
+    ∙ ap (λ l. record { cursors = Closed ∷ Closed ∷ []; slots = l }) b.slots
+
+sees : (m : Setting) (h : Here) → Begins 2 h → environment_of m h ≡ environment (surroundings_of m h.shared) [] [] (null_row ∷ null_row ∷ [])
 sees m h b =
-    ap (λ l. environment_of m (record h { scene = record h.scene { cursors = l } })) (one_closed h.scene.cursors b.wide (b.shut 0 (omega arith)))
-    ∙ ap (λ l. environment_of m (record h { scene = record { cursors = Closed ∷ []; slots = l } })) b.slots
-    ∙ ap (λ k. environment_of m (record h { scene = record { cursors = Closed ∷ []; slots = [] }; inputs = k })) b.inputs
+    ap (λ s. environment_of m (record h { scene = s })) (scene_begins h b)
+    ∙ ap (λ k. environment_of m (record h { scene = record { cursors = Closed ∷ Closed ∷ []; slots = [] }; inputs = k })) b.inputs
 
 -- ---- the source, inside another stretch
 
@@ -93,11 +98,11 @@ abbrev pub nulled : Draft
 nulled = with_op (taken (begun [])) (op.Null 0)
 
 abbrev pub open_on : Draft → ℕ → Draft
-open_on y table = with_op (with_cursor y) (op.OpenWrite 0 table)
+open_on y table = with_op (with_cursor (with_cursor y)) (op.OpenWrite 1 table)
 
-module _ (b : BoundInsert) (source : List (List Kept)) (y z : Draft) (x : KeepsRows no_calls nulled y 0 b.rows source) (none : y.cursors ≡ 0) (w : Puts no_calls (open_on y b.table) z 0 b.table 0 (AreAllKept 0 y.next source) (rows_run b) (length source * row_steps (length b.columns))) (one : z.cursors ≡ 1) where
+module _ (b : BoundInsert) (source : List (List Kept)) (y z : Draft) (x : KeepsRows no_calls nulled y 0 b.rows source) (none : y.cursors ≡ 0) (w : Puts no_calls (open_on y b.table) z b.table 0 (AreAllKept 0 y.next source) (λ env. rows_run env b) (length source * row_steps b)) (two : z.cursors ≡ 2) where
   abbrev closing : Draft
-  closing = with_op z (op.Close 0)
+  closing = with_op z (op.Close 1)
 
   abbrev whole : Draft
   whole = with_op closing op.Halt
@@ -107,10 +112,10 @@ module _ (b : BoundInsert) (source : List (List Kept)) (y z : Draft) (x : KeepsR
 
   -- the same but for the registers, of which the first holds no causes
   abbrev calm : Claim
-  calm h0 h = (with_regs h h0.regs ≡ h0) × Begins 1 h0 × (read h.regs 0 ≡ no_causes)
+  calm h0 h = (with_regs h h0.regs ≡ h0) × Begins 2 h0 × (read h.regs 0 ≡ no_causes)
 
   abbrev row_count : ℕ
-  row_count = length source * row_steps (length b.columns)
+  row_count = length source * row_steps b
 
   module _ (m : Setting) where
     abbrev last : Last
@@ -119,22 +124,31 @@ module _ (b : BoundInsert) (source : List (List Kept)) (y z : Draft) (x : KeepsR
     abbrev items : Here → List Item
     items h0 = source_of b (surroundings_of m h0.shared)
 
+    -- what all rows see
+    abbrev env : Here → Environment
+    env h0 = seen_in (surroundings_of m h0.shared)
+
     abbrev sourced : Claim
     sourced h0 h =
         (h.shared ≡ first_shared h0) × (refusal_of (items h0) ≡ None) × (read h.regs 0 ≡ no_causes) × AreAllKept 0 y.next source (given_of (items h0)) h.regs
+        × (h.scene ≡ record { cursors = Closed ∷ Closed ∷ []; slots = [] })
+        × (h.inputs.args ≡ [])
 
     abbrev opened : Claim
-    opened h0 h = sourced h0 h × (cursor_at h.scene.cursors 0 ≡ Open b.table None)
+    opened h0 h =
+        (h.shared ≡ first_shared h0) × (refusal_of (items h0) ≡ None) × (read h.regs 0 ≡ no_causes) × AreAllKept 0 y.next source (given_of (items h0)) h.regs
+        × (h.scene ≡ scene_on b.table)
+        × (h.inputs.args ≡ [])
 
     abbrev has_run : Claim
-    has_run h0 h = (refusal_of (items h0) ≡ None) × (rows_run b (given_of (items h0)) (first_shared h0) ≡ finished h.shared)
+    has_run h0 h = (refusal_of (items h0) ≡ None) × (rows_run (env h0) b (given_of (items h0)) (first_shared h0) ≡ finished h.shared)
 
     -- the run of a good source, and of a bad one
-    run_good : (h0 : Here) → refusal_of (items h0) ≡ None → run_by (rows_run b (given_of (items h0)) (first_shared h0)) ≡ put_run b (surroundings_of m h0.shared) h0.shared.written.last_rowid
-    run_good h0 e = ap (λ o. run_by (source_run b (first_shared h0) o (given_of (items h0)))) (sym e)
+    run_good : (h0 : Here) → refusal_of (items h0) ≡ None → run_by (rows_run (env h0) b (given_of (items h0)) (first_shared h0)) ≡ put_run b (surroundings_of m h0.shared) h0.shared.written.last_rowid
+    run_good h0 e = ap (λ o. run_by (source_run (env h0) b (first_shared h0) o (given_of (items h0)))) (sym e)
 
     run_bad : (h0 : Here) (why : CauseSet) → refusal_of (items h0) ≡ Some why → record { ending = ending_by (Some why); shared = first_shared h0 } ≡ put_run b (surroundings_of m h0.shared) h0.shared.written.last_rowid
-    run_bad h0 why e = ap (λ o. run_by (source_run b (first_shared h0) o (given_of (items h0)))) (sym e)
+    run_bad h0 why e = ap (λ o. run_by (source_run (env h0) b (first_shared h0) o (given_of (items h0)))) (sym e)
 
     -- what the source comes to
     seen : (h0 h : Here) → calm h0 h → items_for b.rows (environment_of m h) ≡ items h0
@@ -150,37 +164,50 @@ module _ (b : BoundInsert) (source : List (List Kept)) (y z : Draft) (x : KeepsR
     clears =
         let take = t_draft m no_labels last begins (g_taken (begun [])) refl in
         let clear = t_put m (taken (begun [])) (op.Null 0) 0 (λ h. no_causes) no_labels last begins calm (omega arith) (λ at s. refl) (λ h0 h regs pre long is same.
-        (ap (λ (k : Here). with_regs k h0.regs) pre.0, subst (λ n. Begins n h0) one pre.1, is)) in
+        (ap (λ (k : Here). with_regs k h0.regs) pre.0, subst (λ n. Begins n h0) two pre.1, is)) in
         t_more (λ h0. 1) (λ h0. omega arith) (t_seq take clear)
 
     reads : Triple m nulled y (λ h0. sum_by read_steps b.rows) no_labels last calm sourced
-    reads = t_keeps m tt no_labels last calm sourced x (λ h0 h pre. pre.2) (λ h0 h regs pre good kept_now is.
-        (shared_is h0 h pre, ap refusal_of (sym (seen h0 h pre)) ∙ good, is, subst (λ l. AreAllKept 0 y.next source (given_of l) regs) (seen h0 h pre) kept_now)) (λ h0 h why pre bad.
+    reads = t_keeps m tt no_labels last calm sourced x (λ h0 h pre. pre.2) (λ h0 h regs pre good kept_now is. (
+      shared_is h0 h pre,
+      ap refusal_of (sym (seen h0 h pre)) ∙ good,
+      is,
+      subst (λ l. AreAllKept 0 y.next source (given_of l) regs) (seen h0 h pre) kept_now,
+      ap (λ (k : Here). k.scene) pre.0 ∙ scene_begins h0 pre.1,
+      ap (λ (k : Here). k.inputs.args) pre.0 ∙ ap (λ (i : Inputs). i.args) pre.1.inputs,
+    )) (λ h0 h why pre bad.
         let run = run_bad h0 why (ap refusal_of (sym (seen h0 h pre)) ∙ bad) in
         (ap (λ (r : Run). r.ending) run, shared_is h0 h pre ∙ ap (λ (r : Run). r.shared) run))
 
     opens : Triple m y (open_on y b.table) (λ h0. 1) no_labels last sourced opened
     opens =
-        let cursor = t_draft m no_labels last sourced (g_cursor y) refl in
-        let open_it = t_move m (with_cursor y) (op.OpenWrite 0 b.table) 0 (Open b.table None) no_labels last sourced opened (omega arith) (λ at s. refl) (λ h0 h pre is. (pre, is)) in
+        let cursor = t_draft m no_labels last sourced (grows_then (g_cursor y) (g_cursor (with_cursor y))) refl in
+        let open_it = t_move m (with_cursor (with_cursor y)) (op.OpenWrite 1 b.table) 1 (Open b.table None) no_labels last sourced opened (omega arith) (λ at s. refl) (λ h0 h pre is.
+        (pre.0, pre.1, pre.2, pre.3, ap (λ (s : Scene). record s { cursors = slice_set s.cursors 1 (Open b.table None) }) pre.4, pre.5)) in
         t_more (λ h0. 1) (λ h0. omega arith) (t_seq cursor open_it)
 
-    puts : Triple m (open_on y b.table) z (λ h0. row_count) no_labels last opened has_run
-    puts = t_puts m tt (λ h0. given_of (items h0)) no_labels last opened has_run w (λ h0 h pre. (pre.1, pre.0.2, pre.0.3)) (λ h0 h regs k pre is.
-        (pre.0.1, ap (rows_run b (given_of (items h0))) (sym pre.0.0) ∙ is)) (λ h0 h why k pre is.
-        let run = ap run_by (sym (ap (rows_run b (given_of (items h0))) (sym pre.0.0) ∙ is)) ∙ run_good h0 pre.0.1 in
-        (ap (λ (r : Run). r.ending) run, ap (λ (r : Run). r.shared) run))
+    -- how many rows are put
+    abbrev turns : Here → ℕ
+    turns h0 = turns_of (refusal_of (items h0)) (length b.rows)
+
+    puts : Triple m (open_on y b.table) z (λ h0. turns h0 * row_steps b) no_labels last opened has_run
+    puts = t_more_where (λ h0. turns h0 * row_steps b) (λ h0 h pre.
+        let many : row_count ≡ length b.rows * row_steps b = ap (λ n. n * row_steps b) x.wide in
+        let same : turns_of (refusal_of (items h0)) (length b.rows) * row_steps b ≡ length b.rows * row_steps b = ap (λ o. turns_of o (length b.rows) * row_steps b) pre.1 in
+        subst (λ n. row_count ≤ n) (many ∙ sym same) (omega arith)) (t_puts m tt (λ h0. world_of h0.shared) (λ h0. given_of (items h0)) no_labels last opened has_run w (λ h0 h pre. (record { scene = pre.4; args = pre.5; calm = pre.2 }, pre.3)) (λ h0 h regs k pre is.
+        (pre.1, ap (rows_run (env h0) b (given_of (items h0))) (sym pre.0) ∙ is)) (λ h0 h why k pre is.
+        let run = ap run_by (sym (ap (rows_run (env h0) b (given_of (items h0))) (sym pre.0) ∙ is)) ∙ run_good h0 pre.1 in
+        (ap (λ (r : Run). r.ending) run, ap (λ (r : Run). r.shared) run)))
 
     closes : Triple m z closing (λ h0. 1) no_labels last has_run has_run
-    closes = t_move m z (op.Close 0) 0 Closed no_labels last has_run has_run (omega (arith, one)) (λ at s. refl) (λ h0 h pre is. pre)
+    closes = t_move m z (op.Close 1) 1 Closed no_labels last has_run has_run (omega (arith, two)) (λ at s. refl) (λ h0 h pre is. pre)
 
-    ends_run : Triple m (begun []) whole (λ h0. sum_by read_steps b.rows + length b.rows * row_steps (length b.columns) + 4) no_labels last begins (λ h0 h. ⊥)
+    ends_run : Triple m (begun []) whole (λ h0. sum_by read_steps b.rows + turns h0 * row_steps b + 4) no_labels last begins (λ h0 h. ⊥)
     ends_run =
         let halt = t_halt m closing no_labels last has_run (λ h0 h pre.
         let run = ap run_by (sym pre.1) ∙ run_good h0 pre.0 in
         (ap (λ (r : Run). r.ending) run, ap (λ (r : Run). r.shared) run)) in
-        let many : row_count ≡ length b.rows * row_steps (length b.columns) = ap (λ n. n * row_steps (length b.columns)) x.wide in
-        t_more (λ h0. sum_by read_steps b.rows + length b.rows * row_steps (length b.columns) + 4) (λ h0. omega (arith, many)) (t_seq (t_seq (t_seq (t_seq (t_seq clears reads) opens) puts) closes) halt)
+        t_more (λ h0. sum_by read_steps b.rows + turns h0 * row_steps b + 4) (λ h0. omega arith) (t_seq (t_seq (t_seq (t_seq (t_seq clears reads) opens) puts) closes) halt)
 
   pub insert-performs : (p : Program) → IsProgramOf whole p → Performs p (put_run b) (put_steps b)
   insert-performs p is = performs_of [] whole p (put_run b) (put_steps b) is ends_run
@@ -189,10 +216,9 @@ module _ (b : BoundInsert) (source : List (List Kept)) (y z : Draft) (x : KeepsR
   insert-balanced p is =
       let clearing = st_then (g_taken (begun [])) (st_taken [] [] (begun [])) (st_op [] [] (taken (begun [])) (op.Null 0) (refl, refl)) in
       let reading = st_then (grows_then (g_taken (begun [])) (g_op (taken (begun [])) (op.Null 0))) clearing x.steady in
-      let grows = grows_then (g_taken (begun [])) (grows_then (g_op (taken (begun [])) (op.Null 0)) x.grows) in
-      let body = subst (λ n. Steady (n ∷ []) [] (open_on y b.table) z) (sym none) w.steady in
-      let putting = st_opened y z (op.OpenWrite 0 b.table) (op.Close 0) (ap way.Opens (sym none)) refl (ap way.Closes (sym none)) (ap (λ n. n ∷ []) (sym none)) (omega (arith, none, one)) body [] [] in
-      balanced_of [] closing op.Halt p (st_then grows reading putting) refl refl is
+      let cursors = st_then (g_cursor y) (st_cursor [] [] y) (st_cursor [] [] (with_cursor y)) in
+      let front = st_then (grows_then (g_taken (begun [])) (grows_then (g_op (taken (begun [])) (op.Null 0)) x.grows)) reading cursors in
+      balanced_of [] closing op.Halt p (steady_from [] (at_opened b.table (at_of [] (λ k c lt. absurd (omega (arith, lt))) front) w.steady (omega arith) w.grows.cursors)) refl refl is
 
 -- ---- CREATE TABLE and DROP TABLE
 

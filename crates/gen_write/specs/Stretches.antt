@@ -1,29 +1,36 @@
 -- What the stretches of a write's code do.
-use Rattle.std.specs.Prelude.{◌≡◌, ◌≢◌, ℕ, ◌+◌, ◌*◌, ◌≤◌, ◌<◌, Bool, true, false, not, List, [], ◌∷◌, length, map, fold, sum_by, Option, Some, None, slice_get}
-use Rattle.eng_value.specs.Causes.{CauseSet}
+use Rattle.std.specs.Prelude.{◌≡◌, ◌≢◌, ℕ, ◌+◌, ◌≤◌, ◌<◌, Bool, true, false, not, List, [], ◌∷◌, length, map, fold, sum_by, Option, Some, None, slice_get}
+use Rattle.eng_value.specs.Causes.{CauseSet, only}
 use Rattle.eng_value.specs.Environments.{Environment, no_causes, with_causes}
+use Rattle.eng_value.specs.Truths.{truth_in, truth_of}
 use Rattle.eng_value.specs.declared.affinity.Affinity.{Affinity}
 use Rattle.eng_value.specs.declared.affinity.Affinity.TheVariants as affinity
+use Rattle.eng_value.specs.declared.cause.Cause.TheVariants.{Constraint}
+use Rattle.eng_value.specs.declared.cause.ConstraintKind.{ConstraintKind}
+use Rattle.eng_value.specs.declared.cause.ConstraintKind.TheVariants as constraint
 use Rattle.eng_value.specs.declared.out.Out.{Out}
 use Rattle.eng_value.specs.declared.out.Out.TheVariants.{Good}
+use Rattle.eng_value.specs.declared.truth.Truth.{Truth}
+use Rattle.eng_value.specs.declared.truth.Truth.TheVariants as truth
 use Rattle.eng_value.specs.declared.value.Value.{Value}
 use Rattle.eng_value.specs.declared.value.Value.TheVariants.{Null}
 use Rattle.eng_value.specs.declared.value.Value.TheVariants as value
-use Rattle.gen_write.specs.Writes.{Course, failed, finished, read_steps, row_put, stored_as, value_steps}
+use Rattle.gen_write.specs.Writes.{Course, check_steps, column_steps, read_steps, seen_in, value_steps}
 use Rattle.gen_write.specs.declared.source.Kept.{Kept}
 use Rattle.gen_write.specs.declared.source.Kept.TheVariants as kept
 use Rattle.sql_meaning.specs.Expression.{literal_out, value_of}
-use Rattle.sql_meaning.specs.Statement.{Item, given_of, item_of, refusal_of, shown, value_at}
+use Rattle.sql_meaning.specs.Rows.{stored_for}
+use Rattle.sql_meaning.specs.Statement.{Item, given_of, refusal_of, shown}
 use Rattle.bound_tree.specs.Exprs.{BoundExpr}
-use Rattle.sql_meaning.specs.declared.bound.BoundInsert.{BoundInsert}
 use Rattle.sql_words.specs.declared.literal.Literal.{Literal}
 use Rattle.sql_words.specs.declared.literal.Literal.TheVariants as literal
 use Rattle.sql_meaning.specs.declared.bound.PutColumn.{PutColumn}
 use Rattle.vm_code.specs.declared.op.Op.TheVariants as op
 use Rattle.vm_code.specs.Draft.{Draft, bound, taken, with_label, with_op}
-use Rattle.vm_code.specs.Tracked.{Steady}
+use Rattle.vm_code.specs.Track.{OpenSet}
+use Rattle.vm_code.specs.Tracked.{HasPlace, IsTracked, Steady}
 use Rattle.vm_code.specs.Frames.{Calls, Gave, Grows, Holds, Left, Ready, environment_of, here}
-use Rattle.vm_code.specs.Machine.{Shared, Setting, State, Open, Reaches, cursor_at, outs_from, read}
+use Rattle.vm_code.specs.Machine.{World, Shared, Scene, Setting, State, Closed, Open, Reaches, outs_from, read}
 
 -- ---- what is kept of the source
 
@@ -136,14 +143,10 @@ HoldsKept a None = stays a Null ≡ true
 HoldsKept a (Some (kept.Literal l)) = HoldsLiteral a l.now
 HoldsKept a (Some (kept.Register r)) = ⊥
 
--- the values that are placed for columns
-abbrev pub placed_for : List PutColumn → List Value → List Value
-placed_for columns values = map (λ (c : PutColumn). value_at values c.place) columns
-
--- the columns store them as they are
+-- what the columns store of them is never bad
 abbrev pub AreHeld : List Kept → List PutColumn → Type 0
 AreHeld row columns =
-    (q : List Out) (values : List Value) → map (kept_out q) row ≡ map Good values → stored_as columns values ≡ map Good (placed_for columns values)
+    (q : List Out) (values : List Value) (env : Environment) → map (kept_out q) row ≡ map Good values → fold with_causes no_causes (stored_for env columns values) ≡ no_causes
 
 -- what is kept of the value at a place
 abbrev pub kept_at : List Kept → Option ℕ → Option Kept
@@ -171,21 +174,138 @@ pub record Stored (m : Setting) (most : ℕ) (s : State) (place mark causes : �
   pub gathers : read regs causes ≡ fold with_causes (read s.regs causes) outs
   pub keeps : SameBut causes mark s.regs regs
 
--- code that leaves what columns store of the values that are kept in the registers that it takes, and gathers their causes
+-- code that leaves what columns store of the values that are kept, and of defaults, in the registers that it takes, and gathers their causes
 pub record Stores (calls : Calls) (a b : Draft) (causes : ℕ) (row : List Kept) (columns : List PutColumn) : Type 0 where
   pub grows : Grows a b
   pub next : b.next ≡ a.next + length columns
   pub counted : b.next ≤ b.most
   pub steady : Steady [] [] a b
   pub stores : (m : Setting) → calls m → (u : ℕ) (at : ℕ → ℕ) → Holds b m.prog u at → (s : State) → Ready b u s → s.pc ≡ length a.code → (values : List Value) → AreKept causes a.next row values s.regs
-      → Stored m (3 * length columns) s (length b.code) a.next causes (stored_as columns values)
+      → Stored m (sum_by column_steps columns) s (length b.code) a.next causes (stored_for (environment_of m (here s)) columns values)
 
--- a row is put of registers, under a rowid that is drawn for it
-abbrev pub with_row_inserted : Draft → ℕ → ℕ → ℕ → List ℕ → Draft
-with_row_inserted d cursor first count name =
-    with_op (with_op (taken d) (op.NewRowid cursor d.next name)) (op.Insert cursor d.next first count)
+-- what is in a register is stored there, and its causes are gathered
+abbrev pub with_stored : Draft → Affinity → ℕ → ℕ → Draft
+with_stored d affinity to causes = with_op (with_op d (op.Affinity to affinity)) (op.Merge to causes)
+
+-- ---- the tests of a row
+
+-- the unit gives up for a constraint of a table; a register serves for it
+abbrev pub with_refused : Draft → ConstraintKind → List ℕ → ℕ → Draft
+with_refused d kind name register = with_op (with_op d (op.Bad (Constraint kind name) register)) (op.HaltBad register)
+
+-- it does so where a register is NULL
+abbrev pub with_null_refused : Draft → List ℕ → ℕ → ℕ → Draft
+with_null_refused d name register causes =
+    bound (with_refused (with_op (with_label d) (op.NotNull register (length d.labels))) constraint.NotNull name causes) (length d.labels)
+
+abbrev pub with_null_tested : Bool → Draft → List ℕ → ℕ → ℕ → Draft
+with_null_tested true d name register causes = with_null_refused d name register causes
+with_null_tested false d name register causes = d
+
+-- and so for the columns that may not be NULL, which are in registers one after another
+abbrev pub with_nulls_refused : Draft → List PutColumn → List ℕ → ℕ → ℕ → Draft
+with_nulls_refused d [] name register causes = d
+with_nulls_refused d (c ∷ columns) name register causes = with_nulls_refused (with_null_tested c.not_null d name register causes) columns name (register + 1) causes
+
+-- a rowid is drawn where nothing is given
+abbrev pub with_rowid_drawn : Draft → ℕ → List ℕ → Draft
+with_rowid_drawn d to name = with_op d (op.NewRowid 1 to name)
+
+-- one that is given is an integer, and where it is missing it is drawn
+abbrev pub with_rowid_tested : Draft → ℕ → List ℕ → Draft
+with_rowid_tested d register name =
+    bound (with_rowid_drawn (bound (with_op (with_op (with_op (with_label (with_label d)) (op.IsNull register (length (with_label d).labels))) (op.MustBeInt register)) (op.Goto (length d.labels))) (length (with_label d).labels)) register name) (length d.labels)
+
+abbrev pub with_rowid_fixed : Option ℕ → Draft → ℕ → List ℕ → Draft
+with_rowid_fixed None d first name = with_rowid_drawn (taken d) d.next name
+with_rowid_fixed (Some place) d first name = with_rowid_tested d (first + place) name
+
+-- the register of the rowid, among those from the first on or behind them
+abbrev pub rowid_register : Option ℕ → ℕ → ℕ → ℕ
+rowid_register None first next = next
+rowid_register (Some place) first next = first + place
+
+-- the unit gives up where a row has the rowid that was given
+abbrev pub with_taken_refused : Draft → List ℕ → ℕ → ℕ → Draft
+with_taken_refused d name rowid causes =
+    bound (with_refused (with_op (with_label d) (op.NotExists 1 rowid (length d.labels))) constraint.Unique name causes) (length d.labels)
+
+abbrev pub with_taken_tested : Option ℕ → Draft → List ℕ → ℕ → ℕ → Draft
+with_taken_tested None d name rowid causes = d
+with_taken_tested (Some place) d name rowid causes = with_taken_refused d name rowid causes
+
+-- the unit gives up where what a register holds is false, for that constraint, and where it is bad; two labels are there for that
+abbrev pub with_truth_refused : Draft → ℕ → ℕ → ℕ → List ℕ → Draft
+with_truth_refused d truth passed bad table =
+    bound (with_op (bound (with_op (with_op (with_op d (op.If truth passed true)) (op.IsBad truth bad)) (op.Bad (Constraint constraint.Check table) truth)) bad) (op.HaltBad truth)) passed
+
+-- why a CHECK does not let a row pass that has this truth
+abbrev pub broken_by : List ℕ → Truth → Option CauseSet
+broken_by table truth.True = None
+broken_by table truth.False = Some (only (Constraint constraint.Check table))
+broken_by table truth.Unknown = None
+broken_by table (truth.Failed causes) = Some causes
+
+abbrev pub unless_broken_by : Option CauseSet → Option CauseSet → Option CauseSet
+unless_broken_by None others = others
+unless_broken_by (Some causes) others = Some causes
+
+-- why the first does not that does not
+abbrev pub first_broken : List ℕ → List BoundExpr → Environment → Option CauseSet
+first_broken table [] env = None
+first_broken table (c ∷ checks) env = unless_broken_by (broken_by table (truth_in (truth_of (value_of c env)))) (first_broken table checks env)
+
+-- the machine comes to a place, the registers below a mark as they were
+pub record Passed (m : Setting) (most : ℕ) (s : State) (place mark : ℕ) : Type 0 where
+  pub regs : List Out
+  pub way : Reaches m most s (record s { pc = place; regs = regs })
+  pub long : length regs ≡ length s.regs
+  pub keeps : (k : ℕ) → k < mark → read regs k ≡ read s.regs k
+
+-- or the unit gives up
+abbrev pub PassedBy : Setting → ℕ → State → ℕ → ℕ → Option CauseSet → Type 0
+PassedBy m most s place mark None = Passed m most s place mark
+PassedBy m most s place mark (Some why) = Gave m most s why s.shared
+
+-- code that gives up at the first CHECK that is false or bad
+pub record Checks (calls : Calls) (a b : Draft) (table : List ℕ) (checks : List BoundExpr) : Type 0 where
+  pub grows : Grows a b
+  pub next : b.next ≡ a.next
+  pub steady : Steady [] [] a b
+  pub passes : (m : Setting) → calls m → (u : ℕ) (at : ℕ → ℕ) → Holds b m.prog u at → (s : State) → Ready b u s → s.pc ≡ length a.code
+      → PassedBy m (sum_by check_steps checks) s (length b.code) a.next (first_broken table checks (environment_of m (here s)))
+
+-- between such code a cursor stands on the row, where there are CHECKs
+pub record Between (calls : Calls) (a b : Draft) (table : List ℕ) (checks : List BoundExpr) (rowid first count : ℕ) : Type 0 where
+  pub last : Draft
+  pub checked : Checks calls (with_op a (op.RowOf 0 rowid first count)) last table checks
+  pub is : b ≡ with_op last (op.Close 0)
+
+abbrev pub ChecksRow : Calls → Draft → Draft → List ℕ → List BoundExpr → ℕ → ℕ → ℕ → Type 0
+ChecksRow calls a b table [] rowid first count = b ≡ a
+ChecksRow calls a b table (c ∷ checks) rowid first count = Between calls a b table (c ∷ checks) rowid first count
 
 -- ---- rows
+
+-- code that finds these cursors open, and no others, and leaves them so; the labels that it makes have their places
+pub record SteadyAt (xs : OpenSet) (a b : Draft) : Type 0 where
+  pub keeps : (l : ℕ) → HasPlace a l → HasPlace b l
+  pub made : (l : ℕ) → length a.labels ≤ l → l < length b.labels → HasPlace b l
+  pub stays : a.track.now ≡ Some xs → IsTracked a → (b.track.now ≡ Some xs) × IsTracked b
+
+-- the cursor of the row that CHECKs read is closed, and the other one is open on the table
+abbrev pub scene_on : ℕ → Scene
+scene_on table = record { cursors = Closed ∷ Open table None ∷ []; slots = [] }
+
+-- in front of a row: the unit was called with nothing, and there are no causes
+pub record IsSet (table causes : ℕ) (s : State) : Type 0 where
+  pub scene : s.scene ≡ scene_on table
+  pub args : s.inputs.args ≡ []
+  pub calm : read s.regs causes ≡ no_causes
+
+-- what expressions see of these tables
+abbrev pub seen_from : Setting → World → Environment
+seen_from m w = seen_in (record { params = m.params; hosts = m.hosts; world = w; ask = m.ask })
 
 -- the machine comes to a place with this shared and no causes, the other registers below the mark as they were
 pub record Got (m : Setting) (most : ℕ) (s : State) (place mark causes : ℕ) (x : Shared) : Type 0 where
@@ -199,24 +319,10 @@ abbrev pub Ran : Setting → ℕ → State → ℕ → ℕ → ℕ → Option Ca
 Ran m most s place mark causes None x = Got m most s place mark causes x
 Ran m most s place mark causes (Some why) x = Gave m most s why x
 
--- code that takes the course of what registers keep, from what is shared, through a cursor that is open on a table
-pub record Puts {X : Type 0} (calls : Calls) (a b : Draft) (cursor table causes : ℕ) (IsThere : X → List Out → Type 0) (course : X → Shared → Course) (most : ℕ) : Type 0 where
+-- code that takes the course of what registers keep, from what is shared; its expressions see the tables of any time
+pub record Puts {X : Type 0} (calls : Calls) (a b : Draft) (table causes : ℕ) (IsThere : X → List Out → Type 0) (course : Environment → X → Shared → Course) (most : ℕ) : Type 0 where
   pub grows : Grows a b
   pub next : b.next ≡ a.next
-  pub steady : Steady (cursor ∷ []) [] a b
-  pub puts : (m : Setting) → calls m → (u : ℕ) (at : ℕ → ℕ) → Holds b m.prog u at → (s : State) → Ready b u s → s.pc ≡ length a.code → cursor_at s.scene.cursors cursor ≡ Open table None → read s.regs causes ≡ no_causes → (x : X) → IsThere x s.regs
-      → Ran m most s (length b.code) a.next causes (course x s.shared).causes (course x s.shared).shared
-
--- ---- courses
-
-abbrev pub unless_failed : Option CauseSet → Shared → (Shared → Course) → Course
-unless_failed None x others = others x
-unless_failed (Some causes) x others = failed causes x
-
--- one and then another, unless the first gives up
-abbrev pub and_on : Course → (Shared → Course) → Course
-and_on c others = unless_failed c.causes c.shared others
-
--- a row of the source
-abbrev pub row_course : BoundInsert → List Value → Shared → Course
-row_course b values x = row_put b.table b.name x (item_of no_causes (stored_as b.columns values)) finished
+  pub steady : SteadyAt (1 ∷ []) a b
+  pub puts : (m : Setting) → calls m → (u : ℕ) (at : ℕ → ℕ) → Holds b m.prog u at → (s : State) → Ready b u s → s.pc ≡ length a.code → IsSet table causes s → (w : World) (x : X) → IsThere x s.regs
+      → Ran m most s (length b.code) a.next causes (course (seen_from m w) x s.shared).causes (course (seen_from m w) x s.shared).shared

@@ -1,24 +1,26 @@
 -- What the programs of writes perform over lists of rows, and in how many instructions at most.
-use Rattle.std.specs.Prelude.{◌≡◌, ℕ, zero, suc, ◌+◌, ◌*◌, ◌≤◌, Bool, true, List, [], ◌∷◌, length, map, sum_by, ℤ, Option, Some, None, is_some}
+use Rattle.std.specs.Prelude.{◌≡◌, ℕ, zero, suc, ◌+◌, ◌*◌, ◌≤◌, nat_lt, Bool, true, false, not, ◌&&◌, List, [], ◌∷◌, length, map, sum_by, ℤ, Option, Some, None, is_some, if◌then◌else◌}
 use Rattle.std.specs.List.{list_all}
-use Rattle.bound_size.specs.Sizes.{all_nodes}
+use Rattle.bound_size.specs.Sizes.{all_nodes, nodes_of}
 use Rattle.bound_tree.specs.Exprs as e
 use Rattle.bound_tree.specs.Exprs.{BoundExpr}
-use Rattle.eng_value.specs.Casts.{store_as}
-use Rattle.eng_value.specs.Causes.{CauseSet, only}
-use Rattle.eng_value.specs.Environments.{Surroundings, environment, no_causes}
-use Rattle.eng_value.specs.StoredRows.{StoredRow, next_rowid}
-use Rattle.eng_value.specs.Written.{unwritten}
-use Rattle.eng_value.specs.declared.cause.Cause.TheVariants.{Full}
-use Rattle.eng_value.specs.declared.out.Out.{Out}
+use Rattle.eng_value.specs.Causes.{CauseSet}
+use Rattle.eng_value.specs.Environments.{Environment, Surroundings, environment, no_causes}
+use Rattle.eng_value.specs.Written.{Written, unwritten}
+use Rattle.eng_value.specs.declared.affinity.Affinity.{Affinity}
+use Rattle.eng_value.specs.declared.affinity.Affinity.TheVariants as affinity
 use Rattle.eng_value.specs.declared.value.Value.{Value}
 use Rattle.gen_expr.specs.Steps.{steps_of}
-use Rattle.sql_meaning.specs.Statement.{Item, Row, Failed as Bad, given_of, item_of, refusal_of, shown, value_at}
+use Rattle.sql_meaning.specs.Rows.{fitted, new_row}
+use Rattle.sql_meaning.specs.Statement.{Item, given_of, refusal_of, shown}
+use Rattle.sql_meaning.specs.Steps.{Effect, Done, Left, Fails, ◌then◌, done, settled}
 use Rattle.sql_meaning.specs.declared.bound.BoundInsert.{BoundInsert}
+use Rattle.sql_meaning.specs.declared.bound.RowidFrom.{RowidFrom}
+use Rattle.sql_meaning.specs.declared.bound.RowidFrom.TheVariants as rowid
 use Rattle.sql_words.specs.declared.literal.Literal.{Literal}
 use Rattle.sql_words.specs.declared.literal.Literal.TheVariants as literal
 use Rattle.sql_meaning.specs.declared.bound.PutColumn.{PutColumn}
-use Rattle.vm_code.specs.Machine.{World, Finished, Run, Shared, ending_by, rows_of, with_row, with_table, without_rows, world_of}
+use Rattle.vm_code.specs.Machine.{World, Finished, Run, Shared, ending_by, rows_of, with_row, with_table, without_rows}
 
 -- nothing is given and nothing is written
 abbrev pub untouched : World → ℤ → Shared
@@ -52,10 +54,6 @@ nothing_steps x = 1
 
 -- ---- INSERT
 
--- the values of a row of the source that are placed for the columns, as the affinities of these store them
-abbrev pub stored_as : List PutColumn → List Value → List Out
-stored_as columns values = map (λ (c : PutColumn). store_as c.affinity (value_at values c.place)) columns
-
 -- what a stretch of a write comes to: it goes on, or it gives up for causes, with this shared
 pub record Course : Type 0 where
   pub causes : Option CauseSet
@@ -70,38 +68,53 @@ failed causes x = record { causes = Some causes; shared = x }
 abbrev pub run_by : Course → Run
 run_by c = record { ending = ending_by c.causes; shared = c.shared }
 
-abbrev pub with_row_put : Shared → ℕ → StoredRow → Shared
-with_row_put x table r = record x { written = with_row x.written table r }
+abbrev pub unless_failed : Option CauseSet → Shared → (Shared → Course) → Course
+unless_failed None x others = others x
+unless_failed (Some causes) x others = failed causes x
 
--- the row comes under the rowid, and the others follow; where there is no rowid the run ends
-abbrev pub row_under : ℕ → List ℕ → Shared → List Value → Option ℤ → (Shared → Course) → Course
-row_under table name x values None others = failed (only (Full name)) x
-row_under table name x values (Some rowid) others = others (with_row_put x table (record { rowid = rowid; values = values }))
+-- one and then another, unless the first gives up
+abbrev pub and_on : Course → (Shared → Course) → Course
+and_on c others = unless_failed c.causes c.shared others
 
--- where a value cannot be stored the run ends, and else the row draws its rowid
-abbrev pub row_put : ℕ → List ℕ → Shared → Item → (Shared → Course) → Course
-row_put table name x (Bad causes) others = failed causes x
-row_put table name x (Row values) others = row_under table name x values (next_rowid (rows_of (world_of x) table)) others
+-- what a part of a write leaves, beside the rest that is shared; none of an INSERT leaves its row
+abbrev pub course_of : Shared → Effect → Course
+course_of x (Done u y) = finished (record x { written = y })
+course_of x (Left y) = finished (record x { written = y })
+course_of x (Fails causes y) = failed causes (record x { written = y })
+
+-- a row of the source is made and fitted as the definition says, beside the rows of its table, and comes among them where its rowid is free
+abbrev pub row_effect : Environment → BoundInsert → List Value → Written → Effect
+row_effect env b source x =
+    settled (new_row env b source) x then λ new x.
+    fitted env b (rows_of x.world b.table) new x then λ row x.
+    done (with_row x b.table row)
+
+abbrev pub row_put : Environment → BoundInsert → List Value → Shared → Course
+row_put env b source x = course_of x (row_effect env b source x.written)
 
 -- one row after another
-abbrev pub rows_run : BoundInsert → List (List Value) → Shared → Course
-rows_run b [] x = finished x
-rows_run b (row ∷ rows) x = row_put b.table b.name x (item_of no_causes (stored_as b.columns row)) (rows_run b rows)
+abbrev pub rows_run : Environment → BoundInsert → List (List Value) → Shared → Course
+rows_run env b [] x = finished x
+rows_run env b (row ∷ rows) x = and_on (row_put env b row x) (rows_run env b rows)
 
--- the items of rows; their expressions see no row of a table
+-- what the expressions of an INSERT see: no row of a table
+abbrev pub seen_in : Surroundings → Environment
+seen_in x = environment x [] [] []
+
+-- the items of rows
 abbrev pub items_in : List (List BoundExpr) → Surroundings → List Item
-items_in rows x = map (λ row. shown row (environment x [] [] []) no_causes) rows
+items_in rows x = map (λ row. shown row (seen_in x) no_causes) rows
 
 abbrev pub source_of : BoundInsert → Surroundings → List Item
 source_of b x = items_in b.rows x
 
 -- a bad row in the source ends the run before any row is put
-abbrev pub source_run : BoundInsert → Shared → Option CauseSet → List (List Value) → Course
-source_run b x (Some causes) source = failed causes x
-source_run b x None source = rows_run b source x
+abbrev pub source_run : Environment → BoundInsert → Shared → Option CauseSet → List (List Value) → Course
+source_run env b x (Some causes) source = failed causes x
+source_run env b x None source = rows_run env b source x
 
 abbrev pub put_run : BoundInsert → Surroundings → ℤ → Run
-put_run b x last_rowid = run_by (source_run b (untouched x.world last_rowid) (refusal_of (source_of b x)) (given_of (source_of b x)))
+put_run b x last_rowid = run_by (source_run (seen_in x) b (untouched x.world last_rowid) (refusal_of (source_of b x)) (given_of (source_of b x)))
 
 -- ---- how many instructions an INSERT takes
 
@@ -130,21 +143,85 @@ and_refused (suc n) = suc n + 3
 abbrev pub read_steps : List BoundExpr → ℕ
 read_steps row = and_refused (sum_by value_steps row)
 
--- a row of so many columns
-abbrev pub row_steps : ℕ → ℕ
-row_steps width = 3 * width + 5
+-- a column loads its value or evaluates its default, and stores it
+abbrev pub stored_steps : Option ℕ → Option BoundExpr → ℕ
+stored_steps None (Some x) = steps_of x + 2
+stored_steps None None = 3
+stored_steps (Some place) default = 3
+
+abbrev pub column_steps : PutColumn → ℕ
+column_steps c = stored_steps c.place c.default
+
+-- what is given for the rowid beside the columns is stored as a column of its own, which may be NULL
+abbrev pub column_with : Affinity → Option ℕ → Option BoundExpr → PutColumn
+column_with affinity place default = record { affinity = affinity; place = place; default = default; not_null = false }
+
+abbrev pub columns_beside : RowidFrom → List PutColumn
+columns_beside rowid.Drawn = []
+columns_beside (rowid.Given place) = column_with affinity.Integer (Some place) None ∷ []
+columns_beside (rowid.Column place) = []
+
+-- where among what is stored the rowid stands, if something is given for it
+abbrev pub rowid_given : RowidFrom → ℕ → Option ℕ
+rowid_given rowid.Drawn width = None
+rowid_given (rowid.Given place) width = Some width
+rowid_given (rowid.Column place) width = if nat_lt place width then Some place else None
+
+-- a rowid is drawn; one that is given is tested, or drawn where it is missing, and looked for among the rows
+abbrev pub rowid_steps : Option ℕ → ℕ
+rowid_steps None = 1
+rowid_steps (Some place) = 7
+
+abbrev pub null_steps : PutColumn → ℕ
+null_steps c = if c.not_null then 3 else 0
+
+abbrev pub check_steps : BoundExpr → ℕ
+check_steps x = steps_of x + 5
+
+-- where there are CHECKs a cursor stands on the row for them
+abbrev pub checks_steps : List BoundExpr → ℕ
+checks_steps [] = 0
+checks_steps (c ∷ checks) = sum_by check_steps (c ∷ checks) + 2
+
+-- behind what is stored stand a test whether it is bad, which takes three, and the instruction that puts the row
+abbrev pub row_steps : BoundInsert → ℕ
+row_steps b =
+    sum_by column_steps b.columns + sum_by column_steps (columns_beside b.rowid) + 3 + rowid_steps (rowid_given b.rowid (length b.columns))
+    + sum_by null_steps b.columns + checks_steps b.checks + 1
+
+-- the rows that are put, which a bad row of the source leaves out
+abbrev pub turns_of : Option CauseSet → ℕ → ℕ
+turns_of None rows = rows
+turns_of (Some causes) rows = 0
 
 abbrev pub put_steps : BoundInsert → Surroundings → ℕ
-put_steps b x = sum_by read_steps b.rows + length b.rows * row_steps (length b.columns) + 4
+put_steps b x = sum_by read_steps b.rows + turns_of (refusal_of (source_of b x)) (length b.rows) * row_steps b + 4
 
--- by how many nodes the source has, and how many rows and columns there are
+-- by how many nodes there are in the source, in the defaults and in the CHECKs, and how many rows, columns and CHECKs
+abbrev pub nodes_within : Option BoundExpr → ℕ
+nodes_within None = 0
+nodes_within (Some x) = nodes_of x
+
+abbrev pub default_nodes : PutColumn → ℕ
+default_nodes c = nodes_within c.default
+
+abbrev pub row_bound : BoundInsert → ℕ
+row_bound b = 3 * sum_by default_nodes b.columns + 6 * length b.columns + 3 * all_nodes b.checks + 3 * length b.checks + 16
+
 abbrev pub StepsAreFew : BoundInsert → Type 0
-StepsAreFew b = (x : Surroundings) → put_steps b x ≤ 4 * sum_by all_nodes b.rows + length b.rows * (3 * length b.columns + 8) + 6
+StepsAreFew b =
+    (x : Surroundings) → put_steps b x ≤ 3 * sum_by all_nodes b.rows + 3 * length b.rows + turns_of (refusal_of (source_of b x)) (length b.rows) * row_bound b + 4
 
 -- reading a source that is made of literals with values takes none
 abbrev pub is_plain : BoundExpr → Bool
 is_plain x = is_some (plain_literal x)
 
+-- a column of which a value is all that is known
+abbrev pub is_bare : PutColumn → Bool
+is_bare c = not c.not_null && not (is_some c.default)
+
+-- where rowids are drawn and nothing else is known of the columns and of rows, a row takes three for each column and five
 abbrev pub LiteralsTakeNoSteps : BoundInsert → Type 0
 LiteralsTakeNoSteps b =
-    list_all (list_all is_plain) b.rows ≡ true → (x : Surroundings) → put_steps b x ≡ length b.rows * row_steps (length b.columns) + 4
+    list_all (list_all is_plain) b.rows ≡ true → list_all is_bare b.columns ≡ true → b.checks ≡ [] → b.rowid ≡ rowid.Drawn
+    → (x : Surroundings) → put_steps b x ≡ turns_of (refusal_of (source_of b x)) (length b.rows) * (3 * length b.columns + 5) + 4

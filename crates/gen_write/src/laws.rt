@@ -2,13 +2,14 @@
 ghost use Rattle.gen_write.specs.Writes.{LiteralsTakeNoSteps, StepsAreFew};
 ghost use Rattle.sql_meaning.specs.declared.bound.BoundInsert.{BoundInsert};
 
-/// The instructions of an INSERT are at most four for each node of an expression, for each row three for each column and eight, and six
-/// for the whole.
+/// The instructions of an INSERT are at most three for each node and each row of its source; for each row that is put three for each node of
+/// a default or a CHECK, six for each column, three for each CHECK, and 16; and four for the whole.
 pub fn an_insert_takes_few_steps()
     ensures { (b : BoundInsert) → StepsAreFew b }
 {}
 
-/// Where the source is made of literals that have values, no instruction is spent on it before its rows are put.
+/// Where the source is made of literals that have values, no instruction is spent on it before its rows are put; and where there are no
+/// defaults, NOT NULLs and CHECKs, and rowids are drawn, none on those.
 pub fn literals_are_loaded_where_they_are_put()
     ensures { (b : BoundInsert) → LiteralsTakeNoSteps b }
 {}

@@ -3,8 +3,9 @@
 //! `compile_insert`, `compile_create` and `compile_drop` write the programs of INSERT, CREATE TABLE and DROP TABLE, and
 //! `compile_nothing` that of a statement that does nothing; their contracts, `Performs`, say that from every world a run of the
 //! program does what specs/Writes.antt says: the source of an INSERT is evaluated whole, and where it is bad nothing is changed; else one
-//! row after another is stored by the columns' affinities and put under the rowid behind the others. Where a row fails the rows in
-//! front of it stay, and who runs the program takes them back. Begin with `compile_insert`, then `keep_rows` and `put_rows`.
+//! row after another is made of its values and of defaults, stored by the columns' affinities, given its rowid, tested and put, as the
+//! definition says. Where a row fails the rows in front of it stay, and who runs the program takes them back. Begin with `compile_insert`,
+//! then `keep_rows` and `put_row`.
 #![tactic(auto)]
 
 mod creating;
@@ -14,8 +15,10 @@ mod inserting;
 mod laws;
 mod nothing;
 mod refusing;
+mod rowids;
 mod rows;
 mod source;
+mod tests;
 
 pub use creating::compile_create;
 pub use dropping::compile_drop;

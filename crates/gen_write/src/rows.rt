@@ -1,59 +1,89 @@
 // The rows that an INSERT puts.
-ghost use Rattle.std.specs.Prelude.{◌≡◌, ◌*◌, ◌<◌, ◌≤◌, [], ◌∷◌, false, length, IfOk, OnOk, Some};
+ghost use Rattle.std.specs.Prelude.{◌≡◌, ◌*◌, ◌<◌, ◌≤◌, [], ◌∷◌, false, length, IfOk, None, OnOk, Some};
 ghost use Rattle.std.specs.Option.{option_copied};
-ghost use Rattle.gen_write.specs.Writes.{row_steps, rows_run};
-ghost use Rattle.gen_write.specs.Stretches.{AreAllKept, AreHeld, AreKept, Loads, Puts, Stores, kept_at, row_course, with_row_inserted};
+ghost use Rattle.gen_write.specs.Writes.{column_with, columns_beside, row_put, row_steps, rows_run};
+ghost use Rattle.gen_write.specs.Stretches.{AreAllKept, AreHeld, AreKept, Loads, Puts, Stores, kept_at, with_stored};
 ghost use Rattle.vm_code.specs.Frames.{no_calls};
 
 use crate::holding::is_held;
 use crate::refusing::refuse_if;
+use crate::rowids::{fix_rowid, rowid_given};
 use crate::source::Kept;
-use eng_value::Text;
-use gen_expr::emit_literal;
-use sql_meaning::{BoundInsert, PutColumn};
+use crate::tests::{refuse_by_checks, refuse_nulls, refuse_taken};
+use bound_tree::BoundExpr;
+use eng_value::Affinity;
+use gen_expr::{emit, emit_literal};
+use sql_meaning::{BoundInsert, PutColumn, RowidFrom};
 use sqlite_items::Items;
-use std::alloc::AllocError;
+use std::alloc::{AllocError, Global};
 use vm_code::{Builder, Op};
 
-/// Writes code that puts each row of the source in turn through a cursor that is open on the table. The registers of one row serve
-/// the next. There are no causes in the register `causes` in front of a row.
+/// The cursor of the row that CHECKs read, which is their item 0.
+pub(crate) const ROW: u32 = 0;
+/// The cursor that is open on the table.
+pub(crate) const TABLE: u32 = 1;
+
+/// Writes code that puts each row of the source in turn. The registers of one row serve the next. There are no causes in the register
+/// `causes` in front of a row.
 pub(crate) fn put_rows(
+    alloc: Global,
     b: &mut Builder,
-    cursor: u32,
-    causes: u32,
     insert: &BoundInsert,
+    causes: u32,
     source: &[Items<Kept>],
 ) -> Result<(), AllocError>
     requires taken { causes < b.old.next }
     requires counted { b.old.next ≤ b.old.most }
-    ensures puts { OnOk result (Puts no_calls b.old b.new cursor insert.now.table causes (AreAllKept causes b.old.next source.now) (rows_run insert.now) (length source.now * row_steps (length insert.now.columns))) }
+    requires cursors { b.old.cursors ≡ 2 }
+    ensures puts { OnOk result (Puts no_calls b.old b.new insert.now.table causes (AreAllKept causes b.old.next source.now) (λ env. rows_run env insert.now) (length source.now * row_steps insert.now)) }
     ensures cursors { OnOk result (b.new.cursors ≡ b.old.cursors) }
 {
     for kept in source {
-        put_row(b, cursor, causes, insert, kept.as_slice())?;
+        put_row(alloc, b, insert, causes, kept.as_slice())?;
     }
     Ok(())
 }
 
-/// Writes code that stores the values that are placed for the columns by their affinities and puts them as a row, or gives up where one
-/// cannot be stored.
+/// Writes code that stores the values that are placed for the columns, and their defaults, by the affinities, fixes the rowid, tests the row
+/// and puts it, or gives up where it may not be put.
 fn put_row(
+    alloc: Global,
     b: &mut Builder,
-    cursor: u32,
-    causes: u32,
     insert: &BoundInsert,
+    causes: u32,
     kept: &[Kept],
 ) -> Result<(), AllocError>
     requires taken { causes < b.old.next }
     requires counted { b.old.next ≤ b.old.most }
-    ensures puts { OnOk result (Puts no_calls b.old b.new cursor insert.now.table causes (AreKept causes b.old.next kept.now) (row_course insert.now) (row_steps (length insert.now.columns))) }
+    requires cursors { b.old.cursors ≡ 2 }
+    ensures puts { OnOk result (Puts no_calls b.old b.new insert.now.table causes (AreKept causes b.old.next kept.now) (λ env. row_put env insert.now) (row_steps insert.now)) }
     ensures cursors { OnOk result (b.new.cursors ≡ b.old.cursors) }
 {
     let first = b.next_register();
-    let may_fail = emit_columns(b, insert.columns.as_slice(), kept, causes)?;
+    let stored = emit_columns(alloc, b, insert.columns.as_slice(), kept, causes)?;
     let count = b.next_register() - first;
+    let beside = emit_beside(b, insert.rowid, kept, causes)?;
+    let may_fail = stored | beside;
     refuse_if(b, may_fail, causes)?;
-    insert_row(b, cursor, first, count, &insert.name)?;
+    let given = rowid_given(insert.rowid, count);
+    let rowid = fix_rowid(b, given, first, &insert.name)?;
+    refuse_nulls(b, insert.columns.as_slice(), &insert.name, first, causes)?;
+    refuse_by_checks(
+        alloc,
+        b,
+        insert.checks.as_slice(),
+        &insert.name,
+        rowid,
+        first,
+        count,
+    )?;
+    refuse_taken(b, given, &insert.name, rowid, causes)?;
+    b.op(Op::Insert {
+        cursor: TABLE,
+        rowid,
+        first,
+        count,
+    })?;
     b.release(first);
     Ok(())
 }
@@ -61,6 +91,7 @@ fn put_row(
 /// Writes code that leaves what the columns store of a row's values in registers that it takes, one after another, and adds their
 /// causes to those in the register `causes`. Whether there may be any.
 fn emit_columns(
+    alloc: Global,
     b: &mut Builder,
     columns: &[PutColumn],
     kept: &[Kept],
@@ -74,14 +105,15 @@ fn emit_columns(
 {
     let mut may_fail = false;
     for column in columns {
-        let may = emit_column(b, column, kept, causes)?;
+        let may = emit_column(alloc, b, column, kept, causes)?;
         may_fail |= may;
     }
     Ok(may_fail)
 }
 
-/// The same for one column. What it stores as it is takes no more than an instruction.
+/// The same for one column.
 fn emit_column(
+    alloc: Global,
     b: &mut Builder,
     column: &PutColumn,
     kept: &[Kept],
@@ -93,21 +125,94 @@ fn emit_column(
     ensures held { IfOk result (λ may. may ≡ false → AreHeld kept.now (column.now ∷ [])) }
     ensures cursors { OnOk result (b.new.cursors ≡ b.old.cursors) }
 {
+    match column.place {
+        Some(place) => emit_value(b, column.affinity, Some(place), kept, causes),
+        None => emit_default(alloc, b, column.affinity, &column.default, kept, causes),
+    }
+}
+
+/// The same for one without a value, which is NULL where it has no default.
+fn emit_default(
+    alloc: Global,
+    b: &mut Builder,
+    affinity: Affinity,
+    default: &Option<BoundExpr>,
+    kept: &[Kept],
+    causes: u32,
+) -> Result<bool, AllocError>
+    requires taken { causes < b.old.next }
+    requires counted { b.old.next ≤ b.old.most }
+    ensures stores { IfOk result (λ may. Stores no_calls b.old b.new causes kept.now (column_with affinity None default.now ∷ [])) }
+    ensures held { IfOk result (λ may. may ≡ false → AreHeld kept.now (column_with affinity None default.now ∷ [])) }
+    ensures cursors { OnOk result (b.new.cursors ≡ b.old.cursors) }
+{
+    match default {
+        None => emit_value(b, affinity, None, kept, causes),
+        Some(default) => {
+            let to = b.take()?;
+            emit(alloc, b, default, to)?;
+            store(b, affinity, to, causes)?;
+            Ok(true)
+        }
+    }
+}
+
+/// The same for what is given for the rowid beside the columns.
+fn emit_beside(
+    b: &mut Builder,
+    from: RowidFrom,
+    kept: &[Kept],
+    causes: u32,
+) -> Result<bool, AllocError>
+    requires taken { causes < b.old.next }
+    requires counted { b.old.next ≤ b.old.most }
+    ensures stores { IfOk result (λ may. Stores no_calls b.old b.new causes kept.now (columns_beside from)) }
+    ensures held { IfOk result (λ may. may ≡ false → AreHeld kept.now (columns_beside from)) }
+    ensures cursors { OnOk result (b.new.cursors ≡ b.old.cursors) }
+{
+    match from {
+        RowidFrom::Given(place) => emit_value(b, Affinity::Integer, Some(place), kept, causes),
+        RowidFrom::Drawn => Ok(false),
+        RowidFrom::Column(_) => Ok(false),
+    }
+}
+
+/// Writes code for the value at a place, which is NULL where there is none. What a column of this affinity stores as it is takes no
+/// more than an instruction.
+fn emit_value(
+    b: &mut Builder,
+    affinity: Affinity,
+    place: Option<u32>,
+    kept: &[Kept],
+    causes: u32,
+) -> Result<bool, AllocError>
+    requires taken { causes < b.old.next }
+    requires counted { b.old.next ≤ b.old.most }
+    ensures stores { IfOk result (λ may. Stores no_calls b.old b.new causes kept.now (column_with affinity place None ∷ [])) }
+    ensures held { IfOk result (λ may. may ≡ false → AreHeld kept.now (column_with affinity place None ∷ [])) }
+    ensures cursors { OnOk result (b.new.cursors ≡ b.old.cursors) }
+{
     let to = b.take()?;
-    let value = kept_at(kept, column.place);
+    let value = kept_at(kept, place);
     load(b, value, to)?;
-    if is_held(column.affinity, value) {
+    if is_held(affinity, value) {
         return Ok(false);
     }
+    store(b, affinity, to, causes)?;
+    Ok(true)
+}
+
+fn store(b: &mut Builder, affinity: Affinity, to: u32, causes: u32) -> Result<(), AllocError>
+    ensures { OnOk result (b.new ≡ with_stored b.old affinity to causes) }
+{
     b.op(Op::Affinity {
         register: to,
-        affinity: column.affinity,
+        affinity,
     })?;
     b.op(Op::Merge {
         from: to,
         to: causes,
-    })?;
-    Ok(true)
+    })
 }
 
 /// What is kept of the value at a place of a row, if there is one.
@@ -145,28 +250,4 @@ fn load_kept(b: &mut Builder, kept: &Kept, to: u32) -> Result<(), AllocError>
         Kept::Register(from) => b.op(Op::Copy { from: *from, to })?,
     }
     Ok(())
-}
-
-/// Writes code that draws a rowid and puts registers as a row.
-fn insert_row(
-    b: &mut Builder,
-    cursor: u32,
-    first: u32,
-    count: u32,
-    name: &Text,
-) -> Result<(), AllocError>
-    ensures { OnOk result (b.new ≡ with_row_inserted b.old cursor first count name.now) }
-{
-    let rowid = b.take()?;
-    b.op(Op::NewRowid {
-        cursor,
-        to: rowid,
-        table: name.clone()?,
-    })?;
-    b.op(Op::Insert {
-        cursor,
-        rowid,
-        first,
-        count,
-    })
 }

@@ -1,17 +1,46 @@
-use Rattle.std.proofs.Common.{refl}
-use Rattle.gen_write.proofs.Columns.{held_one, stores_column, stores_held}
+use Rattle.std.proofs.Common.{◌≡◌, ℕ, [], ◌∷◌, List, Some, None, ap, sym, arith}
+use Rattle.std.proofs.lemmas.Result.{IfOk-weaker}
+use Rattle.eng_value.specs.Casts.{store_as}
+use Rattle.eng_value.specs.Environments.{Environment}
+use Rattle.eng_value.specs.Outs.{turned}
+use Rattle.eng_value.specs.declared.value.Value.{Value}
+use Rattle.gen_write.specs.Writes.{column_steps, column_with, stored_steps}
+use Rattle.gen_write.proofs.Columns.{held_as, stores_as}
 use Rattle.gen_write.proofs.rows.emit_column.Goals as goal
+use Rattle.sql_meaning.specs.Rows.{stored_for, value_for}
+use Rattle.sql_meaning.specs.declared.bound.PutColumn.{PutColumn}
 
-pub returns-then-is_held-clause-stores : goal.returns-then-is_held-clause-stores
-returns-then-is_held-clause-stores c =
-    let loads = rw (c.in_ok-to.ensures.1, c.kept_at-value.ensures) at c.in_ok-load.ensures.loads in
-    let held = held_one c.args.column.now c.args.kept.now (rw c.kept_at-value.ensures at (c.if-is_held.ensures refl)) in
-    stores_held c.args.column.now c.args.kept.now c.in_ok-to.to c.args.causes c.in_ok-to.ensures.0 c.requires.taken c.requires.counted held loads
+-- a column with a value stores that, and one without its default
+with_value : (c : PutColumn) (place : ℕ) → c.place ≡ Some place → (env : Environment) (values : List Value) → stored_for env (column_with c.affinity (Some place) None ∷ []) values ≡ stored_for env (c ∷ []) values
+with_value c place is env values = sym (ap (λ p. turned (store_as c.affinity) (value_for env values p c.default) ∷ []) is)
 
-pub returns-then-is_held-clause-held : goal.returns-then-is_held-clause-held
-returns-then-is_held-clause-held c none = held_one c.args.column.now c.args.kept.now (rw c.kept_at-value.ensures at (c.if-is_held.ensures refl))
+few_value : (c : PutColumn) (place : ℕ) → c.place ≡ Some place → column_steps (column_with c.affinity (Some place) None) ≡ column_steps c
+few_value c place is = sym (ap (λ p. stored_steps p c.default) is)
 
-pub returns-clause-stores : goal.returns-clause-stores
-returns-clause-stores c =
-    let loads = rw (c.in_ok-to.ensures.1, c.kept_at-value.ensures) at c.in_ok-load.ensures.loads in
-    rw (c.in_ok-op-2.ensures, c.in_ok-op.ensures) (stores_column c.args.column.now c.args.kept.now c.in_ok-to.to c.args.causes c.in_ok-to.ensures.0 c.requires.taken c.requires.counted loads)
+without_value : (c : PutColumn) → c.place ≡ None → (env : Environment) (values : List Value) → stored_for env (column_with c.affinity None c.default ∷ []) values ≡ stored_for env (c ∷ []) values
+without_value c is env values = sym (ap (λ p. turned (store_as c.affinity) (value_for env values p c.default) ∷ []) is)
+
+few_default : (c : PutColumn) → c.place ≡ None → column_steps (column_with c.affinity None c.default) ≡ column_steps c
+few_default c is = sym (ap (λ p. stored_steps p c.default) is)
+
+pub returns-in-Some-clause-stores : goal.returns-in-Some-clause-stores
+returns-in-Some-clause-stores c =
+    let x = c.args.column.now in
+    let place = c.in-Some.place in
+    IfOk-weaker c.emit_value.result _ _ (λ may s. stores_as c.args.causes c.args.kept.now (column_with x.affinity (Some place) None) x (with_value x place c.in-Some.is) (omega (arith, few_value x place c.in-Some.is)) s) c.emit_value.ensures.stores
+
+pub returns-in-Some-clause-held : goal.returns-in-Some-clause-held
+returns-in-Some-clause-held c =
+    let x = c.args.column.now in
+    let place = c.in-Some.place in
+    IfOk-weaker c.emit_value.result _ _ (λ may h none. held_as c.args.kept.now (column_with x.affinity (Some place) None) x (with_value x place c.in-Some.is) (h none)) c.emit_value.ensures.held
+
+pub returns-in-None-clause-stores : goal.returns-in-None-clause-stores
+returns-in-None-clause-stores c =
+    let x = c.args.column.now in
+    IfOk-weaker c.emit_default.result _ _ (λ may s. stores_as c.args.causes c.args.kept.now (column_with x.affinity None x.default) x (without_value x c.in-None.is) (omega (arith, few_default x c.in-None.is)) s) c.emit_default.ensures.stores
+
+pub returns-in-None-clause-held : goal.returns-in-None-clause-held
+returns-in-None-clause-held c =
+    let x = c.args.column.now in
+    IfOk-weaker c.emit_default.result _ _ (λ may h none. held_as c.args.kept.now (column_with x.affinity None x.default) x (without_value x c.in-None.is) (h none)) c.emit_default.ensures.held

@@ -1,4 +1,4 @@
-use Rattle.std.proofs.Common.{◌≡◌, Bool, true, false, ◌||◌, take, ◌∙◌, subst, arith, rules, refl}
+use Rattle.std.proofs.Common.{◌≡◌, [], ◌∷◌, Bool, true, false, ◌||◌, take, ◌∙◌, subst, arith, rules, refl}
 use Rattle.std.proofs.lemmas.List.{take_all}
 use Rattle.gen_write.specs.Stretches.{AreHeld, Stores}
 use Rattle.gen_write.proofs.Columns.{held_next, held_none, stores_next, stores_none}
@@ -12,16 +12,22 @@ none_of_both false b e = (refl, e)
 pub loop-column-init : goal.loop-column-init
 loop-column-init c = record { stores = stores_none no_calls c.args.b.now c.args.causes c.args.kept.now c.requires.counted; held = λ none. held_none c.args.kept.now; cursors = search rules }
 
+pub emit_column-requires-clause-taken : goal.emit_column-requires-clause-taken
+emit_column-requires-clause-taken c = omega (arith, c.requires.taken, c.loop-column.invariant.stores.next)
+
 pub emit_column-requires-clause-counted : goal.emit_column-requires-clause-counted
 emit_column-requires-clause-counted c = c.loop-column.invariant.stores.counted
 
 pub loop-column-preserved : goal.loop-column-preserved
 loop-column-preserved c =
+    let one = c.column-item.result in
+    let i = c.loop-column.column-index in
+    let stores = subst (λ x. Stores no_calls c.loop-column.b c.emit_column.new.b c.args.causes c.args.kept.now (x ∷ [])) c.column-item.is c.in_ok-may.ensures.stores in
     record {
-      stores = stores_next c.args.causes c.args.kept.now c.args.columns.now c.loop-column.column-index _ c.requires.taken c.loop-column-test.true c.loop-column.invariant.stores c.in_ok-may.ensures.stores;
+      stores = stores_next c.args.causes c.args.kept.now c.args.columns.now i one c.requires.taken c.loop-column-test.true c.loop-column.invariant.stores stores;
       held = λ none.
           let both = none_of_both c.loop-column.may_fail c.in_ok-may.may none in
-          held_next c.args.kept.now c.args.columns.now c.loop-column.column-index _ c.loop-column-test.true (c.loop-column.invariant.held both.0) (c.in_ok-may.ensures.held both.1);
+          held_next c.args.kept.now c.args.columns.now i one c.loop-column-test.true (c.loop-column.invariant.held both.0) (subst (λ x. AreHeld c.args.kept.now (x ∷ [])) c.column-item.is (c.in_ok-may.ensures.held both.1));
       cursors = c.in_ok-may.ensures.cursors ∙ c.loop-column.invariant.cursors;
     }
 

@@ -1,11 +1,11 @@
-use Rattle.std.proofs.Common.{◌≡◌, ◌*◌, length, take}
-use Rattle.gen_write.specs.Stretches.{AreAllKept, Puts}
-use Rattle.gen_write.specs.Writes.{row_steps, rows_run}
+use Rattle.std.proofs.Common.{◌≡◌, ◌*◌}
+use Rattle.gen_write.specs.Writes.{row_steps}
+use Rattle.gen_write.proofs.RowRuns.{PutsFirst}
 use Rattle.vm_code.specs.Frames.{no_calls}
 use Rattle.gen_write.proofs.rows.put_rows.Given as goal
 
 abbrev pub invariant-loop-kept : goal.invariant-loop-kept
 invariant-loop-kept l = record {
-  puts : Puts no_calls l.initial.b l.b l.cursor l.insert.table l.causes (AreAllKept l.causes l.initial.b.next l.source) (λ rows. rows_run l.insert (take l.kept-index rows)) (l.kept-index * row_steps (length l.insert.columns));
+  puts : PutsFirst no_calls l.initial.b l.b l.insert l.causes l.source l.kept-index (l.kept-index * row_steps l.insert);
   cursors : l.b.cursors ≡ l.initial.b.cursors;
 }

@@ -1,0 +1,91 @@
+-- What is open along the code of rows: the cursor of the table, and for CHECKs the one that stands on the row.
+use Rattle.std.proofs.Common.{◌≡◌, ℕ, ◌≤◌, ◌<◌, List, [], ◌∷◌, length, All, Contains, Option, Some, refl, ap, subst, arith, ⊎_elim}
+use Rattle.std.proofs.lemmas.Bool.{cases_lt}
+use Rattle.std.proofs.lemmas.List.Elements.{Contains-push_cases}
+use Rattle.gen_write.specs.Stretches.{SteadyAt}
+use Rattle.vm_code.specs.declared.op.Op.{Op}
+use Rattle.vm_code.specs.declared.op.Op.TheVariants as op
+use Rattle.vm_code.specs.declared.way.Way.TheVariants as way
+use Rattle.vm_code.specs.declared.program.Unit as unit_type
+use Rattle.vm_code.specs.Draft.{Draft, begun, with_op}
+use Rattle.vm_code.specs.Track.{OpenSet, behind}
+use Rattle.vm_code.specs.Tracked.{AreBelow, IsTracked, Steady}
+use Rattle.vm_code.specs.Frames.{Grows}
+use Rattle.vm_code.proofs.Tracks.{tracked_op, uses_none, uses_one}
+
+pub at_none : (xs : OpenSet) (a : Draft) → SteadyAt xs a a
+at_none xs a = record { keeps = λ l h. h; made = λ l le lt. absurd (omega arith); stays = λ is t. (is, t) }
+
+pub at_then : {xs : OpenSet} {a b c : Draft} → SteadyAt xs a b → SteadyAt xs b c → SteadyAt xs a c
+at_then {xs} {a} {b} {c} x y = record {
+  keeps = λ l h. y.keeps l (x.keeps l h);
+  made = λ l le lt. ⊎_elim (λ inside. y.keeps l (x.made l le inside)) (λ behind_b. y.made l behind_b lt) (cases_lt l (length b.labels));
+  stays = λ is t. let at = x.stays is t in y.stays at.0 at.1;
+}
+
+-- code that finds the cursors open that it uses
+pub at_of : {uses : List ℕ} {a b : Draft} (xs : OpenSet) → All (Contains xs) uses → Steady uses [] a b → SteadyAt xs a b
+at_of xs used x = record { keeps = x.keeps; made = x.made; stays = λ is t. x.stays xs is used t (λ l none. absurd none) }
+
+some_is : (xs ys : OpenSet) → Some xs ≡ Some ys → xs ≡ ys
+some_is xs ys e = cc
+
+-- a cursor stands on the row, between
+pub at_standing : {a z : Draft} (rowid first n : ℕ) → Grows a z → Steady [] [] (with_op a (op.RowOf 0 rowid first n)) z → SteadyAt (1 ∷ []) a (with_op z (op.Close 0))
+at_standing {a} {z} rowid first n grows x = record {
+  keeps = x.keeps;
+  made = x.made;
+  stays = λ is t. inside is t;
+}
+  where
+    row_of : Op
+    row_of = op.RowOf 0 rowid first n
+
+    both : OpenSet
+    both = 1 ∷ 0 ∷ []
+
+    inside : a.track.now ≡ Some (1 ∷ []) → IsTracked a → ((with_op z (op.Close 0)).track.now ≡ Some (1 ∷ [])) × IsTracked (with_op z (op.Close 0))
+    inside is t =
+        let below : AreBelow a.cursors (1 ∷ []) = t.now (1 ∷ []) is in
+        let one : 1 < a.cursors = below 1 (0, omega arith, refl) in
+        let below_both : AreBelow a.cursors both = λ c h. ⊎_elim (λ old. below c old) (λ same. omega (arith, same, one)) (Contains-push_cases (1 ∷ []) 0 c h) in
+        let standing : IsTracked (with_op a row_of) = tracked_op a row_of (1 ∷ []) t is (uses_none row_of (1 ∷ []) refl) (λ l e. cc) (λ zs e. let same : both ≡ zs = some_is both zs e in subst (AreBelow a.cursors) same below_both) in
+        let at = x.stays both (ap (behind (way.Opens 0)) is) (λ k c lt. absurd (omega (arith, lt))) standing (λ l none. absurd none) in
+        let more : AreBelow z.cursors (1 ∷ []) = λ c h. let lt = below c h in omega (arith, lt, grows.cursors) in (
+          ap (behind (way.Closes 0)) at.0,
+          tracked_op z (op.Close 0) both at.1 at.0 (uses_one (op.Close 0) 0 both refl (1, omega arith, refl)) (λ l e. cc) (λ zs e. let same : 1 ∷ [] ≡ zs = some_is (1 ∷ []) zs e in subst (AreBelow z.cursors) same more),
+        )
+
+-- the cursor of the table is opened in front of code that finds it open, and closed behind it
+pub at_opened : {a y z : Draft} (table : ℕ) → SteadyAt [] a y → SteadyAt (1 ∷ []) (with_op y (op.OpenWrite 1 table)) z → 1 < y.cursors → y.cursors ≤ z.cursors → SteadyAt [] a (with_op z (op.Close 1))
+at_opened {a} {y} {z} table x body lt more = record {
+  keeps = λ l h. body.keeps l (x.keeps l h);
+  made = λ l le below. ⊎_elim (λ inside. body.keeps l (x.made l le inside)) (λ behind_y. body.made l behind_y below) (cases_lt l (length y.labels));
+  stays = λ is t. inside is t;
+}
+  where
+    open_op : Op
+    open_op = op.OpenWrite 1 table
+
+    one : OpenSet
+    one = 1 ∷ []
+
+    inside : a.track.now ≡ Some [] → IsTracked a → ((with_op z (op.Close 1)).track.now ≡ Some []) × IsTracked (with_op z (op.Close 1))
+    inside is t =
+        let front = x.stays is t in
+        let below_one : AreBelow y.cursors one = λ c h. ⊎_elim (λ old. front.1.now [] front.0 c old) (λ same. omega (arith, same, lt)) (Contains-push_cases [] 1 c h) in
+        let opening : IsTracked (with_op y open_op) = tracked_op y open_op [] front.1 front.0 (uses_none open_op [] refl) (λ l e. cc) (λ zs e. let same : one ≡ zs = some_is one zs e in subst (AreBelow y.cursors) same below_one) in
+        let at = body.stays (ap (behind (way.Opens 1)) front.0) opening in (
+          ap (behind (way.Closes 1)) at.0,
+          tracked_op z (op.Close 1) one at.1 at.0 (uses_one (op.Close 1) 1 one refl (0, omega arith, refl)) (λ l e. cc) (λ zs e. let same : [] ≡ zs = some_is [] zs e in subst (AreBelow z.cursors) same (λ c h. let known = front.1.now [] front.0 c h in omega (arith, known, more))),
+        )
+
+-- from the start of a unit
+pub steady_from : (units : List (Option unit_type.Unit)) {b : Draft} → SteadyAt [] (begun units) b → Steady [] [] (begun units) b
+steady_from units {b} x = record {
+  keeps = x.keeps;
+  made = x.made;
+  stays = λ xs is used t marks.
+      let none : [] ≡ xs = some_is [] xs is in
+      subst (λ ys. (b.track.now ≡ Some ys) × IsTracked b) none (x.stays refl t);
+}
