@@ -18,11 +18,12 @@ use Rattle.bound_tree.specs.declared.units.BoundUnit.{BoundUnit}
 use Rattle.bound_tree.specs.declared.units.BoundUnit.TheVariants as unit
 use Rattle.bound_tree.specs.declared.writes.BoundChange.{BoundChange}
 use Rattle.bound_tree.specs.declared.writes.BoundChange.TheVariants as change
+use Rattle.bound_tree.specs.declared.writes.BoundTarget.{BoundTarget}
 use Rattle.bound_tree.specs.declared.writes.BoundWrite.{BoundWrite}
 use Rattle.bound_actions.specs.Froms.{table_of}
 use Rattle.bound_ignored.specs.Marked.{ignoring, marked, marked_as, marked_command, marked_compound, marked_core, marked_part, marked_unit, marked_write}
 use Rattle.sql_meaning.specs.declared.column.TableEntry.{TableEntry}
-use Rattle.sql_meaning.specs.Running.{command_of, first_part, from_of, if_built, is_plain_core, is_plain_query, part_of, places_of, put_into, put_of, query_of, rows_of_part, runnable_of, select_of, table_of_source}
+use Rattle.sql_meaning.specs.Running.{command_of, first_part, from_of, if_built, is_plain_core, is_plain_query, part_of, put_at, put_into, put_of, query_of, rows_of_part, runnable_of, select_of, table_of_source}
 use Rattle.sql_meaning.specs.Runnables.{Creates, DoesNothing, Drops, FromItem, Puts, Queries, Runnable, Shows}
 use Rattle.sql_meaning.proofs.ValidLaws.{same-ok}
 use Rattle.sql_words.specs.Refusals.{◌>>=◌}
@@ -129,26 +130,36 @@ module _ (tables : List TableEntry) (ignored : List Action) where
       ∙ first-alike (λ rows. rows) rows_of_part (λ within p. ap (bared (λ rows. rows)) (rows-alike tables ignored within p)) (slice_get units place)
       ∙ bared-same (first_part (slice_get units place) >>= rows_of_part)
 
-  put-alike : (t : TableEntry) (units : List BoundUnit) (c : BoundChange) → put_into t (units_marked units) c ≡ put_into t units c
-  put-alike t units (change.Inserted places None source arguments) = ap (λ r. r >>= λ rows. Ok (record { table = t; places = places_of t.columns places; rows = rows })) (source-alike units source)
-  put-alike t units (change.Inserted places (Some rowid) source arguments) = refl
-  put-alike t units change.Defaulted = refl
-  put-alike t units (change.Updated sets conjuncts) = refl
-  put-alike t units (change.Deleted conjuncts) = refl
+  put-alike : (t : TableEntry) (target : BoundTarget) (units : List BoundUnit) (c : BoundChange) → put_into t target (units_marked units) c ≡ put_into t target units c
+  put-alike t target units (change.Inserted places given source arguments) = ap (λ r. r >>= λ rows. put_at t target places given rows) (source-alike units source)
+  put-alike t target units change.Defaulted = refl
+  put-alike t target units (change.Updated sets conjuncts) = refl
+  put-alike t target units (change.Deleted conjuncts) = refl
 
-  target-alike : (within : Option (List ℕ)) (i : BoundItem) (t : Option (List ℕ)) → (marked_as ignored within t i).source ≡ i.source
-  target-alike within i None = refl
-  target-alike within i (Some t) = refl
+  -- nothing of what is ignored counts where rows are put
+  abbrev ignored_in : Option (List ℕ) → BoundTarget → BoundTarget
+  ignored_in table target = record target { item = marked_as ignored None table target.item }
+
+  target-alike : (t : TableEntry) (table : Option (List ℕ)) (target : BoundTarget) (units : List BoundUnit) (c : BoundChange) → put_into t (ignored_in table target) units c ≡ put_into t target units c
+  target-alike t None target units c = refl
+  target-alike t (Some table) target units (change.Inserted places given source arguments) = refl
+  target-alike t (Some table) target units change.Defaulted = refl
+  target-alike t (Some table) target units (change.Updated sets conjuncts) = refl
+  target-alike t (Some table) target units (change.Deleted conjuncts) = refl
 
   write-alike : (units : List BoundUnit) (w : BoundWrite) → put_of tables (units_marked units) (marked_write ignored None w) ≡ put_of tables units w
-  write-alike units w =
-      let i = w.target.item in
-      ap (λ s. table_of_source tables s >>= λ t. put_into t (units_marked units) w.change >>= λ put. Ok (Puts put)) (target-alike None i (table_of i.source))
-      ∙ over (table_of_source tables i.source)
+  write-alike units w = by (table_of w.target.item.source)
     where
-      over : (r : Result TableEntry Cause) → (r >>= λ t. put_into t (units_marked units) w.change >>= λ put. Ok (Puts put)) ≡ (r >>= λ t. put_into t units w.change >>= λ put. Ok (Puts put))
-      over (Ok t) = ap (λ r. r >>= λ put. Ok (Puts put)) (put-alike t units w.change)
-      over (Err why) = refl
+      into : Option (List ℕ) → TableEntry → Result Runnable Cause
+      into table t = put_into t (ignored_in table w.target) (units_marked units) w.change >>= λ put. Ok (Puts put)
+
+      over : (table : Option (List ℕ)) (r : Result TableEntry Cause) → (r >>= into table) ≡ (r >>= λ t. put_into t w.target units w.change >>= λ put. Ok (Puts put))
+      over table (Ok t) = ap (λ r. r >>= λ put. Ok (Puts put)) (target-alike t table w.target (units_marked units) w.change ∙ put-alike t w.target units w.change)
+      over table (Err why) = refl
+
+      by : (table : Option (List ℕ)) → put_of tables (units_marked units) (record w { target = ignored_in table w.target }) ≡ put_of tables units w
+      by None = ap (if_built (nat_eq (length w.target.item.indexes) 0)) (over None (table_of_source tables w.target.item.source))
+      by (Some table) = ap (if_built (nat_eq (length w.target.item.indexes) 0)) (over (Some table) (table_of_source tables w.target.item.source))
 
   -- ---- any statement
 

@@ -1,11 +1,12 @@
 -- Where values stand in rows that have one for each column.
-use Rattle.std.proofs.Common.{◌≡◌, ◌<◌, ◌+◌, ℕ, zero, suc, nat_eq, nat_lt, true, false, not, cond, List, [], ◌∷◌, length, map, position, Option, Some, None, refl, ap, ◌∙◌, arith, add-one}
+use Rattle.std.proofs.Common.{◌≡◌, ◌<◌, ◌+◌, ℕ, zero, suc, nat_eq, nat_lt, Bool, true, false, not, cond, List, [], ◌∷◌, drop, length, map, position, Option, Some, None, refl, ap, ◌∙◌, arith, add-one}
+use Rattle.std.specs.Bool.{⊤}
 use Rattle.std.specs.List.{position_or_len, range_with_len}
 use Rattle.std.proofs.lemmas.Bool.{eq-eqb, le-ltb, lt-ltb, ne_eqb}
 use Rattle.sql_bound.specs.Writes.{is_place, shown_places}
-use Rattle.sql_meaning.specs.Running.{places_of}
+use Rattle.bound_tree.specs.Exprs.{BoundExpr}
+use Rattle.sql_meaning.specs.Running.{columns_put, first_or}
 use Rattle.sql_meaning.specs.declared.column.Column.{Column}
-use Rattle.bind_stmt.specs.Binds.{put_columns}
 use Rattle.bind_stmt.specs.Plain.{placed_from}
 
 -- so many places, from this one on
@@ -66,6 +67,30 @@ their-places all m (suc n) is =
 pub all_placed : (n : ℕ) → map (λ k. position (is_place (Some k)) (places_from 0 n)) (range_with_len 0 n) ≡ places_from 0 n
 all_placed n = their-places n 0 n (omega arith)
 
-pub all_put : (k : ℕ) (columns : List Column) → put_columns columns (places_of columns (places_from k (length columns))) ≡ placed_from k columns
-all_put k [] = refl
-all_put k (c ∷ columns) = ap (λ cs. record { affinity = c.affinity; place = Some k } ∷ cs) (all_put (suc k) columns)
+-- ---- what columns take of which nothing is said
+
+abbrev pub AreNone : List (Option BoundExpr) → Type 0
+AreNone [] = ⊤
+AreNone (d ∷ ds) = (d ≡ None) × AreNone ds
+
+abbrev pub AreUnset : List Bool → Type 0
+AreUnset [] = ⊤
+AreUnset (m ∷ ms) = (m ≡ false) × AreUnset ms
+
+none-first : (ds : List (Option BoundExpr)) → AreNone ds → (first_or None ds ≡ None) × AreNone (drop 1 ds)
+none-first [] none = (refl, tt)
+none-first (d ∷ ds) none = none
+
+unset-first : (ms : List Bool) → AreUnset ms → (first_or false ms ≡ false) × AreUnset (drop 1 ms)
+unset-first [] unset = (refl, tt)
+unset-first (m ∷ ms) unset = unset
+
+pub all_put : (k : ℕ) (columns : List Column) (ds : List (Option BoundExpr)) (ms : List Bool) → AreNone ds → AreUnset ms → columns_put columns (places_from k (length columns)) ds ms ≡ placed_from k columns
+all_put k [] ds ms none unset = refl
+all_put k (c ∷ columns) ds ms none unset =
+    let d = none-first ds none in
+    let m = unset-first ms unset in
+    let rest = columns_put columns (places_from (suc k) (length columns)) (drop 1 ds) (drop 1 ms) in
+    ap (λ x. record { affinity = c.affinity; place = Some k; default = x; not_null = first_or false ms } ∷ rest) d.0
+    ∙ ap (λ x. record { affinity = c.affinity; place = Some k; default = None; not_null = x } ∷ rest) m.0
+    ∙ ap (λ cs. record { affinity = c.affinity; place = Some k; default = None; not_null = false } ∷ cs) (all_put (suc k) columns (drop 1 ds) (drop 1 ms) d.1 m.1)

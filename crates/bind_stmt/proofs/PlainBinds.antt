@@ -8,6 +8,7 @@ use Rattle.eng_value.specs.declared.limits.TheConstants.{MAX_COLUMNS}
 use Rattle.sql_tree.specs.Layers.{PartLayer, of_part, of_query}
 use Rattle.sql_tree.specs.declared.expr.Expr.TheOpen.{QueryPart-F}
 use Rattle.sql_tree.specs.declared.expr.Expr.{Expr}
+use Rattle.bound_tree.specs.Exprs.{BoundExpr}
 use Rattle.sql_tree.specs.declared.query.Query.{Query}
 use Rattle.sql_tree.specs.declared.statement.Command.TheVariants as command
 use Rattle.sql_tree.specs.declared.statement.Command.{Command}
@@ -23,14 +24,15 @@ use Rattle.sql_meaning.specs.Built.{is_built, is_empty, stands_alone}
 use Rattle.sql_meaning.specs.Declarations.{tables_of}
 use Rattle.sql_meaning.specs.Permits.{asked_by}
 use Rattle.sql_meaning.proofs.PermitLaws.{permitted-all}
-use Rattle.sql_meaning.specs.Running.{places_of}
 use Rattle.sql_meaning.specs.Runnables.{Puts}
 use Rattle.sql_meaning.specs.declared.bound.BoundInsert.{BoundInsert}
+use Rattle.sql_meaning.specs.declared.bound.PutColumn.{PutColumn}
+use Rattle.sql_meaning.specs.declared.bound.RowidFrom.{RowidFrom}
+use Rattle.sql_meaning.specs.declared.bound.RowidFrom.TheVariants as rowid
 use Rattle.sql_meaning.specs.declared.column.TableEntry.{TableEntry}
-use Rattle.bind_stmt.specs.Binds.{Binds, put_columns}
-use Rattle.bind_stmt.specs.Plain.{AreRows, PutsPlain, defines_plain, has_no_index, insert_in, insert_of, is_plain_definition, is_plain_table, is_table_kind, rows_in, rows_of, rows_of_source}
+use Rattle.bind_stmt.specs.Binds.{Binds}
+use Rattle.bind_stmt.specs.Plain.{AreRows, PutsPlain, defines_plain, has_no_index, insert_in, insert_of, is_plain_definition, is_plain_table, is_table_kind, placed_from, rows_in, rows_of, rows_of_source}
 use Rattle.bind_stmt.specs.declared.statement.Bound.TheVariants as bound
-use Rattle.bind_stmt.proofs.Places.{all_put, places_from}
 use Rattle.bind_stmt.proofs.PlainInserts.{InsertsRows, put_as, statement-runs}
 use Rattle.bind_stmt.proofs.PlainValues.{none-in}
 use Rattle.bind_stmt.proofs.Whole.{bound_so}
@@ -115,6 +117,15 @@ read-definition (Some t) width e =
 
 -- ---- the whole
 
+insert-is : (b : BoundInsert) (t : TableEntry) → b.table ≡ t.number → b.name ≡ t.name → b.columns ≡ placed_from 0 t.columns → b.rowid ≡ rowid.Drawn → b.checks ≡ [] → b ≡ (put_as t b.rows).insert
+insert-is b t number name columns from checks =
+    let made : ℕ → List ℕ → List PutColumn → RowidFrom → List BoundExpr → BoundInsert = λ n name columns from checks. record { table = n; name = name; columns = columns; rowid = from; checks = checks; rows = b.rows } in
+    ap (λ n. made n b.name b.columns b.rowid b.checks) number
+    ∙ ap (λ n. made t.number n b.columns b.rowid b.checks) name
+    ∙ ap (λ cs. made t.number t.name cs b.rowid b.checks) columns
+    ∙ ap (λ r. made t.number t.name (placed_from 0 t.columns) r b.checks) from
+    ∙ ap (λ cs. made t.number t.name (placed_from 0 t.columns) rowid.Drawn cs) checks
+
 pub plain-binds : (catalog : Entries) (number : ℕ) (text : List ℕ) (s : Statement) (i : Insert) (rows : List (List Expr)) (b : BoundInsert) → insert_of s ≡ Some i → rows_of i ≡ Some rows → PutsPlain catalog (tables_of catalog) text i.table rows b
     → is_built text s ≡ true → catalog.triggers ≡ [] → Binds (asked_by None) catalog number text s (Ok (bound.Insert b))
 plain-binds catalog number text s i rows b at puts p built untriggered =
@@ -127,16 +138,11 @@ plain-binds catalog number text s i rows b at puts p built untriggered =
     let d = read-definition (table_in (definition_of entry)) (length put.columns) second.1 in
     let few : length d.table.columns ≤ MAX_COLUMNS = subst (λ n. n ≤ MAX_COLUMNS) (sym d.wide) (leb-true (length put.columns) MAX_COLUMNS two.0) in
     let are : AreRows text (length d.table.columns) (r.first ∷ r.rest) b.rows = subst (λ n. AreRows text n (r.first ∷ r.rest) b.rows) (sym d.wide) (subst (λ rs. AreRows text (length put.columns) rs b.rows) r.all p.rows) in
-    let runs = statement-runs catalog text s i.table r.first r.rest b.rows entry d.table (tables_of catalog) put r.inserts p.table.named (read-kind entry.kind two.1) d.is d.plain third.1 few are untriggered p.table.called in
+    let runs = statement-runs catalog text s i.table r.first r.rest b.rows entry d.table (tables_of catalog) put r.inserts p.table.named (read-kind entry.kind two.1) d.is d.plain third.1 few are untriggered p.table.called d.wide in
     bound_so (asked_by None) catalog number text s runs.statement runs.statement (Ok (bound.Insert b)) untriggered built runs.bound (permitted-all runs.statement) (
-      Puts (put_as put (length d.table.columns) b.rows),
+      Puts (put_as put b.rows),
       runs.runs number,
-      record {
-        table = p.number;
-        name = p.called;
-        columns = p.columns ∙ sym (all_put 0 put.columns) ∙ ap (λ n. put_columns put.columns (places_of put.columns (places_from 0 n))) (sym d.wide);
-        rows = refl;
-      },
+      insert-is b put p.number p.called p.columns p.rowid p.checks,
     )
 
 -- what is found of a statement's INSERT and rows

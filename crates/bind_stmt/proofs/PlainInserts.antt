@@ -1,5 +1,5 @@
 -- An INSERT of rows of values that name nothing into a table without constraints: what it is bound to, and what runs of that.
-use Rattle.std.proofs.Common.{◌≡◌, ◌≤◌, ℕ, suc, true, if◌then◌else◌, List, [], ◌∷◌, length, map, position, Option, Some, None, Result, Ok, Err, slice_get, refl, sym, ap, ◌∙◌}
+use Rattle.std.proofs.Common.{◌≡◌, ◌≤◌, ℕ, suc, nat_eq, true, if◌then◌else◌, List, [], ◌∷◌, length, map, position, Option, Some, None, Result, Ok, Err, slice_get, refl, sym, ap, ◌∙◌}
 use Rattle.std.specs.List.{range_with_len}
 use Rattle.std.proofs.lemmas.Bool.{eq-eqb}
 use Rattle.eng_entry.specs.Entries.{Entries}
@@ -27,10 +27,11 @@ use Rattle.bound_tree.specs.declared.statements.BoundCommand.TheVariants.{Writte
 use Rattle.bound_tree.specs.declared.statements.BoundCommand.{BoundCommand}
 use Rattle.bound_tree.specs.declared.statements.BoundStatement.{BoundStatement}
 use Rattle.bound_tree.specs.declared.units.BoundPart.TheVariants as part
-use Rattle.bound_tree.specs.declared.units.BoundSource.TheVariants as bound_source
+use Rattle.bound_tree.specs.declared.units.BoundIndex.{BoundIndex}
 use Rattle.bound_tree.specs.declared.units.BoundUnit.{BoundUnit}
 use Rattle.bound_tree.specs.declared.writes.BoundChange.TheVariants.{Inserted}
 use Rattle.bound_tree.specs.declared.writes.BoundChange.{BoundChange}
+use Rattle.bound_tree.specs.declared.writes.BoundTarget.{BoundTarget}
 use Rattle.bound_tree.specs.declared.writes.BoundWrite.{BoundWrite}
 use Rattle.sql_bound.specs.Carriers.{InsertParts, QueryParts}
 use Rattle.sql_bound.specs.Compounds.{width_fits}
@@ -47,15 +48,17 @@ use Rattle.sql_bound.specs.Writes.{Begun, Opened, Opening, fired_all, insert_beg
 use Rattle.sql_bound.specs.declared.scopes.Asked.{Asked}
 use Rattle.sql_bound.specs.declared.scopes.Work.{Work}
 use Rattle.sql_meaning.specs.Built.{stands_alone}
-use Rattle.sql_meaning.specs.Running.{command_of, first_part, found_table, places_of, put_into, rows_of_part, runnable_of, table_of_source}
+use Rattle.sql_meaning.specs.Running.{columns_put, command_of, first_part, found_table, if_built, put_at, put_into, rowid_from, rows_of_part, runnable_of, table_of_source}
 use Rattle.sql_meaning.specs.Declarations.{table_called}
 use Rattle.sql_meaning.specs.Runnables.{Put, Puts, Runnable}
 use Rattle.sql_meaning.specs.Statement.{around}
+use Rattle.sql_meaning.specs.declared.bound.RowidFrom.TheVariants as rowid
 use Rattle.sql_meaning.specs.declared.column.TableEntry.{TableEntry}
-use Rattle.bind_stmt.specs.Plain.{AreRows, has_no_index, is_plain_table}
-use Rattle.bind_stmt.proofs.Places.{all_placed, length-places_from, no_place, places_from}
-use Rattle.bind_stmt.proofs.PlainTables.{IsPlainTarget, plain-target}
+use Rattle.bind_stmt.specs.Plain.{AreRows, has_no_index, is_plain_table, placed_from}
+use Rattle.bind_stmt.proofs.Places.{all_placed, all_put, length-places_from, no_place, places_from}
+use Rattle.bind_stmt.proofs.PlainTables.{IsBare, IsPlainTarget, plain-target}
 use Rattle.bind_stmt.proofs.PlainValues.{AsksRows, then_is, values-ask}
+use Rattle.bind_stmt.proofs.Steps.{put-at-is, put_from}
 
 -- ---- the source, and where its values go
 
@@ -81,7 +84,7 @@ insertion-is entry width t place arguments plain first =
 pub record Writes (entry : Entry) (width : ℕ) (made : List (List BoundExpr)) (b : BoundCommand × Opened) : Type 0 where
   pub write : BoundWrite
   pub command : b.0 ≡ Written write
-  pub source : write.target.item.source ≡ bound_source.Table entry.name entry.number
+  pub target : IsBare entry write.target
   pub change : PutsRows width made write.change b.1.units
 
 module _ (o : Outer) (views : List ℕ → List ℕ → Tree → List BoundUnit → UnitsAnswer Asked) (below : Depth) (deep : o.depth ≡ Deeper views below) (name : Token) (first : List Expr) (rows : List (List Expr)) (made : List (List BoundExpr))
@@ -111,7 +114,7 @@ module _ (o : Outer) (views : List ℕ → List ℕ → Tree → List BoundUnit 
   -- ---- the write
 
   record BeginsSo (b : Begun × Work) : Type 0 where
-    source : b.0.target.target.item.source ≡ bound_source.Table entry.name entry.number
+    target : IsBare entry b.0.target.target
     change : PutsRows width made b.0.change b.1.units
 
   abbrev parts : InsertParts
@@ -129,7 +132,7 @@ module _ (o : Outer) (views : List ℕ → List ℕ → Tree → List BoundUnit 
         ap (λ n. by n i.columns (of_insert_source i.source)) at ∙ ap (λ cs. by name cs (of_insert_source i.source)) columns ∙ ap (λ s. by name [] (of_insert_source s)) from
             ∙ then_is (target_bound o (name_at o.text name) inserting none) (λ t. places_named t.0 [] >>= λ listed. inserted_from o t.0 listed (Some (of_query q)) t.1 >>= λ c. Ok (done t.0 c)) (t, none) _ target.1
             (ap (λ listed. inserted_from o t listed (Some (of_query q)) none >>= λ c. Ok (done t c)) target.2.hidden ∙ ap (λ r. r >>= λ c. Ok (done t c)) put.1),
-        record { source = target.2.source; change = put.2 },
+        record { target = target.2.bare; change = put.2 },
       )
 
   none_fires : (open_it : Opening) (b : Begun) (so_far : List ℕ × Opened) → o.around.catalog.triggers ≡ [] → fired_all open_it o.around b o.around.catalog.triggers so_far ≡ Ok so_far
@@ -147,7 +150,7 @@ module _ (o : Outer) (views : List ℕ → List ℕ → Tree → List BoundUnit 
         (Written write, opened),
         ap (λ r. (r >>= λ b. fires b >>= λ f. Ok (done b f)) >>= λ w. Ok (told w)) g.1
             ∙ ap (λ r. (r >>= λ f. Ok (done b f)) >>= λ w. Ok (told w)) (none_fires (opening o.around) b.0 ([], opened) untriggered),
-        record { write = write; command = refl; source = g.2.source; change = g.2.change },
+        record { write = write; command = refl; target = g.2.target; change = g.2.change },
       )
 
 -- ---- the statement
@@ -186,35 +189,44 @@ command-is o s name first rows made entry t deep inserts named table defines pla
     (w.0, ap (λ (c : Command). command_bound o c) inserts.command ∙ w.1, w.2)
 
 -- what runs of it
-abbrev pub put_as : TableEntry → ℕ → List (List BoundExpr) → Put
-put_as table width made = record { table = table; places = places_of table.columns (places_from 0 width); rows = made }
+abbrev pub put_as : TableEntry → List (List BoundExpr) → Put
+put_as t made = put_from t (placed_from 0 t.columns) [] made rowid.Drawn
+
+plain-put : (entry : Entry) (t : TableEntry) (d : BoundTarget) (width : ℕ) (made : List (List BoundExpr)) → IsBare entry d → width ≡ length t.columns → put_at t d (places_from 0 width) None made ≡ Ok (put_as t made)
+plain-put entry t d width made bare wide =
+    let are = ap (λ n. columns_put t.columns (places_from 0 n) d.defaults d.not_nulls) wide ∙ all_put 0 t.columns d.defaults d.not_nulls bare.defaults bare.not_nulls in
+    put-at-is t d (places_from 0 width) None made (placed_from 0 t.columns) rowid.Drawn are (ap (λ r. rowid_from (placed_from 0 t.columns) r None) bare.rowid)
+    ∙ ap (λ cs. Ok (put_from t (placed_from 0 t.columns) cs made rowid.Drawn)) bare.checks
 
 runs : (tables : List TableEntry) (number : ℕ) (text : List ℕ) (s : Statement) (entry : Entry) (width : ℕ) (made : List (List BoundExpr)) (b : BoundCommand × Opened) (t : TableEntry) → Writes entry width made b → table_called tables entry.name ≡ Some t
-    → runnable_of tables number text s (statement_with s.explain b) ≡ Ok (Puts (put_as t width made))
-runs tables number text s entry width made b t w called =
+    → width ≡ length t.columns → runnable_of tables number text s (statement_with s.explain b) ≡ Ok (Puts (put_as t made))
+runs tables number text s entry width made b t w called wide =
     let units = b.1.units in
+    let d = w.write.target in
     let put : Result Put Cause → Result Runnable Cause = λ r. r >>= λ p. Ok (Puts p) in
-    let rows : List (List BoundExpr) → Result Put Cause = λ rows. Ok (record { table = t; places = places_of t.columns (places_from 0 width); rows = rows }) in
+    let into : TableEntry → Result Runnable Cause = λ t. put (put_into t d units w.write.change) in
     ap (command_of tables number text s units) w.command
-    ∙ ap (λ x. table_of_source tables x >>= λ t. put (put_into t units w.write.change)) w.source
-    ∙ ap (λ x. found_table x >>= λ t. put (put_into t units w.write.change)) called
-    ∙ ap (λ c. put (put_into t units c)) w.change.is
-    ∙ ap (λ p. put (p >>= rows_of_part >>= rows)) w.change.part
+    ∙ ap (λ (is : List BoundIndex). if_built (nat_eq (length is) 0) (table_of_source tables d.item.source >>= into)) w.target.indexes
+    ∙ ap (λ x. table_of_source tables x >>= into) w.target.source
+    ∙ ap (λ x. found_table x >>= into) called
+    ∙ ap (λ c. put (put_into t d units c)) w.change.is
+    ∙ ap (λ p. put (p >>= rows_of_part >>= λ rows. put_at t d (places_from 0 width) None rows)) w.change.part
+    ∙ ap put (plain-put entry t d width made w.target wide)
 
 -- a statement that puts these rows into this table
-pub record Runs (catalog : Entries) (text : List ℕ) (s : Statement) (t : TableEntry) (width : ℕ) (made : List (List BoundExpr)) (tables : List TableEntry) : Type 0 where
+pub record Runs (catalog : Entries) (text : List ℕ) (s : Statement) (t : TableEntry) (made : List (List BoundExpr)) (tables : List TableEntry) : Type 0 where
   pub statement : BoundStatement
   pub bound : bound_of (around catalog) text s ≡ Ok statement
-  pub runs : (number : ℕ) → runnable_of tables number text s statement ≡ Ok (Puts (put_as t width made))
+  pub runs : (number : ℕ) → runnable_of tables number text s statement ≡ Ok (Puts (put_as t made))
 
 pub statement-runs : (catalog : Entries) (text : List ℕ) (s : Statement) (name : Token) (first : List Expr) (rows : List (List Expr)) (made : List (List BoundExpr)) (entry : Entry) (t : TableDefinition) (tables : List TableEntry) (te : TableEntry)
     → InsertsRows s name first rows → table_named (name_at text name) catalog ≡ Some entry → entry.kind ≡ entry_kind.Table → table_in (definition_of entry) ≡ Some t → is_plain_table t ≡ true → has_no_index entry.name catalog.names ≡ true
-    → length t.columns ≤ MAX_COLUMNS → AreRows text (length t.columns) (first ∷ rows) made → catalog.triggers ≡ [] → table_called tables entry.name ≡ Some te → Runs catalog text s te (length t.columns) made tables
-statement-runs catalog text s name first rows made entry t tables te inserts named table defines plain bare few are untriggered called =
+    → length t.columns ≤ MAX_COLUMNS → AreRows text (length t.columns) (first ∷ rows) made → catalog.triggers ≡ [] → table_called tables entry.name ≡ Some te → length t.columns ≡ length te.columns → Runs catalog text s te made tables
+statement-runs catalog text s name first rows made entry t tables te inserts named table defines plain bare few are untriggered called wide =
     let a = around catalog in
     let w = command-is (outer_at a (full_depth a) text [] in_statement) s name first rows made entry t (deep-enough a) inserts named table defines plain bare few are untriggered in
     record {
       statement = statement_with s.explain w.0;
       bound = ap (λ r. r >>= λ b. Ok (statement_with s.explain b)) w.1;
-      runs = λ number. runs tables number text s entry (length t.columns) made w.0 te w.2 called;
+      runs = λ number. runs tables number text s entry (length t.columns) made w.0 te w.2 called wide;
     }

@@ -1,5 +1,5 @@
 -- What runs is small beside its tree.
-use Rattle.std.proofs.Common.{◌≡◌, ℕ, ◌+◌, ◌*◌, ◌≤◌, List, [], ◌∷◌, length, map, Option, Some, None, Result, Ok, Err, slice_get, refl, subst, arith}
+use Rattle.std.proofs.Common.{◌≡◌, ℕ, ◌+◌, ◌*◌, ◌≤◌, List, [], ◌∷◌, length, map, Option, Some, None, Result, Ok, Err, slice_get, refl, ap, subst, arith}
 use Rattle.eng_value.specs.declared.cause.Cause.{Cause}
 use Rattle.eng_value.specs.declared.cause.Cause.TheVariants as cause
 use Rattle.sql_tree.specs.Layers.{PartLayer, SelectLayer, of_part, of_query, of_select}
@@ -15,16 +15,18 @@ use Rattle.bound_tree.specs.declared.units.BoundQuery.{BoundQuery}
 use Rattle.bound_tree.specs.declared.units.BoundUnit.{BoundUnit}
 use Rattle.bound_tree.specs.declared.units.BoundUnit.TheVariants as unit
 use Rattle.bound_tree.specs.declared.writes.BoundChange.TheVariants as change
+use Rattle.bound_tree.specs.declared.writes.BoundTarget.{BoundTarget}
 use Rattle.bound_size.specs.Counts.{rows_size}
 use Rattle.bound_size.specs.Small as small
 use Rattle.bound_size.specs.Small.{IsSmallCore, IsSmallPart, MakesSmall}
+use Rattle.sql_meaning.specs.declared.bound.RowidFrom.{RowidFrom}
 use Rattle.sql_meaning.specs.declared.column.TableEntry.{TableEntry}
-use Rattle.sql_meaning.specs.Running.{first_part, from_of, is_plain_core, is_plain_query, part_of, places_of, put_into, query_of, rows_of_part, select_of, table_of_source}
+use Rattle.sql_meaning.specs.Running.{columns_put, first_part, from_of, is_plain_core, is_plain_query, part_of, put_at, put_into, query_of, rowid_from, rows_of_part, select_of, table_of_source}
 use Rattle.sql_meaning.specs.Runnables.{FromItem, Put, Queries, Runnable, Shows}
 use Rattle.sql_meaning.proofs.ValidLaws.{if_built-ok, same-ok, then-ok}
 use Rattle.sql_words.specs.Refusals.{◌>>=◌}
 use Rattle.bind_stmt.specs.Small.{AreFew, IsSmall, IsSmallQuery, columns_in, from_size}
-use Rattle.bind_stmt.proofs.Steps.{query_over}
+use Rattle.bind_stmt.proofs.Steps.{put_from, query_over}
 
 -- ---- queries
 
@@ -88,19 +90,24 @@ rows-small size (QueryPart-F.Select s) (part.Select c) rows le few e = absurd (l
 rows-small size (QueryPart-F.Select s) (part.Values made) rows le few e = absurd few
 rows-small size (QueryPart-F.Values written) (part.Select c) rows le few e = absurd few
 
+-- what is put are these rows
+rows-put : (t : TableEntry) (target : BoundTarget) (places : List (Option ℕ)) (given : Option ℕ) (rows : List (List BoundExpr)) (p : Put) → put_at t target places given rows ≡ Ok p → rows ≡ p.insert.rows
+rows-put t target places given rows p e =
+    let columns = columns_put t.columns places target.defaults target.not_nulls in
+    let put : RowidFrom → Put = put_from t columns target.checks rows in
+    let from = then-ok (rowid_from columns target.item.rowid given) (λ f. Ok (put f)) p e in
+    ap (λ (y : Put). y.insert.rows) (same-ok (put from.0) p from.2)
+
 -- an INSERT of rows, by its change
-pub inserted-small : (size : ℕ) (t : TableEntry) (q : Tree) (units : List BoundUnit) (columns : List (Option ℕ)) (rowid : Option ℕ) (source : ℕ) (args : List BoundExpr) (p : Put) → 2 + size_of_query q ≤ size → MakesSmall q source units → put_into t units (change.Inserted columns rowid source args) ≡ Ok p → AreFew size p.rows
-inserted-small size t q units columns None source args p le m e =
-    let made : List (List BoundExpr) → Result Put Cause = λ rows. Ok (record { table = t; places = places_of t.columns columns; rows = rows }) in
-    let all = then-ok (first_part (slice_get units source) >>= rows_of_part) made p e in
+pub inserted-small : (size : ℕ) (t : TableEntry) (target : BoundTarget) (q : Tree) (units : List BoundUnit) (columns : List (Option ℕ)) (rowid : Option ℕ) (source : ℕ) (args : List BoundExpr) (p : Put) → 2 + size_of_query q ≤ size → MakesSmall q source units
+    → put_into t target units (change.Inserted columns rowid source args) ≡ Ok p → AreFew size p.insert.rows
+inserted-small size t target q units columns rowid source args p le m e =
+    let all = then-ok (first_part (slice_get units source) >>= rows_of_part) (λ rows. put_at t target columns rowid rows) p e in
     let one = then-ok (first_part (slice_get units source)) rows_of_part all.0 all.1 in
     let first : m.unit.first ≡ one.0 = first-is m.unit one.0 (subst (λ u. first_part u ≡ Ok one.0) m.placed one.1) in
     let few = rows-small size (of_part (of_query q).first) one.0 all.0 le (subst (IsSmallPart (of_part (of_query q).first)) first m.small) one.2 in
-    let put : Put = record { table = t; places = places_of t.columns columns; rows = all.0 } in
-    subst (λ (y : Put). AreFew size y.rows) (same-ok put p all.2) few
-inserted-small size t q units columns (Some rowid) source args p le m e = absurd (let bad : Err cause.NotYet ≡ Ok p = e in cc)
+    subst (AreFew size) (rows-put t target columns rowid all.0 p all.2) few
 
-pub defaulted-small : (size : ℕ) (t : TableEntry) (units : List BoundUnit) (p : Put) → 2 ≤ size → put_into t units change.Defaulted ≡ Ok p → AreFew size p.rows
-defaulted-small size t units p le e =
-    let put : Put = record { table = t; places = places_of t.columns []; rows = [] ∷ [] } in
-    subst (λ (y : Put). AreFew size y.rows) (same-ok put p e) (record { nodes = omega (arith, le); count = omega (arith, le) })
+pub defaulted-small : (size : ℕ) (t : TableEntry) (target : BoundTarget) (units : List BoundUnit) (p : Put) → 2 ≤ size → put_into t target units change.Defaulted ≡ Ok p → AreFew size p.insert.rows
+defaulted-small size t target units p le e =
+    subst (AreFew size) (rows-put t target [] None ([] ∷ []) p e) (record { nodes = omega (arith, le); count = omega (arith, le) })

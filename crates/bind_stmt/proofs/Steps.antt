@@ -1,5 +1,5 @@
 -- What single steps come to.
-use Rattle.std.proofs.Common.{◌≡◌, ◌≤◌, nat_le, is_some, subst, if◌then◌else◌, ℕ, List, [], ◌∷◌, true, length, Some, None, Result, Ok, flat_map, slice_get, refl, ap, sym}
+use Rattle.std.proofs.Common.{◌≡◌, ◌≤◌, nat_le, is_some, subst, if◌then◌else◌, ℕ, List, [], ◌∷◌, true, length, Option, Some, None, Result, Ok, inl, inr, ◌∙◌, flat_map, slice_get, refl, ap, sym}
 use Rattle.std.proofs.lemmas.Bool.{le-leb}
 use Rattle.std.proofs.lemmas.List.{length-map}
 use Rattle.eng_value.specs.declared.cause.Cause.{Cause}
@@ -8,9 +8,14 @@ use Rattle.bound_tree.specs.declared.units.BoundCore.{BoundCore}
 use Rattle.bound_tree.specs.declared.units.BoundItem.{BoundItem}
 use Rattle.bound_tree.specs.declared.units.BoundPart.{BoundPart}
 use Rattle.bound_tree.specs.declared.units.BoundUnit.{BoundUnit}
+use Rattle.bound_tree.specs.Exprs.{BoundExpr}
+use Rattle.bound_tree.specs.declared.writes.BoundTarget.{BoundTarget}
 use Rattle.bound_tree.specs.declared.writes.BoundWrite.{BoundWrite}
+use Rattle.sql_meaning.specs.declared.bound.PutColumn.{PutColumn}
+use Rattle.sql_meaning.specs.declared.bound.RowidFrom.{RowidFrom}
+use Rattle.sql_words.specs.Refusals.{◌>>=◌}
 use Rattle.sql_meaning.specs.declared.column.TableEntry.{TableEntry}
-use Rattle.sql_meaning.specs.Running.{first_part, from_of, is_plain_core, part_of, put_into, put_of, query_of, select_of, table_of_source}
+use Rattle.sql_meaning.specs.Running.{columns_put, first_part, from_of, is_plain_core, part_of, put_at, put_into, put_of, put_with, query_of, rowid_from, select_of, table_of_source}
 use Rattle.sql_meaning.specs.Runnables.{FromItem, Put, Puts, Queries, Query, Runnable}
 use Rattle.bound_tree.specs.Conditions.{conditions_of}
 use Rattle.bound_tree.specs.declared.statements.BoundCreation.{BoundCreation}
@@ -22,6 +27,7 @@ use Rattle.sql_tree.specs.declared.statement.Create.{Create}
 use Rattle.sql_tree.specs.declared.statement.Definition.TheVariants as definition
 use Rattle.sql_tree.specs.declared.statement.Statement.{Statement}
 use Rattle.sql_tree.specs.declared.statement.TableDefinition.{TableDefinition}
+use Rattle.bind_stmt.specs.Binds.{IsRefusal}
 
 pub item-is : (tables : List TableEntry) (i : BoundItem) (t : TableEntry) → table_of_source tables i.source ≡ Ok t → from_of tables (i ∷ []) ≡ Ok (record { table = t; width = length i.columns; ignored = i.ignored } ∷ [])
 item-is tables i t is = rw is refl
@@ -35,8 +41,20 @@ select-is tables c from plain is = rw (plain, is) refl
 pub query-is : (tables : List TableEntry) (units : List BoundUnit) (place : ℕ) (p : BoundPart) (r : Result Runnable Cause) → first_part (slice_get units place) ≡ Ok p → part_of tables p ≡ r → query_of tables units place ≡ r
 query-is tables units place p r is e = rw is e
 
-pub put-is : (tables : List TableEntry) (units : List BoundUnit) (w : BoundWrite) (t : TableEntry) (p : Put) → table_of_source tables w.target.item.source ≡ Ok t → put_into t units w.change ≡ Ok p → put_of tables units w ≡ Ok (Puts p)
-put-is tables units w t p is e = rw (is, e) refl
+pub put-is : (tables : List TableEntry) (units : List BoundUnit) (w : BoundWrite) (t : TableEntry) (p : Put) → w.target.item.indexes ≡ [] → table_of_source tables w.target.item.source ≡ Ok t → put_into t w.target units w.change ≡ Ok p → put_of tables units w ≡ Ok (Puts p)
+put-is tables units w t p bare is e = rw (bare, is, e) refl
+
+pub put-refused : (tables : List TableEntry) (units : List BoundUnit) (w : BoundWrite) (t : TableEntry) (why : Cause) → w.target.item.indexes ≡ [] → table_of_source tables w.target.item.source ≡ Ok t → IsRefusal (put_into t w.target units w.change) why → IsRefusal (put_of tables units w) why
+put-refused tables units w t why bare is (inl mem) = inl mem
+put-refused tables units w t why bare is (inr e) = inr (rw (bare, is, e) refl)
+
+-- what is put, where its columns take this and its rowids come from there
+abbrev pub put_from : TableEntry → List PutColumn → List BoundExpr → List (List BoundExpr) → RowidFrom → Put
+put_from t columns checks rows from = record { table = t; insert = record { table = t.number; name = t.name; columns = columns; rowid = from; checks = checks; rows = rows } }
+
+pub put-at-is : (t : TableEntry) (target : BoundTarget) (places : List (Option ℕ)) (given : Option ℕ) (rows : List (List BoundExpr)) (columns : List PutColumn) (from : RowidFrom) → columns_put t.columns places target.defaults target.not_nulls ≡ columns
+    → rowid_from columns target.item.rowid given ≡ Ok from → put_at t target places given rows ≡ Ok (put_from t columns target.checks rows from)
+put-at-is t target places given rows columns from are is = ap (λ cs. put_with t target cs given rows) are ∙ ap (λ r. r >>= λ f. Ok (put_from t columns target.checks rows f)) is
 
 pub columns-are : (text : List ℕ) (s : Statement) (k : Create) (t : TableDefinition) → s.command ≡ command.Create k → k.definition ≡ definition.Table t → length t.columns ≤ MAX_COLUMNS → columns_created text s.command ≡ Some (columns_of text t)
 columns-are text s k t is at few =

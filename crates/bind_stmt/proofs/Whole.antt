@@ -1,5 +1,5 @@
 -- The whole statement.
-use Rattle.std.proofs.Common.{◌≡◌, ◌⊎◌, codes, ℕ, ◌+◌, ◌≤◌, Bool, true, false, ◌&&◌, not, is_some, if◌then◌else◌, List, [], ◌∷◌, map, Option, Some, None, Result, Ok, Err, inl, inr, refl, sym, ap, subst, ◌∙◌, arith}
+use Rattle.std.proofs.Common.{◌≡◌, ◌⊎◌, codes, ℕ, ◌+◌, ◌≤◌, nat_eq, length, Bool, true, false, ◌&&◌, not, is_some, if◌then◌else◌, List, [], ◌∷◌, map, Option, Some, None, Result, Ok, Err, inl, inr, refl, sym, ap, subst, ◌∙◌, arith}
 use Rattle.std.specs.Bool.{⊤}
 use Rattle.eng_entry.specs.Entries.{Entries, entry_named}
 use Rattle.eng_entry.specs.declared.entry.Entry.{Entry}
@@ -159,11 +159,13 @@ defaults_placed o i r from h =
 
 -- ---- INSERT
 
-put-small : (size : ℕ) (tables : List TableEntry) (units : List BoundUnit) (w : BoundWrite) (x : Runnable) → ((t : TableEntry) (p : Put) → put_into t units w.change ≡ Ok p → AreFew size p.rows) → put_of tables units w ≡ Ok x → IsSmall size x
+put-small : (size : ℕ) (tables : List TableEntry) (units : List BoundUnit) (w : BoundWrite) (x : Runnable) → ((t : TableEntry) (p : Put) → put_into t w.target units w.change ≡ Ok p → AreFew size p.insert.rows) → put_of tables units w ≡ Ok x → IsSmall size x
 put-small size tables units w x few e =
     let puts : Put → Result Runnable Cause = λ put. Ok (Puts put) in
-    let table = then-ok (table_of_source tables w.target.item.source) (λ t. put_into t units w.change >>= puts) x e in
-    let put = then-ok (put_into table.0 units w.change) puts x table.2 in
+    let into : TableEntry → Result Runnable Cause = λ t. put_into t w.target units w.change >>= puts in
+    let bare = if_built-ok (nat_eq (length w.target.item.indexes) 0) (table_of_source tables w.target.item.source >>= into) x e in
+    let table = then-ok (table_of_source tables w.target.item.source) into x bare.1 in
+    let put = then-ok (put_into table.0 w.target units w.change) puts x table.2 in
     subst (IsSmall size) (same-ok (Puts put.0) x put.2) (few table.0 put.0 put.1)
 
 -- ---- every statement
@@ -208,13 +210,13 @@ module _ (catalog : Entries) (number : ℕ) (text : List ℕ) (s : Statement) (m
       let m = insert_small (around catalog) text s i q made_of at from none (built_values_plain text q values) is in
       let size : size_of_command (command.Rows (rows_by.Insert i)) ≡ 2 + size_of_query q = ap (λ y. 2 + size_of_source y) from in
       put-small (size_of_command (command.Rows (rows_by.Insert i))) (tables_of catalog) made_of.units m.0 x
-      (λ t p e. inserted-small (size_of_command (command.Rows (rows_by.Insert i))) t q made_of.units m.2.columns m.2.rowid m.2.source m.2.arguments p (omega (arith, size)) m.2.makes (subst (λ c. put_into t made_of.units c ≡ Ok p) m.2.change e))
+      (λ t p e. inserted-small (size_of_command (command.Rows (rows_by.Insert i))) t m.0.target q made_of.units m.2.columns m.2.rowid m.2.source m.2.arguments p (omega (arith, size)) m.2.makes (subst (λ c. put_into t m.0.target made_of.units c ≡ Ok p) m.2.change e))
       (subst (λ k. command_of (tables_of catalog) number text s made_of.units k ≡ Ok x) m.1 runs)
   insert_is i source.Defaults from at built =
       let c = command_was (command.Rows (rows_by.Insert i)) at in
       let m = defaults_placed outer i c.0 from c.1 in
       put-small (size_of_command (command.Rows (rows_by.Insert i))) (tables_of catalog) made_of.units m.0 x
-      (λ t p e. defaulted-small (size_of_command (command.Rows (rows_by.Insert i))) t made_of.units p (omega arith) (subst (λ d. put_into t made_of.units d ≡ Ok p) m.2 e))
+      (λ t p e. defaulted-small (size_of_command (command.Rows (rows_by.Insert i))) t m.0.target made_of.units p (omega arith) (subst (λ d. put_into t m.0.target made_of.units d ≡ Ok p) m.2 e))
       (subst (λ k. command_of (tables_of catalog) number text s made_of.units k ≡ Ok x) (c.2 ∙ m.1) runs)
 
   by_command : (k : Command) → s.command ≡ k → is_built_command text k ≡ true → IsSmall (size_of_command k) x

@@ -7,8 +7,6 @@ use Rattle.sql_tree.specs.Sizes.{size_of_statement}
 use Rattle.sql_tree.specs.declared.statement.Statement.{Statement}
 use Rattle.sql_meaning.specs.declared.bound.BoundInsert.{BoundInsert}
 use Rattle.sql_meaning.specs.declared.bound.BoundSelect.{BoundSelect}
-use Rattle.sql_meaning.specs.declared.bound.PutColumn.{PutColumn}
-use Rattle.sql_meaning.specs.declared.column.Column.{Column}
 use Rattle.sql_meaning.specs.Runnables.{Runnable, Creates, DoesNothing, Drops, FromItem, Put, Puts, Queries, Query, Shows}
 use Rattle.sql_meaning.specs.Declarations.{columns_created}
 use Rattle.eng_entry.specs.Entries.{Entries}
@@ -54,24 +52,16 @@ pub record IsQueryAs (q : Query) (b : BoundSelect) : Type 0 where
   pub conjuncts : flat_map conditions_of b.conjuncts ≡ map (erased (marks_in q.from)) q.conjuncts
   pub results : b.results ≡ map (erased (marks_in q.from)) q.results
 
--- what each column takes, where its value stands in a row
-abbrev pub put_columns : List Column → List (Option ℕ) → List PutColumn
-put_columns [] places = []
-put_columns (c ∷ columns) [] = []
-put_columns (c ∷ columns) (p ∷ places) = record { affinity = c.affinity; place = p } ∷ put_columns columns places
-
-pub record IsPutAs (p : Put) (b : BoundInsert) : Type 0 where
-  pub table : b.table ≡ p.table.number
-  pub name : b.name ≡ p.table.name
-  pub columns : b.columns ≡ put_columns p.table.columns p.places
-  pub rows : b.rows ≡ p.rows
+-- the rows, and what their table's columns take
+abbrev pub IsPut : Put → BoundInsert → Type 0
+IsPut p b = b ≡ p.insert
 
 -- ---- statements
 
 abbrev pub IsBound : Runnable → Bound → Type 0
 IsBound (Creates e) (bound.CreateTable t) = (t.name ≡ e.name) × (columns_created e.text e.def.command ≡ Some t.columns)
 IsBound (Drops t) (bound.DropTable d) = (d.name ≡ t.name) × (d.table ≡ t.number)
-IsBound (Puts p) (bound.Insert b) = IsPutAs p b
+IsBound (Puts p) (bound.Insert b) = IsPut p b
 IsBound (Queries q) (bound.Select b) = IsQueryAs q b
 IsBound (Shows rows) (bound.Values b) = b ≡ rows
 IsBound DoesNothing bound.Nothing = ⊤

@@ -31,6 +31,7 @@ use Rattle.sql_meaning.specs.Built.{is_empty, stands_alone}
 use Rattle.sql_meaning.specs.Declarations.{table_called}
 use Rattle.sql_meaning.specs.declared.bound.BoundInsert.{BoundInsert}
 use Rattle.sql_meaning.specs.declared.bound.PutColumn.{PutColumn}
+use Rattle.sql_meaning.specs.declared.bound.RowidFrom.TheVariants as rowid
 use Rattle.sql_meaning.specs.declared.column.Column.{Column}
 use Rattle.sql_meaning.specs.declared.column.TableEntry.{TableEntry}
 
@@ -114,10 +115,10 @@ pub record IsPlainTable (catalog : Entries) (tables : List TableEntry) (name : L
   pub called : table_called tables entry.name ≡ Some t
   pub plain : is_plain_entry catalog entry (length t.columns) ≡ true
 
--- each column takes the value in its own place, from this place on
+-- each column takes the value in its own place, from this place on, and that may be NULL
 abbrev pub placed_from : ℕ → List Column → List PutColumn
 placed_from place [] = []
-placed_from place (c ∷ columns) = record { affinity = c.affinity; place = Some place } ∷ placed_from (suc place) columns
+placed_from place (c ∷ columns) = record { affinity = c.affinity; place = Some place; default = None; not_null = false } ∷ placed_from (suc place) columns
 
 -- ---- the whole
 
@@ -129,3 +130,5 @@ pub record PutsPlain (catalog : Entries) (tables : List TableEntry) (text : List
   pub columns : b.columns ≡ placed_from 0 put.columns
   pub number : b.table ≡ put.number
   pub called : b.name ≡ put.name
+  pub rowid : b.rowid ≡ rowid.Drawn
+  pub checks : b.checks ≡ []

@@ -30,9 +30,9 @@ pub record AreFew (size : ℕ) (rows : List (List BoundExpr)) : Type 0 where
   pub nodes : 3 + rows_size rows ≤ 2 * size
   pub count : length rows ≤ size
 
--- beside a tree of this size
+-- beside a tree of this size; what an INSERT takes from its table was written where that was created
 abbrev pub IsSmall : ℕ → Runnable → Type 0
 IsSmall size (Queries q) = IsSmallQuery size q
-IsSmall size (Puts p) = AreFew size p.rows
+IsSmall size (Puts p) = AreFew size p.insert.rows
 IsSmall size (Shows rows) = rows_size rows ≤ 2 * size
 IsSmall size other = 1 ≤ size

@@ -1,33 +1,42 @@
 // Which statements are built.
-ghost use Rattle.std.specs.Prelude.{◌≡◌};
+ghost use Rattle.std.specs.Prelude.{◌≡◌, IfOk};
 ghost use Rattle.std.specs.List.{list_all};
-ghost use Rattle.sql_meaning.specs.Built.{are_built_rows, is_built, is_built_column, is_built_command, is_built_constraint, is_built_create, is_built_definition, is_built_filter, is_built_from, is_built_insert, is_built_item, is_built_part, is_built_query, is_built_result, is_built_rows, is_built_rows_source, is_built_select, is_built_source, is_built_table, is_built_values, is_built_row, is_plain_select, is_table, stands_alone};
+ghost use Rattle.sql_bound.specs.Answers.{OnlyMem};
+ghost use Rattle.sql_meaning.specs.Built.{are_built_rows, is_built, is_built_behind, is_built_column, is_built_command, is_built_constraint, is_built_definition, is_built_filter, is_built_from, is_built_insert, is_built_item, is_built_part, is_built_query, is_built_result, is_built_rows, is_built_rows_source, is_built_select, is_built_source, is_built_table, is_built_values, is_built_row, is_plain_select, is_table, stands_alone};
 ghost use Rattle.sql_tree.specs.Layers.{of_item, of_part, of_query, of_result, of_select, of_source};
 
 use crate::built_expressions::is_built as is_built_expr;
+use bind_entry::rowid_of;
+use eng_value::Cause;
 use sql_tree::{
-    ColumnConstraint, ColumnDefinition, Command, ConflictChoice, Create, Definition, Expr,
-    FromItem, Insert, InsertSource, ObjectKind, Query, QueryPart, ResultColumn, RowCommand,
-    SelectCore, Source, Statement, TableDefinition,
+    ColumnConstraint, ColumnDefinition, Command, ConflictChoice, Definition, Expr, FromItem,
+    Insert, InsertSource, ObjectKind, Query, QueryPart, ResultColumn, RowCommand, SelectCore,
+    Source, Statement, TableConstraint, TableDefinition,
 };
 use sqlite_items::Items;
+use std::alloc::Global;
 
-/// Whether all of a statement is built.
-pub(crate) fn is_built(text: &str, statement: &Statement) -> bool
-    ensures { result ≡ is_built text.now statement.now }
+/// Whether all of a statement is built. Only memory can fail.
+pub(crate) fn is_built(alloc: Global, text: &str, statement: &Statement) -> Result<bool, Cause>
+    ensures ok { IfOk result (λ b. b ≡ is_built text.now statement.now) }
+    ensures mem { OnlyMem result }
 {
-    statement.explain.is_none() && is_built_command(text, &statement.command)
+    if statement.explain.is_some() {
+        return Ok(false);
+    }
+    is_built_command(alloc, text, &statement.command)
 }
 
-fn is_built_command(text: &str, command: &Command) -> bool
-    ensures { result ≡ is_built_command text.now command.now }
+fn is_built_command(alloc: Global, text: &str, command: &Command) -> Result<bool, Cause>
+    ensures ok { IfOk result (λ b. b ≡ is_built_command text.now command.now) }
+    ensures mem { OnlyMem result }
 {
     match command {
-        Command::Rows(rows) => is_built_rows(text, rows),
-        Command::Create(create) => is_built_create(create),
-        Command::Remove(remove) => is_table(remove.kind),
-        Command::Pragma(_) => true,
-        Command::Transaction(_) => false,
+        Command::Rows(rows) => Ok(is_built_rows(text, rows)),
+        Command::Create(create) => is_built_definition(alloc, text, &create.definition),
+        Command::Remove(remove) => Ok(is_table(remove.kind)),
+        Command::Pragma(_) => Ok(true),
+        Command::Transaction(_) => Ok(false),
     }
 }
 
@@ -43,54 +52,74 @@ fn is_built_rows(text: &str, command: &RowCommand) -> bool
 
 // ---- CREATE
 
-fn is_built_create(create: &Create) -> bool
-    ensures { result ≡ is_built_create create.now }
-{
-    is_built_definition(&create.definition)
-}
-
-fn is_built_definition(definition: &Definition) -> bool
-    ensures { result ≡ is_built_definition definition.now }
+fn is_built_definition(alloc: Global, text: &str, definition: &Definition) -> Result<bool, Cause>
+    ensures ok { IfOk result (λ b. b ≡ is_built_definition text.now definition.now) }
+    ensures mem { OnlyMem result }
 {
     match definition {
-        Definition::Table(table) => is_built_table(table),
-        _ => false,
+        Definition::Table(table) => is_built_table(alloc, text, table),
+        _ => Ok(false),
     }
 }
 
-/// Whether a table has no constraints but collations of columns.
-fn is_built_table(table: &TableDefinition) -> bool
-    ensures { result ≡ is_built_table table.now }
+/// Whether a table has no key but that which is the rowid, and constraints whose expressions are built.
+fn is_built_table(alloc: Global, text: &str, table: &TableDefinition) -> Result<bool, Cause>
+    ensures ok { IfOk result (λ b. b ≡ is_built_table text.now table.now) }
+    ensures mem { OnlyMem result }
 {
-    table.constraints.is_empty() && are_built_columns(table.columns.as_slice())
+    let has_rowid = rowid_of(alloc, text, table)?.is_some();
+    Ok(
+        are_built_columns(text, has_rowid, table.columns.as_slice())
+            && are_built_behind(text, has_rowid, table.constraints.as_slice()),
+    )
 }
 
-fn are_built_columns(columns: &[ColumnDefinition]) -> bool
-    ensures { result ≡ list_all is_built_column columns.now }
+fn are_built_columns(text: &str, has_rowid: bool, columns: &[ColumnDefinition]) -> bool
+    ensures { result ≡ list_all (is_built_column text.now has_rowid) columns.now }
 {
-    columns.iter().all(|column| is_built_column(column))
+    columns
+        .iter()
+        .all(|column| is_built_column(text, has_rowid, column))
 }
 
-fn is_built_column(column: &ColumnDefinition) -> bool
-    ensures { result ≡ is_built_column column.now }
+fn is_built_column(text: &str, has_rowid: bool, column: &ColumnDefinition) -> bool
+    ensures { result ≡ is_built_column text.now has_rowid column.now }
 {
-    are_built_constraints(column.constraints.as_slice())
+    are_built_constraints(text, has_rowid, column.constraints.as_slice())
 }
 
-fn are_built_constraints(constraints: &[ColumnConstraint]) -> bool
-    ensures { result ≡ list_all is_built_constraint constraints.now }
+fn are_built_constraints(text: &str, has_rowid: bool, constraints: &[ColumnConstraint]) -> bool
+    ensures { result ≡ list_all (is_built_constraint text.now has_rowid) constraints.now }
+{
+    constraints.iter().all(|constraint| is_built_constraint(text, has_rowid, constraint))
+}
+
+fn is_built_constraint(text: &str, has_rowid: bool, constraint: &ColumnConstraint) -> bool
+    ensures { result ≡ is_built_constraint text.now has_rowid constraint.now }
+{
+    match constraint {
+        ColumnConstraint::PrimaryKey => has_rowid,
+        ColumnConstraint::Unique => false,
+        ColumnConstraint::Check(x) | ColumnConstraint::Default(x) => is_built_expr(text, x),
+        ColumnConstraint::NotNull | ColumnConstraint::Null | ColumnConstraint::Collate(_) => true,
+    }
+}
+
+fn are_built_behind(text: &str, has_rowid: bool, constraints: &[TableConstraint]) -> bool
+    ensures { result ≡ list_all (is_built_behind text.now has_rowid) constraints.now }
 {
     constraints
         .iter()
-        .all(|constraint| is_built_constraint(constraint))
+        .all(|constraint| is_built_behind(text, has_rowid, constraint))
 }
 
-fn is_built_constraint(constraint: &ColumnConstraint) -> bool
-    ensures { result ≡ is_built_constraint constraint.now }
+fn is_built_behind(text: &str, has_rowid: bool, constraint: &TableConstraint) -> bool
+    ensures { result ≡ is_built_behind text.now has_rowid constraint.now }
 {
     match constraint {
-        ColumnConstraint::Collate(_) | ColumnConstraint::Null => true,
-        _ => false,
+        TableConstraint::PrimaryKey(_) => has_rowid,
+        TableConstraint::Unique(_) => false,
+        TableConstraint::Check(x) => is_built_expr(text, x),
     }
 }
 

@@ -23,7 +23,7 @@ use bound_tree::BoundExpr;
 use eng_catalog::Catalog;
 use eng_entry::{Entry, EntryKind, Space};
 use eng_value::{MAX_COLUMNS, UnaryOperator};
-use sql_meaning::{BoundInsert, Column, PutColumn, TableEntry};
+use sql_meaning::{BoundInsert, Column, PutColumn, RowidFrom, TableEntry};
 use sql_tree::{
     ColumnDefinition, Command, Expr, Insert, InsertSource, Query, QueryPart, RowCommand, Statement,
     TableDefinition, Token, UnaryOp,
@@ -189,6 +189,8 @@ fn placed(alloc: Global, columns: &[Column]) -> Result<Items<PutColumn>, AllocEr
         found.push(PutColumn {
             affinity: column.affinity,
             place: Some(place),
+            default: None,
+            not_null: false,
         })?;
         place += 1;
     }
@@ -292,6 +294,8 @@ fn rows_put(
         table: table.number,
         name: table.name.clone()?,
         columns: placed(alloc, table.columns.as_slice())?,
+        rowid: RowidFrom::Drawn,
+        checks: Items::new(alloc),
         rows,
     }))
 }

@@ -64,7 +64,8 @@ pub fn bind(
     requires untriggered { catalog.now.triggers ≡ [] }
     ensures { (number : ℕ) → Binds (asked_by None) catalog.now number text.now statement.now result }
 {
-    if !is_built(text, statement) {
+    let built = is_built(alloc, text, statement)?;
+    if !built {
         return Err(Cause::NotYet);
     }
     if let Some(insert) = plain_rows(alloc, catalog, tables, text, statement)? {
@@ -85,7 +86,8 @@ pub fn bind_names(
 ) -> Result<BoundStatement, Cause>
     ensures { Answers (if_built (is_built body.now statement.now) (bound_of (around catalog.now) body.now statement.now)) result }
 {
-    if !is_built(body, statement) {
+    let built = is_built(alloc, body, statement)?;
+    if !built {
         return Err(Cause::NotYet);
     }
     named(alloc, catalog, body, statement)
@@ -138,7 +140,7 @@ pub fn runnable(
     drop(triggers);
     match command {
         BoundCommand::Asked(place) => query(alloc, tables, units, place),
-        BoundCommand::Written(write) => put(alloc, tables, units, &write),
+        BoundCommand::Written(write) => put(alloc, tables, units, write),
         BoundCommand::Created(creation) => created(alloc, text, statement, &creation),
         BoundCommand::Removed(removal) => removed(tables, &removal),
         BoundCommand::Transacted(_) => Err(Cause::NotYet),

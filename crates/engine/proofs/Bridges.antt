@@ -1,13 +1,13 @@
 -- What statements that are ready to run come to is what the definitions say of what was bound.
-use Rattle.std.proofs.Common.{◌≡◌, ◌⊎◌, inl, inr, ◌||◌, ℕ, ◌<◌, true, List, [], ◌∷◌, ◌++◌, ℤ, length, map, option_map, Option, Some, None, Result, Ok, Err, refl, sym, ap, ◌∙◌}
+use Rattle.std.proofs.Common.{◌≡◌, ◌⊎◌, inl, inr, ◌||◌, ℕ, ◌<◌, true, List, [], ◌∷◌, ◌++◌, ℤ, length, map, option_map, Option, Some, None, refl, sym, ap, ◌∙◌}
 use Rattle.std.specs.List.{flat_map}
 use Rattle.std.specs.FinSet as set
 use Rattle.std.specs.Cmp.Lexicographic.{nat_list_cmp_total}
 use Rattle.eng_value.specs.Causes.{CauseSet, cause_key, has_cause, named}
-use Rattle.eng_value.specs.Environments.{ItemRow, Surroundings, environment, ignoring, no_causes, table_row}
+use Rattle.eng_value.specs.Environments.{Environment, ItemRow, Surroundings, environment, ignoring, table_row}
 use Rattle.eng_value.specs.HostMeanings.{HostMeanings}
 use Rattle.eng_value.specs.StoredRows.{StoredRow}
-use Rattle.eng_value.specs.Written.{Written, unwritten}
+use Rattle.eng_value.specs.Written.{unwritten}
 use Rattle.eng_value.specs.declared.cause.Cause.{Cause}
 use Rattle.eng_value.specs.declared.value.Value.{Value}
 use Rattle.gen_query.specs.Queries.{rows_in}
@@ -17,10 +17,11 @@ use Rattle.sql_meaning.specs.declared.bound.BoundInsert.{BoundInsert}
 use Rattle.sql_meaning.specs.declared.bound.BoundSelect.{BoundSelect}
 use Rattle.sql_meaning.specs.declared.column.TableEntry.{TableEntry}
 use Rattle.sql_meaning.specs.Runnables.{FromItem, Put, Query}
-use Rattle.sql_meaning.specs.Statement.{Item, Row, Failed as Bad, IsNamed, causes_of, with_others, drop_outcome, Outcome, query_outcome, items_of, items_at, product, put_outcome, put_source, all_put, source_of as source_meant, shown, refusal_of, given_of, rows_put}
+use Rattle.sql_meaning.specs.Statement.{Item, Row, Failed as Bad, IsNamed, causes_of, with_others, closed, drop_outcome, Outcome, query_outcome, items_of, items_at, product, put_outcome, put_source, source_of as source_meant, refusal_of, given_of, rows_put}
+use Rattle.sql_meaning.specs.Steps.{Effect, Done, Left, Fails}
 use Rattle.sql_meaning.specs.World.{Context, State, context, environment_at, rows_at}
 use Rattle.vm_code.specs.Machine.{ending_by, World as Lists, IsSound, Shared}
-use Rattle.bind_stmt.specs.Binds.{IsFrom, IsQueryAs, IsPutAs, marks_in}
+use Rattle.bind_stmt.specs.Binds.{IsFrom, IsQueryAs, marks_in}
 use Rattle.bound_ignored.specs.Erased.{erased}
 use Rattle.sql_meaning.proofs.ErasedValues.{items_at-erased, items_at-erased_one}
 use Rattle.bind_stmt.specs.declared.statement.DroppedTable.{DroppedTable}
@@ -33,7 +34,7 @@ use Rattle.engine.proofs.Puts.{Puts, puts_rows}
 -- ---- bad items
 
 -- there is no bad item, or those causes of the first that may be named are among those of all
-abbrev BadSides : List Item → Type 0
+abbrev pub BadSides : List Item → Type 0
 BadSides items =
     ((refusal_of items ≡ None) × (causes_of items ≡ None))
     ⊎ ((first : CauseSet) × (all : CauseSet) × (refusal_of items ≡ Some first) × (causes_of items ≡ Some all) × ((k : Cause) → has_cause (named first) k ≡ true → has_cause all k ≡ true))
@@ -42,7 +43,7 @@ among_others : (causes : CauseSet) (others : Option CauseSet) (k : Cause) → ha
 among_others causes None k has = has
 among_others causes (Some others) k has = set.contains-union nat_list_cmp_total causes others (cause_key k) ∙ ap (λ b. b || has_cause others k) has
 
-bad_sides : (items : List Item) → BadSides items
+pub bad_sides : (items : List Item) → BadSides items
 bad_sides [] = inl (refl, refl)
 bad_sides (Row row ∷ items) = bad_sides items
 bad_sides (Bad causes ∷ items) =
@@ -103,32 +104,40 @@ module _ (hosts : HostMeanings) (entries : Entries) (lists : Lists) (changes : �
   abbrev left : Course → Outcome
   left course = left_by entries lists changes last (run_by course).ending course.shared
 
-  by_result : (result : Result Written CauseSet) (course : Course) → Puts start result course → all_put state result ≡ left course
-  by_result (Err causes) course (fails, given) = rw (fails, given) refl
-  by_result (Ok y) course (goes, shared, returned) = rw (goes, shared, returned) refl
+  by_effect : (s : Effect) (course : Course) → Puts start s course → closed state s ≡ left course
+  by_effect (Done u y) course (goes, shared, returned) = rw (goes, shared, returned) refl
+  by_effect (Left y) course p = absurd p
+  by_effect (Fails causes y) course (fails, given) = rw (fails, given) refl
 
-  -- a source without a bad row
-  put_good : (b : BoundInsert) (p : Put) → IsPutAs p b → length p.places ≡ length p.table.columns → p.table.number < length lists → IsSound lists → (source : List (List Value)) → put_source state p None source ≡ left (source_run b start None source)
-  put_good b p at wide lt sound source = by_result (rows_put p (unwritten lists last) source) (rows_run b source start) (puts_rows b p at wide source start sound lt)
+  abbrev env : Environment
+  env = environment around [] [] []
 
-  -- where there is one, the causes of the first are among those of all
-  put_bad : (b : BoundInsert) (p : Put) (first all : CauseSet) (source : List (List Value)) → ((k : Cause) → has_cause (named first) k ≡ true → has_cause all k ≡ true)
-      → StandsFor (put_source state p (Some all) source) (left (source_run b start (Some first) source))
-  put_bad b p first all source among = record { refusal = by_first; given = refl; shows_plan = refl; changed = refl; next = refl }
-    where
-      by_first : (why : Option Cause) → IsNamed (Some (named first)) why → IsNamed (Some all) why
-      by_first None n = absurd n
-      by_first (Some k) n = among k n
+  module _ (table : TableEntry) (b : BoundInsert) (lt : b.table < length lists) (sound : IsSound lists) where
+    abbrev put : Put
+    put = record { table = table; insert = b }
 
-  put_by : (b : BoundInsert) (p : Put) → IsPutAs p b → length p.places ≡ length p.table.columns → p.table.number < length lists → IsSound lists → (items : List Item) (source : List (List Value)) → BadSides items
-      → StandsFor (put_source state p (causes_of items) source) (left (source_run b start (refusal_of items) source))
-  put_by b p at wide lt sound items source (inl none) = rw (none.0, none.1) (stands_same _ _ (put_good b p at wide lt sound source))
-  put_by b p at wide lt sound items source (inr bad) = rw (bad.2, bad.3) (put_bad b p bad.0 bad.1 source bad.4)
+    -- a source without a bad row
+    put_good : (source : List (List Value)) → put_source ctx put None source ≡ left (source_run env b start None source)
+    put_good source = by_effect (rows_put env b source (unwritten lists last)) (rows_run env b source start) (puts_rows env b source start sound lt)
 
-  pub put_same : (p : Put) (b : BoundInsert) → IsPutAs p b → length p.places ≡ length p.table.columns → p.table.number < length lists → IsSound lists → StandsFor (put_outcome ctx p) (put_outcome_in hosts entries lists changes last params b)
-  put_same p b at wide lt sound =
-      let source : source_of b around ≡ source_meant ctx p = ap (map (λ (row : List BoundExpr). shown row (environment around [] [] []) no_causes)) at.rows in
-      rw source (put_by b p at wide lt sound (source_meant ctx p) (given_of (source_meant ctx p)) (bad_sides (source_meant ctx p)))
+    -- where there is one, the causes of the first are among those of all
+    put_bad : (first all : CauseSet) (source : List (List Value)) → ((k : Cause) → has_cause (named first) k ≡ true → has_cause all k ≡ true)
+        → StandsFor (put_source ctx put (Some all) source) (left (source_run env b start (Some first) source))
+    put_bad first all source among = record { refusal = by_first; given = refl; shows_plan = refl; changed = refl; next = refl }
+      where
+        by_first : (why : Option Cause) → IsNamed (Some (named first)) why → IsNamed (Some all) why
+        by_first None n = absurd n
+        by_first (Some k) n = among k n
+
+    put_by : (items : List Item) (source : List (List Value)) → BadSides items → StandsFor (put_source ctx put (causes_of items) source) (left (source_run env b start (refusal_of items) source))
+    put_by items source (inl none) = rw (none.0, none.1) (stands_same _ _ (put_good source))
+    put_by items source (inr bad) = rw (bad.2, bad.3) (put_bad bad.0 bad.1 source bad.4)
+
+    put_stands : StandsFor (put_outcome ctx put) (put_outcome_in hosts entries lists changes last params b)
+    put_stands = put_by (source_meant ctx put) (given_of (source_meant ctx put)) (bad_sides (source_meant ctx put))
+
+  pub put_same : (p : Put) (b : BoundInsert) → b ≡ p.insert → p.insert.table < length lists → IsSound lists → StandsFor (put_outcome ctx p) (put_outcome_in hosts entries lists changes last params b)
+  put_same p b at lt sound = rw at (put_stands p.table p.insert lt sound)
 
   -- ---- DROP TABLE
 

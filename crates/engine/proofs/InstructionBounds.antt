@@ -1,11 +1,13 @@
 -- The programs of statements run within the bound that size and work give.
-use Rattle.std.proofs.Common.{◌≡◌, ℕ, ◌+◌, ◌*◌, ◌-◌, ◌≤◌, List, [], ◌∷◌, ℤ, length, flat_map, map, sum_by, Option, Some, None, Ok, refl, sym, ap, subst, ◌∙◌, arith}
+use Rattle.std.proofs.Common.{◌≡◌, inl, inr, ℕ, suc, ◌+◌, ◌*◌, ◌-◌, ◌≤◌, List, [], ◌∷◌, ◌++◌, ℤ, length, flat_map, map, sum_by, Option, Some, None, Ok, refl, sym, ap, subst, ◌∙◌, arith}
+use Rattle.std.specs.List.{AllZip}
+use Rattle.std.specs.Option.{option_to_list}
 use Rattle.std.proofs.Math.Nat.{mul-le-mul_left}
 use Rattle.std.proofs.lemmas.List.{length-map}
 use Rattle.std.proofs.lemmas.List.Concat.{flat_map-cons}
 use Rattle.std.proofs.lemmas.List.Sums.{sum_by-cons}
 use Rattle.bind_stmt.proofs.ErasedSizes.{all_nodes-erased}
-use Rattle.bind_stmt.specs.Binds.{IsBound, IsFrom, IsPutAs, marks_in, put_columns}
+use Rattle.bind_stmt.specs.Binds.{IsBound, IsFrom, marks_in}
 use Rattle.bind_stmt.specs.Small.{AreFew, IsSmall, IsSmallQuery, columns_in, from_size as table_tokens}
 use Rattle.bound_ignored.specs.Erased.{Marks, erased}
 use Rattle.bound_size.proofs.NodeLaws.{all_nodes-append}
@@ -18,22 +20,25 @@ use Rattle.eng_value.specs.Environments.{Surroundings, ignoring, table_row}
 use Rattle.eng_value.specs.HostMeanings.{HostMeanings}
 use Rattle.eng_value.specs.StoredRows.{StoredRow}
 use Rattle.eng_value.specs.declared.value.Value.{Value}
+use Rattle.gen_expr.proofs.Bounds.{some_nodes}
 use Rattle.gen_query.proofs.Sizing.{steps-few, values-few}
 use Rattle.gen_query.specs.Queries.{query_steps, rows_seen, values_steps}
 use Rattle.gen_write.proofs.Sizing.{steps-few as puts_few}
-use Rattle.gen_write.specs.Writes.{put_steps}
+use Rattle.gen_write.specs.Writes.{default_nodes, nodes_within, put_steps, row_bound, turns_of}
 use Rattle.sql_lex.specs.Tokens.{tokens_of}
 use Rattle.bound_tree.specs.Exprs.{BoundExpr}
 use Rattle.sql_meaning.specs.declared.bound.BoundInsert.{BoundInsert}
 use Rattle.sql_meaning.specs.declared.bound.BoundSelect.{BoundSelect}
+use Rattle.sql_meaning.specs.declared.bound.PutColumn.{PutColumn}
 use Rattle.sql_meaning.specs.declared.column.Column.{Column}
-use Rattle.sql_meaning.proofs.TableLaws.{found-all}
+use Rattle.sql_meaning.proofs.DoneLaws.{given_each}
+use Rattle.sql_meaning.proofs.StoringLaws.{IsInto, StoresAs}
 use Rattle.sql_meaning.proofs.ValidLaws.{FitsIn, text-fits}
 use Rattle.sql_meaning.specs.Declarations.{tables_of}
 use Rattle.sql_meaning.specs.Valid.{IsWorld}
 use Rattle.sql_meaning.specs.Runnables.{Runnable, Creates, DoesNothing, Drops, FromItem, Put, Puts, Queries, Query, Shows}
 use Rattle.sql_meaning.specs.Permits.{Asking}
-use Rattle.sql_meaning.specs.Statement.{causes_of, given_of, source_of, text_bound}
+use Rattle.sql_meaning.specs.Statement.{Item, Row, Failed, causes_of, given_of, refusal_of, source_of, text_bound}
 use Rattle.sql_meaning.specs.Work.{bound_where, bound_within, from_size, from_work, opened_size, repeated_size, source_work, work_of}
 use Rattle.sql_meaning.specs.World.{Context, context, rows_at}
 use Rattle.vm_code.specs.Machine.{World as Lists}
@@ -42,8 +47,8 @@ use Rattle.engine.specs.Outcomes.{steps_in, surroundings_in}
 use Rattle.engine.specs.Prepared.{bound_in}
 use Rattle.engine.specs.declared.preparing.Ready.{Ready}
 use Rattle.engine.specs.declared.preparing.Ready.TheVariants as ready
+use Rattle.engine.proofs.Bridges.{BadSides, bad_sides}
 use Rattle.engine.proofs.NoTokens.{has_tokens}
-use Rattle.engine.proofs.Widths.{IsNarrow, tables-few}
 
 -- ---- numbers
 
@@ -63,13 +68,6 @@ within_rows each n opens more rows work is le =
     let all : m * (1 + rows + 1) ≡ (1 + rows) * m + m = omega arith in
     rw is (omega (arith, le, times, all))
 
--- so much for each row that is put, which comes twice, since a write has work
-within_put : (a n opens work : ℕ) → a ≤ 512 * n → a ≤ 256 * (n + opens + 0) * (1 + work + 1)
-within_put a n opens work le =
-    let m = 256 * (n + opens + 0) in
-    let all : m * (1 + work + 1) ≡ m * work + 2 * m = omega arith in
-    omega (arith, le, all)
-
 -- what there is beyond so much
 within_beyond : (a n : ℕ) → a ≤ n + (a - n)
 within_beyond a n = omega arith
@@ -87,10 +85,47 @@ rows_nodes : (rows : List (List BoundExpr)) → rows_size rows ≡ length rows +
 rows_nodes [] = omega arith
 rows_nodes (row ∷ rows) = omega (arith, rows_nodes rows, sum_by-cons all_nodes row rows)
 
-placed_few : (columns : List Column) (places : List (Option ℕ)) → length (put_columns columns places) ≤ length columns
-placed_few [] places = omega arith
-placed_few (c ∷ columns) [] = omega arith
-placed_few (c ∷ columns) (p ∷ places) = omega (arith, placed_few columns places)
+-- the nodes of defaults, as the program counts them and as the size does
+defaults_nodes : (columns : List PutColumn) → sum_by default_nodes columns ≡ all_nodes (flat_map (λ (c : PutColumn). option_to_list c.default) columns)
+defaults_nodes [] = refl
+defaults_nodes (c ∷ columns) = sum_by-cons default_nodes c columns ∙ by c.default (defaults_nodes columns)
+  where
+    plain : (n : ℕ) → n ≡ 0 + n
+    plain n = omega arith
+
+    rest : List BoundExpr
+    rest = flat_map (λ (d : PutColumn). option_to_list d.default) columns
+
+    by : (o : Option BoundExpr) → sum_by default_nodes columns ≡ all_nodes rest → nodes_within o + sum_by default_nodes columns ≡ all_nodes (option_to_list o ++ rest)
+    by None same = subst (λ n. n ≡ all_nodes rest) (plain (sum_by default_nodes columns)) same
+    by (Some x) same = omega (arith, same, all_nodes-append (x ∷ []) rest)
+
+checks_few : (checks : List BoundExpr) → length checks ≤ all_nodes checks
+checks_few [] = omega arith
+checks_few (x ∷ checks) = omega (arith, checks_few checks, some_nodes x)
+
+-- a table's columns are as many as take something
+widths : (columns : List Column) (puts : List PutColumn) → AllZip StoresAs columns puts → length columns ≡ length puts
+widths [] [] same = refl
+widths [] (p ∷ puts) same = absurd same
+widths (c ∷ columns) [] same = absurd same
+widths (c ∷ columns) (p ∷ puts) same = ap suc (widths columns puts same.1)
+
+-- a source without a bad row is taken whole, and of another one no row is
+turns_same : (items : List Item) → source_work (causes_of items) (given_of items) ≡ turns_of (refusal_of items) (length items)
+turns_same items = by (bad_sides items)
+  where
+    by : BadSides items → source_work (causes_of items) (given_of items) ≡ turns_of (refusal_of items) (length items)
+    by (inl none) = rw (none.0, none.1) (given_each items none.1)
+    by (inr bad) = rw (bad.2, bad.3) refl
+
+-- so much for each row that is taken
+within_turns : (a each turns n opens work : ℕ) → work ≡ turns → a ≤ 256 * (n + opens + 0) → each ≤ 256 * (n + opens + 0) → a + turns * each ≤ 256 * (n + opens + 0) * (1 + work + 1)
+within_turns a each turns n opens work is le few =
+    let m = 256 * (n + opens + 0) in
+    let times : turns * each ≤ turns * m = mul-le-mul_left turns few in
+    let all : m * (1 + turns + 1) ≡ turns * m + 2 * m = omega arith in
+    rw is (omega (arith, le, times, all))
 
 module _ (asked : Asking) (hosts : HostMeanings) (entries : Entries) (lists : Lists) (changes : ℕ) (last : ℤ) (params : List Value) (text : List ℕ) (valid : IsWorld (world_in entries lists)) where
   abbrev ctx : Context
@@ -141,12 +176,16 @@ module _ (asked : Asking) (hosts : HostMeanings) (entries : Entries) (lists : Li
 
   -- ---- an INSERT
 
-  put_few : (p : Put) (b : BoundInsert) → IsPutAs p b → IsNarrow p.table → AreFew tokens p.rows → put_steps b around ≤ 512 * tokens
-  put_few p b at narrow few =
-      let small : AreFew tokens b.rows = subst (AreFew tokens) (sym at.rows) few in
-      let wide : length b.columns ≤ 100 = omega (arith, ap (λ columns. length columns) at.columns, placed_few p.table.columns p.places, narrow) in
-      let each : length b.rows * (3 * length b.columns + 8) ≤ length b.rows * 308 = mul-le-mul_left (length b.rows) (omega (arith, wide)) in
-      omega (arith, puts_few b around, each, rows_nodes b.rows, small.nodes, small.count)
+  put_few : (p : Put) → IsInto p.table p.insert → AreFew tokens p.insert.rows
+      → put_steps p.insert around ≤ 256 * (tokens + opened_size (Puts p) + 0) * (1 + source_work (causes_of (source_of ctx p)) (given_of (source_of ctx p)) + 1)
+  put_few p into few =
+      let b = p.insert in
+      let items = source_of ctx p in
+      let each : row_bound b ≤ 256 * (tokens + opened_size (Puts p) + 0) = omega (arith, defaults_nodes b.columns, checks_few b.checks, widths p.table.columns b.columns into.columns, few.nodes) in
+      let read : 3 * sum_by all_nodes b.rows + 3 * length b.rows + 4 ≤ 256 * (tokens + opened_size (Puts p) + 0) = omega (arith, rows_nodes b.rows, few.nodes) in
+      let same : source_work (causes_of items) (given_of items) ≡ turns_of (refusal_of items) (length b.rows) = turns_same items ∙ ap (turns_of (refusal_of items)) (length-map b.rows _) in
+      let steps : put_steps b around ≤ 3 * sum_by all_nodes b.rows + 3 * length b.rows + turns_of (refusal_of items) (length b.rows) * row_bound b + 4 = puts_few b around in
+      omega (arith, steps, within_turns (3 * sum_by all_nodes b.rows + 3 * length b.rows + 4) (row_bound b) (turns_of (refusal_of items) (length b.rows)) tokens (opened_size (Puts p)) (source_work (causes_of items) (given_of items)) same read each)
 
   -- ---- any statement
 
@@ -166,8 +205,7 @@ module _ (asked : Asking) (hosts : HostMeanings) (entries : Entries) (lists : Li
   few_for (Puts p) (ready.Create n) some fits at small = absurd at
   few_for (Puts p) (ready.Drop d) some fits at small = absurd at
   few_for (Puts p) (ready.Insert b) some fits at small =
-      within_put (put_steps b around) tokens (opened_size (Puts p)) (source_work ctx.state p (causes_of (source_of ctx p)) (given_of (source_of ctx p)))
-      (put_few p b at (found-all IsNarrow (tables_of entries) p.table.name p.table (tables-few entries.names) fits.found) small)
+      subst (λ (c : BoundInsert). put_steps c around ≤ 256 * (tokens + opened_size (Puts p) + 0) * (work_of ctx (Puts p) + 1)) (sym at) (put_few p fits.into small)
   few_for (Puts p) (ready.Select b) some fits at small = absurd at
   few_for (Puts p) (ready.Values b) some fits at small = absurd at
   few_for (Puts p) ready.Nothing some fits at small = absurd at

@@ -13,7 +13,6 @@ pub mod Schemas
 pub mod Bodies
 pub mod NewEntries
 pub mod Prepared
-pub mod Widths
 pub mod NoTokens
 pub mod Places
 pub mod InstructionBounds

@@ -15,7 +15,7 @@ use Rattle.sql_tree.specs.declared.statement.Statement.{Statement}
 use Rattle.engine.specs.Prepared.{Readies}
 use Rattle.engine.specs.declared.preparing.NewEntry.{NewEntry}
 use Rattle.engine.specs.declared.preparing.Ready.TheVariants as ready
-use Rattle.std.specs.Prelude.{slice_get}
+use Rattle.std.specs.Prelude.{nat_eq, slice_get}
 use Rattle.std.specs.List.{flat_map}
 use Rattle.eng_entry.specs.Entries.{Entries}
 use Rattle.bound_tree.specs.Conditions.{conditions_of}
@@ -61,8 +61,10 @@ query-creates tables units place e h =
 put-creates : (tables : List TableEntry) (units : List BoundUnit) (w : BoundWrite) (e : Entry) → put_of tables units w ≡ Ok (Creates e) → ⊥
 put-creates tables units w e h =
     let puts : Put → Result Runnable Cause = λ put. Ok (Puts put) in
-    let table = then-ok (table_of_source tables w.target.item.source) (λ t. put_into t units w.change >>= puts) (Creates e) h in
-    let put = then-ok (put_into table.0 units w.change) puts (Creates e) table.2 in
+    let into : TableEntry → Result Runnable Cause = λ t. put_into t w.target units w.change >>= puts in
+    let bare = if_built-ok (nat_eq (length w.target.item.indexes) 0) (table_of_source tables w.target.item.source >>= into) (Creates e) h in
+    let table = then-ok (table_of_source tables w.target.item.source) into (Creates e) bare.1 in
+    let put = then-ok (put_into table.0 w.target units w.change) puts (Creates e) table.2 in
     let bad : Puts put.0 ≡ Creates e = same-ok (Puts put.0) (Creates e) put.2 in absurd (cc)
 
 removal-creates : (tables : List TableEntry) (k : ThingKind) (name : List ℕ) (e : Entry) → removal_of tables k name ≡ Ok (Creates e) → ⊥

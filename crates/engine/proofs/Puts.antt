@@ -1,107 +1,124 @@
--- The rows of an INSERT come behind the others, one after another, as the definition puts them.
-use Rattle.std.proofs.Common.{◌≡◌, ℕ, suc, ◌+◌, ◌-◌, ◌<◌, List, [], ◌∷◌, ◌++◌, Bool, true, false, not, cond, ◌&&◌, length, Option, Some, None, Result, Ok, Err, ℤ, pos, ◌+ℤ◌, ◌<ℤ◌, int_le, is_some, slice_get, slice_set, if◌then◌else◌, All, refl, sym, ap, ◌∙◌, subst, arith, lt-ltb}
-use Rattle.std.proofs.lemmas.Int.{ints}
+-- The rows of an INSERT come to their places, one after another, as the definition puts them.
+use Rattle.std.proofs.Common.{◌≡◌, ℕ, ◌<◌, ◌+◌, List, [], ◌∷◌, Bool, true, false, ◌&&◌, not, length, Some, None, Result, Ok, Err, int_lt, if◌then◌else◌, slice_set, refl, sym, ap, ◌∙◌, subst, lt-ltb}
+use Rattle.std.specs.Bool.{⊤}
 use Rattle.std.proofs.lemmas.List.{length-set}
-use Rattle.eng_value.specs.Casts.{store_as}
-use Rattle.eng_value.specs.Causes.{CauseSet, only}
-use Rattle.eng_value.specs.Environments.{no_causes}
-use Rattle.eng_value.specs.StoredRows.{StoredRow, rowid_behind, next_rowid, IsAscending}
+use Rattle.eng_value.specs.Causes.{CauseSet}
+use Rattle.eng_value.specs.Environments.{Environment}
+use Rattle.eng_value.specs.StoredRows.{StoredRow}
 use Rattle.eng_value.specs.Written.{Written}
-use Rattle.eng_value.specs.declared.cause.Cause.TheVariants.{Full}
-use Rattle.eng_value.specs.declared.limits.TheConstants.{MAX_ROWID}
 use Rattle.eng_value.specs.declared.value.Value.{Value}
-use Rattle.gen_write.specs.Writes.{Course, stored_as, row_under, row_put, rows_run}
+use Rattle.gen_write.specs.Writes.{Course, and_on, course_of, row_effect, rows_run}
+use Rattle.sql_meaning.proofs.RowLaws.{IsFitted, fails, fitted-gives}
+use Rattle.sql_meaning.proofs.StepLaws.{Gives, anyhow, gives-then, gives-weaker, never}
+use Rattle.sql_meaning.specs.Rows.{NewRow, fitted, is_taken, new_row, row_changed, row_put, with_row as with_row_meant, with_row_in}
+use Rattle.sql_meaning.specs.Statement.{rows_put}
+use Rattle.sql_meaning.specs.Steps.{Step, Done, Left, Fails, Effect, ◌then◌, done, or_next, settled}
+use Rattle.sql_meaning.specs.World.{rows_at}
 use Rattle.sql_meaning.specs.declared.bound.BoundInsert.{BoundInsert}
-use Rattle.sql_meaning.specs.declared.column.Column.{Column}
-use Rattle.sql_meaning.specs.Runnables.{Put}
-use Rattle.sql_meaning.specs.Statement.{Item, Row, Failed as Bad, item_of, stored, item_put, rows_put, value_at, values_placed, row_under as row_meant, with_row as with_row_meant}
-use Rattle.sql_words.specs.Refusals.{◌>>=◌}
-use Rattle.bind_stmt.specs.Binds.{IsPutAs, put_columns}
-use Rattle.vm_code.specs.Machine.{IsSound, Shared, rows_of, row_under as found_under, put_row, is_free, with_row, world_of}
-use Rattle.vm_code.proofs.Rows.{All-cons, All-head, All-tail, All-nil, ascending_head, ascending_tail, lt_trans, eq_below, put_row-behind}
-use Rattle.vm_code.proofs.Kept.{ordered_rows, sound_with_row}
+use Rattle.vm_code.specs.Machine.{IsSound, Shared, is_free, is_missing, put_row, rows_of, with_row, world_of}
+use Rattle.vm_code.proofs.Kept.{sound_with_row}
 
--- ---- the rowid behind the others
+-- ---- the place of a row
 
-behind_last : (last : StoredRow) (n : ℤ) (b : Bool) → (if b then None else Some (last.rowid +ℤ pos 1)) ≡ Some n → last.rowid <ℤ n
-behind_last last n true e = absurd (cc)
-behind_last last n false e = let is : n ≡ last.rowid +ℤ pos 1 = cc in omega (arith, ints, is)
+put_row-in : (rows : List StoredRow) (r : StoredRow) → put_row rows r ≡ with_row_in rows r
+put_row-in [] r = refl
+put_row-in (x ∷ rows) r = ap (λ others. if int_lt r.rowid x.rowid then r ∷ x ∷ rows else x ∷ others) (put_row-in rows r)
 
--- it is above those of all rows
-next_rowid-above : (rows : List StoredRow) (n : ℤ) → IsAscending rows → next_rowid rows ≡ Some n → All (λ (r : StoredRow). r.rowid <ℤ n) rows
-next_rowid-above [] n up e = All-nil (λ (r : StoredRow). r.rowid <ℤ n)
-next_rowid-above (x ∷ []) n up e = All-cons (λ (r : StoredRow). r.rowid <ℤ n) x [] (behind_last x n (int_le MAX_ROWID x.rowid) e) (All-nil (λ (r : StoredRow). r.rowid <ℤ n))
-next_rowid-above (x ∷ y ∷ ys) n up e =
-    let place : length (x ∷ y ∷ ys) - 1 ≡ suc (length (y ∷ ys) - 1) = omega arith in
-    let more = next_rowid-above (y ∷ ys) n (ascending_tail x (y ∷ ys) up) (sym (ap (λ k. rowid_behind (slice_get (x ∷ y ∷ ys) k)) place) ∙ e) in
-    All-cons (λ (r : StoredRow). r.rowid <ℤ n) x (y ∷ ys) (lt_trans x.rowid y.rowid n (All-head (λ (r : StoredRow). x.rowid <ℤ r.rowid) y ys (ascending_head x (y ∷ ys) up)) (All-head (λ (r : StoredRow). r.rowid <ℤ n) y ys more)) more
+-- the machine puts a row whose rowid is free where the definition does
+with_row-same : (x : Written) (table : ℕ) (r : StoredRow) → table < length x.world → is_taken (rows_at x.world table) r.rowid ≡ false → with_row x table r ≡ with_row_meant x table r
+with_row-same x table r lt free =
+    let missing : is_free x.world table r.rowid ≡ true = ap (λ b. b && is_missing (rows_of x.world table) r.rowid) (lt-ltb table (length x.world) lt) ∙ ap not free in
+    ap (λ b. if b then record x { world = slice_set x.world table (put_row (rows_of x.world table) r); changes = x.changes + 1; last_rowid = r.rowid } else x) missing
+    ∙ ap (λ rows. record x { world = slice_set x.world table rows; changes = x.changes + 1; last_rowid = r.rowid }) (put_row-in (rows_of x.world table) r)
 
-absent-above : (rows : List StoredRow) (n : ℤ) → All (λ (r : StoredRow). r.rowid <ℤ n) rows → found_under rows n ≡ None
-absent-above [] n low = refl
-absent-above (x ∷ xs) n low =
-    ap (λ b. cond b (Some x) (found_under xs n)) (eq_below x.rowid n (All-head (λ (r : StoredRow). r.rowid <ℤ n) x xs low))
-    ∙ absent-above xs n (All-tail (λ (r : StoredRow). r.rowid <ℤ n) x xs low)
+-- no table more or less, and nothing is returned
+with_row-long : (x : Written) (table : ℕ) (r : StoredRow) → (length (with_row x table r).world ≡ length x.world) × ((with_row x table r).returned ≡ x.returned)
+with_row-long x table r = by (is_free x.world table r.rowid)
+  where
+    rows : List StoredRow
+    rows = put_row (rows_of x.world table) r
+
+    after : Bool → Written
+    after b = if b then record x { world = slice_set x.world table rows; changes = x.changes + 1; last_rowid = r.rowid } else x
+
+    by : (b : Bool) → (length (after b).world ≡ length x.world) × ((after b).returned ≡ x.returned)
+    by true = (length-set x.world table rows, refl)
+    by false = (refl, refl)
 
 -- ---- one row
 
-module _ (x : Written) (table : ℕ) (r : StoredRow) (sound : IsSound x.world) (lt : table < length x.world) (next : next_rowid (rows_of x.world table) ≡ Some r.rowid) where
-  above : All (λ (s : StoredRow). s.rowid <ℤ r.rowid) (rows_of x.world table)
-  above = next_rowid-above (rows_of x.world table) r.rowid (ordered_rows x.world table sound) next
+-- two ways to go on that are the same where something holds
+then-same : {A : Type 0} (made : A → Written → Type 0) (s : Step A) (f g : A → Written → Effect) → Gives made never anyhow s → ((a : A) (y : Written) → made a y → f a y ≡ g a y) → (s then f) ≡ (s then g)
+then-same made (Done a y) f g gives same = same a y gives
+then-same made (Left y) f g gives same = absurd gives
+then-same made (Fails causes y) f g gives same = refl
 
-  -- the machine puts the row where the definition does, behind the others
-  with_row-behind : with_row x table r ≡ with_row_meant x table r
-  with_row-behind =
-      let free : is_free x.world table r.rowid ≡ true = ap (λ b. b && not (is_some (found_under (rows_of x.world table) r.rowid))) (lt-ltb table (length x.world) lt) ∙ ap (λ o. not (is_some o)) (absent-above (rows_of x.world table) r.rowid above) in
-      ap (λ b. if b then record x { world = slice_set x.world table (put_row (rows_of x.world table) r); changes = x.changes + 1; last_rowid = r.rowid } else x) free
-      ∙ ap (λ rows. record x { world = slice_set x.world table rows; changes = x.changes + 1; last_rowid = r.rowid }) (put_row-behind (rows_of x.world table) r above)
+module _ (env : Environment) (b : BoundInsert) where
+  -- a row that is fitted changes nothing, and its rowid is free
+  abbrev Fits : Written → StoredRow → Written → Type 0
+  Fits w r y = (y ≡ w) × (is_taken (rows_at w.world b.table) r.rowid ≡ false)
+
+  fits : (new : NewRow) (w : Written) → Gives (Fits w) never anyhow (fitted env b (rows_at w.world b.table) new w)
+  fits new w =
+      gives-weaker (λ r y. (y ≡ w) × IsFitted env b (rows_at w.world b.table) new r) (Fits w) never (fails w) anyhow (fitted env b (rows_at w.world b.table) new w)
+      (λ r y is. (is.0, is.1.free)) (λ causes y is. tt) (fitted-gives w env b (rows_at w.world b.table) new)
+
+  -- the machine does with a row of the source what the definition does
+  row-same : (row : List Value) (w : Written) → b.table < length w.world → row_effect env b row w ≡ row_put env b row w
+  row-same row w lt = by (new_row env b row)
+    where
+      by : (r : Result NewRow CauseSet) → (settled r w then λ new x. fitted env b (rows_of x.world b.table) new x then λ row x. done (with_row x b.table row)) ≡ (settled r w then λ new x. row_changed env b new x)
+      by (Err causes) = refl
+      by (Ok new) =
+          then-same (Fits w) (fitted env b (rows_at w.world b.table) new w) (λ r y. done (with_row y b.table r)) (λ r y. done (with_row_meant y b.table r)) (fits new w)
+          (λ r y is. subst (λ (z : Written). done (with_row z b.table r) ≡ done (with_row_meant z b.table r)) (sym is.0) (ap done (with_row-same w b.table r lt is.1)))
+
+  -- what is true of what is written from one row to the next
+  pub record IsReady (w y : Written) : Type 0 where
+    pub sound : IsSound y.world
+    pub there : b.table < length y.world
+    pub returned : y.returned ≡ w.returned
+
+  put-ready : (w : Written) (r : StoredRow) → IsSound w.world → b.table < length w.world → IsReady w (with_row w b.table r)
+  put-ready w r sound lt =
+      let long = with_row-long w b.table r in record { sound = sound_with_row w b.table r sound; there = subst (λ n. b.table < n) (sym long.0) lt; returned = long.1 }
+
+  row-ready : (row : List Value) (w : Written) → IsSound w.world → b.table < length w.world → Gives (λ u y. IsReady w y) never anyhow (row_effect env b row w)
+  row-ready row w sound lt = by (new_row env b row)
+    where
+      by : (r : Result NewRow CauseSet) → Gives (λ u y. IsReady w y) never anyhow (settled r w then λ new x. fitted env b (rows_of x.world b.table) new x then λ row x. done (with_row x b.table row))
+      by (Err causes) = tt
+      by (Ok new) =
+          gives-then never anyhow (Fits w) (λ u y. IsReady w y) (fitted env b (rows_at w.world b.table) new w) (λ r y. done (with_row y b.table r)) (fits new w)
+          (λ r y is. subst (λ z. IsReady w (with_row z b.table r)) (sym is.0) (put-ready w r sound lt))
 
 -- ---- all rows
 
--- what each column takes is stored as the definition stores it
-stored_is : (columns : List Column) (places : List (Option ℕ)) (values : List Value) → length places ≡ length columns → stored_as (put_columns columns places) values ≡ stored columns (values_placed places values)
-stored_is [] [] values wide = refl
-stored_is [] (p ∷ places) values wide = absurd (omega arith)
-stored_is (c ∷ columns) [] values wide = absurd (omega arith)
-stored_is (c ∷ columns) (p ∷ places) values wide = ap (λ outs. store_as c.affinity (value_at values p) ∷ outs) (stored_is columns places values (omega arith))
-
--- what a course comes to from `x` on where the definition writes so: the same is written, and nothing is given; or it fails for the same causes
-abbrev pub Puts : Shared → Result Written CauseSet → Course → Type 0
-Puts x (Ok y) course = (course.causes ≡ None) × (course.shared ≡ record x { written = y }) × (y.returned ≡ x.written.returned)
-Puts x (Err causes) course = (course.causes ≡ Some causes) × (course.shared.given ≡ x.given)
+-- what a course comes to from `x` on where the definition ends so: the same is written, and nothing is given; or it fails for the same causes
+abbrev pub Puts : Shared → Effect → Course → Type 0
+Puts x (Done u y) course = (course.causes ≡ None) × (course.shared ≡ record x { written = y }) × (y.returned ≡ x.written.returned)
+Puts x (Left y) course = ⊥
+Puts x (Fails causes y) course = (course.causes ≡ Some causes) × (course.shared.given ≡ x.given)
 
 -- one row, and then the others
-puts_then : (x : Shared) (y : Written) (result : Result Written CauseSet) (course : Course) → y.returned ≡ x.written.returned → Puts (record x { written = y }) result course → Puts x result course
-puts_then x y (Err causes) course same p = p
-puts_then x y (Ok z) course same p = (p.0, p.1, p.2 ∙ same)
+puts-then : (x : Shared) (y : Written) (s : Effect) (course : Course) → y.returned ≡ x.written.returned → Puts (record x { written = y }) s course → Puts x s course
+puts-then x y (Done u z) course same p = (p.0, p.1, p.2 ∙ same)
+puts-then x y (Left z) course same p = p
+puts-then x y (Fails causes z) course same p = p
 
-module _ (b : BoundInsert) (p : Put) (at : IsPutAs p b) (wide : length p.places ≡ length p.table.columns) where
-  abbrev number : ℕ
-  number = p.table.number
-
+module _ (env : Environment) (b : BoundInsert) where
   abbrev OneMore : List (List Value) → Type 0
-  OneMore source = (x : Shared) → IsSound (world_of x) → number < length (world_of x) → Puts x (rows_put p x.written source) (rows_run b source x)
+  OneMore source = (x : Shared) → IsSound (world_of x) → b.table < length (world_of x) → Puts x (rows_put env b source x.written) (rows_run env b source x)
 
-  puts_rowid : (source : List (List Value)) (others : OneMore source) (x : Shared) → IsSound (world_of x) → number < length (world_of x) → (values : List Value) (rowid : Option ℤ) → next_rowid (rows_of (world_of x) number) ≡ rowid
-      → Puts x (row_meant p.table x.written values rowid >>= λ more. rows_put p more source) (row_under b.table b.name x values rowid (rows_run b source))
-  puts_rowid source others x sound lt values None next = (ap (λ name. Some (only (Full name))) at.name, refl)
-  puts_rowid source others x sound lt values (Some n) next =
-      let r : StoredRow = record { rowid = n; values = values } in
-      let y = with_row_meant x.written number r in
-      let far : number < length y.world = omega (arith, lt, length-set (world_of x) number (rows_of (world_of x) number ++ r ∷ [])) in
-      let same : with_row x.written b.table r ≡ y = ap (λ t. with_row x.written t r) at.table ∙ with_row-behind x.written number r sound lt next in
-      let kept : IsSound y.world = subst (λ (z : Written). IsSound z.world) same (sound_with_row x.written b.table r sound) in
-      subst (λ (z : Written). Puts x (rows_put p y source) (rows_run b source (record x { written = z }))) (sym same)
-      (puts_then x y (rows_put p y source) (rows_run b source (record x { written = y })) refl (others (record x { written = y }) kept far))
-
-  puts_item : (source : List (List Value)) (others : OneMore source) (x : Shared) → IsSound (world_of x) → number < length (world_of x) → (i : Item) → Puts x (item_put p.table x.written i >>= λ more. rows_put p more source) (row_put b.table b.name x i (rows_run b source))
-  puts_item source others x sound lt (Bad causes) = (refl, refl)
-  puts_item source others x sound lt (Row values) =
-      let drawn = next_rowid (rows_of (world_of x) number) in
-      subst (λ k. Puts x (row_meant p.table x.written values drawn >>= λ more. rows_put p more source) (row_under b.table b.name x values (next_rowid (rows_of (world_of x) k)) (rows_run b source))) (sym at.table)
-      (puts_rowid source others x sound lt values drawn refl)
+  puts-row : (source : List (List Value)) → OneMore source → (x : Shared) (s : Effect) → Gives (λ u y. IsReady env b x.written y) never anyhow s
+      → Puts x (or_next s then λ u y. rows_put env b source y) (and_on (course_of x s) (rows_run env b source))
+  puts-row source others x (Done u y) ready =
+      puts-then x y (rows_put env b source y) (rows_run env b source (record x { written = y })) ready.returned (others (record x { written = y }) ready.sound ready.there)
+  puts-row source others x (Left y) ready = absurd ready
+  puts-row source others x (Fails causes y) ready = (refl, refl)
 
   pub puts_rows : (source : List (List Value)) → OneMore source
   puts_rows [] x sound lt = (refl, refl, refl)
   puts_rows (row ∷ source) x sound lt =
-      let same : stored_as b.columns row ≡ stored p.table.columns (values_placed p.places row) = rw at.columns (stored_is p.table.columns p.places row wide) in
-      rw same (puts_item source (puts_rows source) x sound lt (item_of no_causes (stored p.table.columns (values_placed p.places row))))
+      subst (λ s. Puts x (or_next s then λ u y. rows_put env b source y) (and_on (course_of x (row_effect env b row x.written)) (rows_run env b source))) (row-same env b row x.written lt)
+      (puts-row source (puts_rows source) x (row_effect env b row x.written) (row-ready env b row x.written sound lt))

@@ -1,5 +1,5 @@
 -- What a text means whose statement is ready to run: the outcome of what is ready, where tables go by their numbers.
-use Rattle.std.proofs.Common.{◌≡◌, ◌-◌, inl, inr, ℕ, cond, List, [], ◌∷◌, ℤ, length, Option, Some, None, Ok, Err, All, refl, subst, sym, ap, ◌∙◌}
+use Rattle.std.proofs.Common.{◌≡◌, ◌<◌, ◌-◌, inl, inr, ℕ, cond, List, [], ◌∷◌, ℤ, length, Option, Some, None, Ok, Err, All, refl, subst, sym, ap, ◌∙◌}
 use Rattle.bind_stmt.specs.Binds.{IsBound, IsRefusal}
 use Rattle.eng_entry.specs.Entries.{Entries, entry_named}
 use Rattle.eng_entry.specs.declared.entry.Entry.{Entry}
@@ -83,7 +83,7 @@ module _ (asked : Asking) (hosts : HostMeanings) (entries : Entries) (lists : Li
   bound_stands (Drops t) ready.Nothing sound fits at has = absurd at
   bound_stands (Puts p) (ready.Create n) sound fits at has = absurd at
   bound_stands (Puts p) (ready.Drop d) sound fits at has = absurd at
-  bound_stands (Puts p) (ready.Insert b) sound fits at has = put_same hosts entries lists changes last params p b at fits.places (found-all (IsTable lists) (tables_of entries) p.table.name p.table valid.tables fits.found).there sound
+  bound_stands (Puts p) (ready.Insert b) sound fits at has = put_same hosts entries lists changes last params p b at (subst (λ n. n < length lists) (sym fits.into.number) (found-all (IsTable lists) (tables_of entries) p.table.name p.table valid.tables fits.found).there) sound
   bound_stands (Puts p) (ready.Select b) sound fits at has = absurd at
   bound_stands (Puts p) (ready.Values b) sound fits at has = absurd at
   bound_stands (Puts p) ready.Nothing sound fits at has = absurd at
