@@ -394,10 +394,43 @@ fn inserts(alloc: Global) -> Result<bool, AllocError> {
     holds(alloc, &session, "t", &expected)
 }
 
+// A table with each constraint, ten rows that keep them all, and what the table then holds: each rowid, and three values.
+const CONSTRAINED: &str =
+    "CREATE TABLE t(id INTEGER PRIMARY KEY, a NOT NULL DEFAULT 7, b INTEGER CHECK(b > 0), CHECK(a <> b))";
+
+const TEN_ROWS: &str =
+    "INSERT INTO t(id, b) VALUES(NULL, 1), (5, 2), (3, 3), (NULL, 4), (NULL, 5), (2, 6), (-1, 8), (NULL, 9), (NULL, 10), (0, 11)";
+
+const ALL_TEN: [i64; 40] = [
+    -1, -1, 7, 8, 0, 0, 7, 11, 1, 1, 7, 1, 2, 2, 7, 6, 3, 3, 7, 3, 5, 5, 7, 2, 6, 6, 7, 4, 7, 7, 7,
+    5, 8, 8, 7, 9, 9, 9, 7, 10,
+];
+
+// Whether an INSERT puts its ten rows or, where it finds no memory or there was none for its table, changes nothing.
+fn ten_rows(alloc: Global) -> Result<bool, AllocError> {
+    let mut session = session_of(alloc, DEFAULT_BUDGET);
+    run(alloc, &mut session, CONSTRAINED, &[])?;
+    let before = contents(alloc, &session, "t")?;
+    let outcome = run(alloc, &mut session, TEN_ROWS, &[])?;
+    let wrote = Outcome::Done {
+        given: 0,
+        changed: 10,
+    };
+    if outcome == wrote {
+        return holds(alloc, &session, "t", &ALL_TEN);
+    }
+    let is_due = outcome == Outcome::Refused(Cause::Mem.code())
+        || before.as_slice() == [404].as_slice();
+    let is_numbered = session.connection.changes() == 0 && session.connection.last_rowid() == 0;
+    Ok(is_due && is_numbered && holds(alloc, &session, "t", &before)?)
+}
+
 // A test to be run where allocations fail too: an INSERT that finds no memory leaves the rows that were there. What is expected
 // takes no memory in the loop.
 #[test]
-fn an_insert_puts_its_row_or_changes_nothing(rt: HostRuntime) -> Result<(), Fail> {
-    assert!(rt; inserts(rt.alloc())?);
+fn an_insert_puts_its_rows_or_changes_nothing(rt: HostRuntime) -> Result<(), Fail> {
+    let alloc = rt.alloc();
+    assert!(rt; inserts(alloc)?);
+    assert!(rt; ten_rows(alloc)?);
     Ok(())
 }
