@@ -1,6 +1,6 @@
 #!/usr/bin/env python3
-"""Writes scripts of random expressions over a small table, and of tables that come and go, each with the lines that the definitions
-give it.
+"""Writes scripts of random expressions over a small table, of tables that come and go, and of tables with constraints, each with the
+lines that the definitions give it.
 
 `generate.py > scripts.jsonl` made the file beside it: a script a line, with a list for each line that is due, of what it may be.
 """
@@ -11,6 +11,7 @@ from meaning import lines_of
 
 SCRIPTS = 300
 TABLE_SCRIPTS = 100
+CONSTRAINT_SCRIPTS = 100
 SEED = 20251
 NAMES = ["t", "T", '"u"', "[U]", "`v`", "é", "É", "sqlite_t"]
 TYPES = ["INTEGER", "INT", "TEXT", "VARCHAR(10)", "BLOB", "NUMERIC", "", "CLOB", "DECIMAL(10, 5)"]
@@ -22,13 +23,25 @@ TESTS = ["=", "==", "<>", "!=", "<", "<=", ">", ">=", "IS", "IS NOT", "IS DISTIN
 ONE = ["abs", "hex", "length", "lower", "upper", "ltrim", "rtrim", "trim", "quote", "typeof", "unicode", "char"]
 TWO = ["instr", "ifnull", "nullif", "max", "min", "coalesce", "ltrim", "rtrim", "trim", "substr", "char"]
 THREE = ["substr", "substring", "replace", "iif", "max", "min", "coalesce"]
+ROWIDS = ["rowid", "oid", "_rowid_", "ROWID", "Oid", '"rowid"']
+KEYS = ["INTEGER", "INTEGER", "integer", '"INTEGER"']
+ALIKE = ["'a'", "'A'", "'a  '", "'ab'", "'AB'", "'Ab '"]
+# What is refused of a CREATE TABLE, unless a table has the name.
+WRONG_TABLES = [
+    "w(a INT PRIMARY KEY)", "w(a INTEGER(4) PRIMARY KEY)", "w(a INTEGER UNIQUE)", "w(a, b, UNIQUE(a, b))", "w(a INTEGER, PRIMARY KEY(z))",
+    "w(a INTEGER, b, PRIMARY KEY(a, b))", "w(a INTEGER PRIMARY KEY, b INTEGER PRIMARY KEY)", "w(a INT PRIMARY KEY, b INTEGER PRIMARY KEY)",
+    "w(a INTEGER PRIMARY KEY, PRIMARY KEY(z))", "w(a INTEGER, PRIMARY KEY(a COLLATE other))", "w(a DEFAULT (B), b)", "w(a DEFAULT (1 + rowid))",
+    "w(a DEFAULT (x.a))", "w(a CHECK(z))", "w(a CHECK(nosuch(z)))", "w(a CHECK(abs(a, z)))", "w(a CHECK(w.a < x.a))", "w(a CHECK(z), a)",
+    "w(a CHECK(b > 0), b DOUBLE)", "w(a DOUBLE CHECK(z))", "w(a COLLATE other)", "w(a CHECK(a COLLATE other = 1) COLLATE another)",
+    "w(a CHECK(z), CHECK(y))", "w(a, CONSTRAINT k CHECK(y))", "sqlite_w(a CHECK(z))", "t(z CHECK(y))", "T(z UNIQUE)",
+]
 
 
 class Writer:
-    """Texts of random expressions over these columns."""
+    """Texts of random expressions over these columns of a table."""
 
-    def __init__(self, choose, columns):
-        self.r, self.columns = choose, columns
+    def __init__(self, choose, columns, table="t"):
+        self.r, self.columns, self.table = choose, columns, table
 
     def literal(self):
         kinds = [(6, NUMBERS), (5, ["'%s'" % t for t in TEXTS]), (1, BLOBS), (2, ["NULL", "TRUE", "false"]), (0.5, RARE)]
@@ -36,7 +49,7 @@ class Writer:
 
     def column(self):
         name = self.r.choice(self.columns)
-        return self.r.choice([name, name, name.upper(), "t." + name, '"%s"' % name])
+        return self.r.choice([name, name, name.upper(), self.table + "." + name, '"%s"' % name])
 
     def expr(self, depth):
         if depth == 0 or self.r.random() < 0.1:
@@ -201,6 +214,146 @@ class TableWriter:
         return ";\n".join(found) + ";\n"
 
 
+class ConstraintWriter:
+    """Statements about tables with constraints, which most rows keep. Of each table its columns are known, and that which is the rowid."""
+
+    def __init__(self, choose):
+        self.r, self.known, self.least = choose, {}, choose.choice([-30, -3, -3, 1])
+
+    def maybe(self, likely, text):
+        return [text] if self.r.random() < likely else []
+
+    def weighed(self, *kinds):
+        return self.r.choices([k for w, k in kinds], [w for w, k in kinds])[0]
+
+    def name(self):
+        name = self.r.choice(list(self.known))
+        return self.r.choice([name, name, name.upper()]), *self.known[name]
+
+    # ---- CREATE TABLE
+
+    def create(self):
+        name = self.r.choice([n for n in ["t", "u", '"v w"', "[É]"] if n not in self.known])
+        columns = ["a", "b", "c"][:self.r.randrange(1, 4)] + self.maybe(0.15, self.r.choice(ROWIDS[:3]))
+        key = "id" if self.r.random() < 0.6 else None
+        if key:
+            columns.insert(self.r.randrange(len(columns)), key)
+        own = self.r.random() < 0.6
+        declared = [self.column(name, columns, c, c == key, own) for c in columns]
+        rules = self.maybe(0.4, self.check(name, columns))
+        if key and not own:
+            rules.append("PRIMARY KEY(%s%s)" % (self.r.choice(["id", "ID"]), self.r.choice(["", "", " ASC", " COLLATE NOCASE"])))
+        self.r.shuffle(rules)
+        self.known[name] = columns, key
+        return "CREATE TABLE %s%s(%s)" % (self.r.choice(["", "", "IF NOT EXISTS "]), name, ", ".join(declared + self.named(rules)))
+
+    def named(self, rules):
+        return [self.r.choice(["", "", "", "", "CONSTRAINT k "]) + rule for rule in rules]
+
+    def column(self, name, columns, column, is_key, own):
+        rules = self.maybe(0.2, "NOT NULL") + self.maybe(0.05, "NULL")
+        for likely in 0.4, 0.3:
+            rules += self.maybe(likely, "COLLATE " + self.r.choice(["NOCASE", "RTRIM", "nocase", "BINARY"]))
+        for likely in (0.15 if is_key else 0.45), 0.05:
+            rules += self.maybe(likely, "DEFAULT " + self.default())
+        for likely in 0.3, 0.05:
+            rules += self.maybe(likely, self.check(name, columns))
+        if is_key and own:
+            rules.append("PRIMARY KEY" + self.r.choice(["", "", " ASC"]))
+        self.r.shuffle(rules)
+        its_type = self.r.choice(KEYS if is_key else TYPES)
+        return " ".join([column] + [its_type] * (its_type != "") + self.named(rules))
+
+    def default(self):
+        bare = Writer(self.r, [])
+        return self.weighed((6, lambda: literal(self.r, bare)), (1, lambda: "-9223372036854775808"), (1, lambda: "- 3"), (1, lambda: "'12'"),
+                            (2, lambda: "(%s)" % bare.expr(self.r.randrange(3))))()
+
+    def check(self, name, columns):
+        a, b = (self.r.choice([c, c.upper(), "%s.%s" % (name, c)]) for c in self.r.choices(columns, k=2))
+        return "CHECK(%s)" % self.r.choice([
+            "%s > -2" % a, "%s > -2" % a, "%s <> 'A'" % a, "%s <> 'A'" % a, "typeof(%s) <> 'blob'" % a, "length(%s) < 3" % a,
+            "%s IS NOT %s" % (a, b), "%s <= %s" % (a, b), "%s NOT IN ('ab', 3)" % a, "%s BETWEEN -1 AND 50" % a,
+            "'AB' COLLATE NOCASE <> %s" % a, "%s < %d" % (self.r.choice(ROWIDS), self.least + 14), "%s + 9223372036854775800 > 0" % a,
+            "%s IS NOT NULL OR %s <> 4" % (a, b), "%s OR %s" % (Writer(self.r, columns, name).expr(2), a),
+        ])
+
+    def wrong(self):
+        return "CREATE TABLE %s%s" % (self.r.choice(["", "", "IF NOT EXISTS "]), self.r.choice(WRONG_TABLES))
+
+    def anew(self):
+        """A table is dropped, and made anew."""
+        name = self.r.choice(list(self.known))
+        del self.known[name]
+        return "DROP TABLE %s;\n%s" % (name, self.create())
+
+    # ---- INSERT
+
+    def rowid(self):
+        number = str(self.r.randrange(self.least, self.least + 16))
+        return self.weighed((9, number), (3, "NULL"), (1, "'%s'" % number), (0.6, "' %s '" % number), (0.6, "%s + 2" % number), (0.2, "TRUE"),
+                            (0.6, "'x'"), (0.3, "x'35'"), (0.3, "''"), (0.2, "'1.5'"), (0.1, "1.5"), (0.1, "'9223372036854775808'"),
+                            (0.25, "9223372036854775807"), (0.25, "-9223372036854775808"))
+
+    def value(self, column, key):
+        if column == key or column in ROWIDS:
+            return self.rowid()
+        bare = Writer(self.r, [])
+        return self.weighed((5, lambda: literal(self.r, bare)), (3, lambda: str(self.r.randrange(5))), (3, lambda: self.r.choice(ALIKE)),
+                            (2, lambda: "NULL"), (1, lambda: bare.expr(1)))()
+
+    def insert(self):
+        name, columns, key = self.name()
+        named = ""
+        if self.r.random() < 0.6:
+            columns = self.r.sample(columns, self.r.randrange(1, len(columns) + 1))
+            columns += self.maybe(0.35, self.r.choice(ROWIDS)) + self.maybe(0.05, self.r.choice(["a", "z"]))
+            self.r.shuffle(columns)
+            named = "(%s)" % ", ".join(columns)
+        if self.r.random() < 0.06:
+            return "INSERT INTO %s%s DEFAULT VALUES" % (name, self.r.choice(["", "", "", named]))
+        rows = ["(%s)" % ", ".join(self.value(c, key) for c in columns) for i in range(self.r.choice([1, 1, 1, 2, 2, 3, 4]))]
+        return "INSERT INTO %s%s VALUES %s" % (name, named, ", ".join(rows))
+
+    # ---- SELECT, dot lines
+
+    def select(self):
+        name, columns, key = self.name()
+        alias = self.r.choice(["", "", " AS x"])
+        writer = Writer(self.r, columns + ["rowid", "oid"], "x" if alias else name)
+        results = ", ".join(self.result(writer) for i in range(self.r.randrange(1, 4)))
+        where = " AND ".join(self.condition(writer) for i in range(self.r.choice([0, 0, 1, 1, 2])))
+        return "SELECT %s FROM %s%s%s" % (results, name, alias, " WHERE " + where if where else "")
+
+    def result(self, writer):
+        return self.weighed((4, lambda: self.r.choice(ROWIDS)), (2, lambda: "%s.%s" % (writer.table, self.r.choice(ROWIDS))), (3, lambda: "*"),
+                            (1, lambda: writer.table + ".*"), (3, writer.column), (2, lambda: "typeof(%s)" % writer.column()),
+                            (3, lambda: self.alike(writer.column())), (1, lambda: writer.expr(2)))()
+
+    def alike(self, column):
+        return "%s %s %s" % (column, self.r.choice(["=", "=", "<>", ">="]), self.r.choice(ALIKE))
+
+    def condition(self, writer):
+        rowid = self.r.choice(ROWIDS)
+        return self.weighed((2, lambda: "%s %s %s" % (rowid, self.r.choice(TESTS), self.rowid())),
+                            (1, lambda: "%s BETWEEN %s AND %s" % (rowid, self.rowid(), self.rowid())),
+                            (1, lambda: "%s IN (%s, %s)" % (rowid, self.rowid(), self.rowid())),
+                            (1, lambda: "%s %s %s" % (writer.column(), self.r.choice(TESTS), writer.literal())),
+                            (1, lambda: self.alike(writer.column())), (1, lambda: writer.operand(2)))()
+
+    def dot_line(self):
+        return self.r.choice([".changes", ".rowid"] * 8 + [".tables"])
+
+    def script(self):
+        kinds = [(10, self.insert), (4, self.select), (3, self.dot_line), (0.8, self.wrong), (0.3, self.anew)]
+        found = [self.create() for i in range(self.r.choice([1, 1, 2]))]
+        found += [self.weighed(*kinds)() for i in range(self.r.randrange(12, 26))]
+        for name, (columns, key) in self.known.items():
+            found.append("SELECT %s FROM %s" % (", ".join(["rowid, *"] + [self.alike(c) for c in columns]), name))
+        found += [".changes", ".rowid"]
+        return "".join(text + ("\n" if text.startswith(".") else ";\n") for text in found)
+
+
 # Each operand of a BETWEEN stands twice in what it means, and so do its causes.
 NESTED = "SELECT 1.5" + " BETWEEN 0 AND 1" * 60 + ";\n"
 
@@ -208,7 +361,8 @@ NESTED = "SELECT 1.5" + " BETWEEN 0 AND 1" * 60 + ";\n"
 def scripts():
     source = random.Random(SEED)
     found = [script(source) for number in range(SCRIPTS)] + [NESTED]
-    return found + [TableWriter(source).script() for number in range(TABLE_SCRIPTS)]
+    found += [TableWriter(source).script() for number in range(TABLE_SCRIPTS)]
+    return found + [ConstraintWriter(source).script() for number in range(CONSTRAINT_SCRIPTS)]
 
 
 if __name__ == "__main__":

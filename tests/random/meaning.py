@@ -9,11 +9,20 @@ import sys
 
 from values import *
 
-RESERVED = set("""ALL AND AS BETWEEN CASE CAST COLLATE CREATE DEFAULT DISTINCT DROP ELSE END ESCAPE EXISTS FROM GLOB IF IN INSERT INTO IS ISNULL
-LIKE NOT NOTNULL NULL OR SELECT TABLE THEN TRUE FALSE VALUES WHEN WHERE FILTER RAISE""".split())
+RESERVED = set("""ALL AND AS AUTOINCREMENT BETWEEN CASE CAST CHECK COLLATE COMMIT CONSTRAINT CREATE CROSS DEFAULT DELETE DISTINCT DROP ELSE END ESCAPE
+EXCEPT EXISTS FALSE FILTER FROM FULL GLOB GROUP HAVING IF IN INDEX INNER INSERT INTERSECT INTO IS ISNULL JOIN LEFT LIKE LIMIT NATURAL NOT NOTNULL
+NULL ON OR ORDER OUTER OVER PRIMARY RAISE RECURSIVE REFERENCES RETURNING RIGHT SAVEPOINT SELECT SET TABLE THEN TO TRANSACTION TRUE UNION UNIQUE
+UPDATE USING VALUES WHEN WHERE WINDOW WITH""".split())
 # What may stand in front of a result's name: AS, or the end of an expression.
 ENDS = {"AS", "word", "name", "number", "text", "blob", ")", "END", "NULL", "TRUE", "FALSE", "ISNULL", "NOTNULL"}
 MAX_COLUMNS = 100
+ROWID_NAMES = ("rowid", "oid", "_rowid_")
+COLLATIONS = ("BINARY", "NOCASE", "RTRIM")
+# What a constraint begins with, of a table and of a column.
+TABLE_RULES = ("CONSTRAINT", "PRIMARY", "UNIQUE", "CHECK")
+COLUMN_RULES = TABLE_RULES + ("NOT", "NULL", "DEFAULT", "COLLATE")
+# A dot line, what parts statements, or a statement, which a `;` ends outside a text.
+PART = re.compile(r"^(\.[^\n]*?)\r?$|[ \t\n\f\r;]+|((?:[^;']|'[^']*')+)", re.M)
 TOKEN = re.compile(r"""\s+|(?P<text>'(?:[^']|'')*')|(?P<blob>[xX]'[0-9a-fA-F]*')|(?P<name>"(?:[^"]|"")*"|`(?:[^`]|``)*`|\[[^\]]*\])
 |(?P<word>(?:[A-Za-z_]|[^\x00-\x7f])(?:[A-Za-z0-9_]|[^\x00-\x7f])*)|(?P<number>0[xX][0-9a-fA-F]+|(?:[0-9]+(?:\.[0-9]*)?|\.[0-9]+)(?:[eE][+-]?[0-9]+)?)
 |(?P<sign>\|\||<<|>>|<=|>=|<>|==|!=|[-+*/%(),.;=<>&|~])""", re.X)
@@ -24,7 +33,7 @@ class NotYet(Exception):
 
 
 class Refused(Exception):
-    """The first refusal of a statement's names."""
+    """Why a statement is refused: any of these causes may be named. Of its names the first refusal counts."""
 
 
 def tokens_of(text):
@@ -49,6 +58,13 @@ def name_of(token):
 
 def same(a, b):
     return folded(a) == folded(b)
+
+
+def collation_named(name):
+    found = next((c for c in COLLATIONS if same(c, name)), None)
+    if found is None:
+        raise Refused("1: no such collation: " + name)
+    return found
 
 
 def literal_of(kind, text):
@@ -117,11 +133,11 @@ def affinity_of(words):
 
 
 class Parser:
-    """A statement's tokens, the table whose columns its names are, and what it is called. Names are bound while they are read, from
-    left to right."""
+    """A statement's tokens, the table whose columns its names are, what it is called, and whether columns may be named. Names are bound
+    while they are read, from left to right."""
 
     def __init__(self, tokens):
-        self.tokens, self.at, self.table, self.shown, self.given = tokens, 0, None, None, []
+        self.tokens, self.at, self.table, self.shown, self.given, self.names_columns = tokens, 0, None, None, [], True
 
     def kind(self, ahead=0):
         return self.tokens[self.at + ahead][0] if self.at + ahead < len(self.tokens) else "end"
@@ -140,6 +156,12 @@ class Parser:
     def takes_all(self, *kinds):
         found = all(self.kind(n) == kind for n, kind in enumerate(kinds))
         self.at += len(kinds) if found else 0
+        return found
+
+    def takes_word(self, word):
+        """A word that is not reserved."""
+        found = self.kind() == "word" and same(self.tokens[self.at][1], word)
+        self.at += found
         return found
 
     def alias(self):
@@ -278,11 +300,8 @@ class Parser:
     def collated(self):
         a = self.signed()
         while self.takes("COLLATE"):
-            name = self.name()
-            if name.upper() not in ("BINARY", "NOCASE", "RTRIM"):
-                raise Refused("1: no such collation: " + name)
             found = Bound(a.value, (), a.affinity)
-            found.collation = name.upper()
+            found.collation = collation_named(self.name())
             a = found
         return a
 
@@ -365,12 +384,14 @@ class Parser:
 
     def column(self, name, table=None):
         shown = name if table is None else table + "." + name
-        columns = self.table.columns if self.table and (table is None or same(self.shown, table)) else []
-        for place, column in enumerate(columns):
-            if same(column[0], name):
-                found = Bound(lambda row: row[place], affinity=column[1])
-                found.column = "BINARY"
-                return found
+        if not self.names_columns:
+            raise Refused("1: misuse of: " + next((c.name for c in self.table.columns[1:] if same(c.name, name)), name))
+        place = self.table.place(name) if self.table and (table is None or same(self.shown, table)) else None
+        if place is not None:
+            column = self.table.columns[place]
+            found = Bound(lambda row: row[place], affinity=column.affinity)
+            found.column = column.collation
+            return found
         result = next((at for given, at in self.given if table is None and same(given, name)), None)
         if result is None:
             raise Refused("1: no such column: " + shown)
@@ -415,28 +436,174 @@ class Parser:
             return over(lambda *outs: on_all(lambda *vs: by_keys(function, collation, *vs), outs), *args)
         return over(lambda *outs: on_all(function, outs), *args)
 
+    # ---- what CREATE TABLE declares
+
+    def declarations(self):
+        """In order of text, each column with its constraints behind it, then those of the table: the word of what is declared, the column
+        that it is of, and what it holds. An expression is not read yet, since a CHECK may name columns behind it."""
+        found, behind = self.column_declared(), False
+        while self.takes(","):
+            behind = behind or self.kind() in TABLE_RULES
+            found += [self.table_rule()] if behind else self.column_declared()
+        return found
+
+    def column_declared(self):
+        name, start = self.name(), self.at
+        words = self.type_words() if self.kind() in ("word", "name") else []
+        column = Column(name, affinity_of(words), self.at == start + 1 and same(words[0], "INTEGER"))
+        found = [("COLUMN", column, None)]
+        while self.kind() in COLUMN_RULES:
+            found.append(self.column_rule(column))
+        return found
+
+    def rule(self):
+        """The word of a constraint, behind its name, if it has one."""
+        if self.takes("CONSTRAINT"):
+            self.name()
+        kind = self.next()[0]
+        if kind == "PRIMARY" and not self.takes_word("KEY"):
+            raise NotYet
+        return kind
+
+    def column_rule(self, column):
+        kind, held = self.rule(), None
+        if kind == "PRIMARY":
+            self.takes_word("ASC")
+            held = []
+        elif kind == "NOT":
+            self.expect("NULL")
+            column.not_null = True
+        elif kind == "CHECK":
+            held = self.bracketed()
+        elif kind == "DEFAULT":
+            held = self.default()
+        elif kind == "COLLATE":
+            held = self.name()
+            column.collation = next((c for c in COLLATIONS if same(c, held)), column.collation)
+        elif kind not in ("NULL", "UNIQUE"):
+            raise NotYet
+        return kind, column, held
+
+    def table_rule(self):
+        kind = self.rule()
+        if kind == "CHECK":
+            return kind, None, self.bracketed()
+        if kind not in ("PRIMARY", "UNIQUE"):
+            raise NotYet
+        self.expect("(")
+        held = self.listed(self.key_column)
+        self.expect(")")
+        return kind, None, held
+
+    def key_column(self):
+        """Its name, and the collation that is written."""
+        found = self.name(), self.name() if self.takes("COLLATE") else None
+        self.takes_word("ASC")
+        return found
+
+    def default(self):
+        """Where it begins: a literal, a number behind a sign, or an expression in brackets."""
+        start = self.at
+        if self.kind() == "(":
+            return self.bracketed()
+        if self.takes("+", "-"):
+            self.expect("number")
+        elif not self.takes("number", "text", "blob", "NULL", "TRUE", "FALSE"):
+            raise NotYet
+        return start
+
+    def bracketed(self):
+        """Where the bracket stands of an expression that is passed over."""
+        start, depth = self.at, 1
+        self.expect("(")
+        while depth:
+            depth += {"(": 1, ")": -1}.get(self.next()[0], 0)
+        return start
+
+    def held(self, start, names_columns):
+        """What the expression of a constraint comes to."""
+        self.at, self.names_columns = start, names_columns
+        return self.signed().value
+
+
+class Column:
+    """A column: its affinity and collation, whether its type is INTEGER and nothing else, whether it may not be NULL, and its default."""
+
+    def __init__(self, name, affinity, is_integer):
+        self.name, self.affinity, self.is_integer = name, affinity, is_integer
+        self.collation, self.not_null, self.default = "BINARY", False, lambda row: None
+
+
+def rowid_column(declared):
+    """The column that is the rowid: an INTEGER that alone is the PRIMARY KEY, by its own constraint, else by one of the table."""
+    columns = [column for kind, column, held in declared if kind == "COLUMN"]
+    keys = [(column, held) for kind, column, held in declared if kind == "PRIMARY"]
+    alone = [held[0][0] for column, held in keys if len(held) == 1]
+    found = [column for column, held in keys if column] + [c for name in alone for c in columns if same(c.name, name)]
+    return next((c for c in found if c.is_integer), None)
+
 
 class Table:
-    def __init__(self, name, columns):
-        self.name, self.columns, self.rows = name, columns, []
+    """A row is its rowid, and then a value for each column. `key` is the place of the column that is the rowid, 0 where none is; the rows
+    go by their rowids."""
+
+    def __init__(self, name, columns, key):
+        self.name, self.columns, self.checks, self.rows = name, [Column("rowid", "INTEGER", True)] + columns, [], {}
+        self.key = self.columns.index(key) if key else 0
+
+    def column_place(self, name):
+        return next((place for place, c in enumerate(self.columns) if place > 0 and same(c.name, name)), None)
 
     def place(self, name):
-        """The place of a column."""
-        for place, column in enumerate(self.columns):
-            if same(column[0], name):
-                return place
-        raise Refused("1: no such column: " + name)
+        """Where a name stands in a row: that of a column, else one of the rowid."""
+        found = self.column_place(name)
+        return self.key if found is None and folded(name) in ROWID_NAMES else found
 
     def values(self):
         """What each column comes to."""
-        return [lambda row, i=i: row[i] for i in range(len(self.columns))]
+        return [lambda row, i=i: row[i] for i in range(1, len(self.columns))]
+
+    def rows_in_order(self):
+        return [self.rows[rowid] for rowid in sorted(self.rows)]
+
+    def fitted(self, given, rows):
+        """The row of what is given for some places, beside these rows."""
+        outs = [given[place] if place in given else c.default([]) for place, c in enumerate(self.columns)]
+        row = all_good([turned(lambda v, c=c: store_as(c.affinity, v), out) for c, out in zip(self.columns, outs)])
+        row[0] = row[self.key] = self.fixed(row[self.key], rows)
+        if any(c.not_null and v is None for c, v in zip(self.columns, row)):
+            raise Refused("19: NOT NULL constraint failed: " + self.name)
+        for check in self.checks:
+            if all_good([truth_of(check(row))]) == [0]:
+                raise Refused("19: CHECK constraint failed: " + self.name)
+        if row[0] in rows:
+            raise Refused("19: UNIQUE constraint failed: " + self.name)
+        return row
+
+    def fixed(self, rowid, rows):
+        """The rowid: what is given, else one more than the largest."""
+        if rowid is None:
+            rowid = max(rows, default=0) + 1
+            if not fits(rowid):
+                raise Refused("13: table is full: " + self.name)
+        if not isinstance(rowid, int):
+            raise Refused(MISMATCH)
+        return rowid
+
+
+def all_good(outs):
+    """The values, unless one is bad."""
+    causes = causes_of(outs)
+    if causes:
+        raise Refused(*causes)
+    return outs
 
 
 class Connection:
-    """The tables, by their names in lower case."""
+    """The tables, by their names in lower case, how many rows the last INSERT put, and the last rowid."""
 
     def __init__(self):
-        self.tables = {}
+        self.tables, self.changes, self.rowid = {}, 0, 0
 
     def run(self, text):
         """The rows that are given, and the causes any of which may be named."""
@@ -450,7 +617,11 @@ class Connection:
         except NotYet:
             return [], {"1: not built yet"}
         except Refused as why:
-            return [], {str(why)}
+            return [], set(why.args)
+
+    def dot_line(self, line):
+        asked = {".changes": self.changes, ".rowid": self.rowid}
+        return ([[asked[line]]], set()) if line in asked else ([], {"1: unknown dot line"})
 
     def table(self, name):
         if folded(name) not in self.tables:
@@ -463,26 +634,52 @@ class Connection:
         unless_there = p.takes_all("IF", "NOT", "EXISTS")
         name = p.name()
         p.expect("(")
-        definitions = p.listed(lambda: (p.name(), p.type_words() if p.kind() in ("word", "name") else []))
+        declared = p.declarations()
         p.expect(")")
+        end, key = p.at, rowid_column(declared)
+        if any(kind == "UNIQUE" or (kind == "PRIMARY" and not key) for kind, column, held in declared):
+            raise NotYet
         if unless_there and folded(name) in self.tables:
             return [], set()
         if folded(name).startswith("sqlite_"):
             raise Refused("1: reserved name: " + name)
         if folded(name) in self.tables:
             raise Refused("1: table already exists: " + self.tables[folded(name)].name)
-        columns = []
-        for column, words in definitions:
-            there = [c for c, a in columns if same(c, column)]
-            if there:
-                raise Refused("1: column already exists: " + there[0])
-            if affinity_of(words) == "REAL":
-                raise Refused(REAL)
-            columns.append((column, affinity_of(words)))
-            if len(columns) > MAX_COLUMNS:
-                raise Refused("1: limit of 100 columns")
-        self.tables[folded(name)] = Table(name, columns)
+        p.table, p.shown = Table(name, [column for kind, column, held in declared if kind == "COLUMN"], key), name
+        for number in range(len(declared)):
+            self.declare(p, declared[number], declared[:number])
+        p.at = end
+        self.tables[folded(name)] = p.table
         return [], set()
+
+    def declare(self, p, declaration, before):
+        """Each declaration may be refused in its turn, behind those in front of it."""
+        kind, column, held = declaration
+        if kind == "COLUMN":
+            self.new_column(column, [c for k, c, h in before if k == kind])
+        elif kind == "PRIMARY":
+            if any(k == kind for k, c, h in before):
+                raise Refused("1: misuse of: " + p.table.name)
+            for name, collation in held:
+                if p.table.column_place(name) is None:
+                    raise Refused("1: no such column: " + name)
+                if collation is not None:
+                    collation_named(collation)
+        elif kind == "COLLATE":
+            collation_named(held)
+        elif kind == "DEFAULT":
+            column.default = p.held(held, False)
+        elif kind == "CHECK":
+            p.table.checks.append(p.held(held, True))
+
+    def new_column(self, column, before):
+        there = [c.name for c in before if same(c.name, column.name)]
+        if there:
+            raise Refused("1: column already exists: " + there[0])
+        if column.affinity == "REAL":
+            raise Refused(REAL)
+        if len(before) >= MAX_COLUMNS:
+            raise Refused("1: limit of 100 columns")
 
     def drop(self, p):
         p.expect("DROP")
@@ -527,20 +724,20 @@ class Connection:
         given = []
         for row in self.rows(p):
             values = [v([]) for v in row]
-            causes = frozenset().union(*map(causes_in, values))
+            causes = causes_of(values)
             if causes:
                 return given, causes
             given.append(values)
         return given, set()
 
     def insert(self, p):
-        """The source is computed as a whole, and a cause of any bad row may be named; then each row is stored in turn."""
+        """The source is computed as a whole, and a cause of any bad row may be named; then one row after another is put, or none is."""
         p.expect("INSERT")
         p.expect("INTO")
         table = self.table(p.name())
-        places = range(len(table.columns))
+        places = range(1, len(table.columns))
         if p.takes("("):
-            places = p.listed(lambda: table.place(p.name()))
+            places = p.listed(lambda: self.place_named(table, p.name()))
             p.expect(")")
         if p.takes_all("DEFAULT", "VALUES"):
             places, rows = [], [[]]
@@ -549,18 +746,20 @@ class Connection:
             if len(rows[0]) != len(places):
                 raise Refused("1: wrong number of values: " + table.name)
         source = [[v([]) for v in row] for row in rows]
-        causes = frozenset().union(*(causes_in(v) for row in source for v in row))
-        if causes:
-            return [], causes
-        stored = []
-        for row in source:
-            values = [row[list(places).index(k)] if k in places else None for k in range(len(table.columns))]
-            stored.append([store_as(a, v) for (c, a), v in zip(table.columns, values)])
-            causes = frozenset().union(*map(causes_in, stored[-1]))
-            if causes:
-                return [], causes
-        table.rows += stored
+        all_good([v for row in source for v in row])
+        there = dict(table.rows)
+        for values in source:
+            # of a place that is named twice the first value counts
+            row = table.fitted(dict(reversed(list(zip(places, values)))), there)
+            there[row[0]] = row
+        table.rows, self.changes, self.rowid = there, len(source), row[0]
         return [], set()
+
+    def place_named(self, table, name):
+        found = table.place(name)
+        if found is None:
+            raise Refused("1: no such column: " + name)
+        return found
 
     def select(self, p):
         """Names are bound in the order FROM, WHERE, results; the text has the results first."""
@@ -589,7 +788,7 @@ class Connection:
         if p.at != behind:
             raise NotYet
         p.at = end
-        return self.shown(conjuncts, results, p.table.rows if p.table else [[]])
+        return self.shown(conjuncts, results, p.table.rows_in_order() if p.table else [[]])
 
     def result(self, p):
         if p.takes("*"):
@@ -613,23 +812,20 @@ class Connection:
             if any(not isinstance(t, Bad) and t != 1 for t in outs):
                 continue
             values = [r(row) for r in results]
-            causes = frozenset().union(*map(causes_in, outs + values))
+            causes = causes_of(outs + values)
             if causes:
                 return given, causes
             given.append(values)
         return given, set()
 
 
-def statements_of(script):
-    """The texts between each `;` outside a text, without those that are white space."""
-    return [t for t in re.findall(r"(?:[^;']|'[^']*')+", script) if t.strip(SPACE)]
-
-
 def lines_of(script):
     """A list for each line: what it may be."""
     connection, lines = Connection(), []
-    for text in statements_of(script):
-        given, causes = connection.run(text)
+    for dot_line, statement in PART.findall(script):
+        if not dot_line and not statement:
+            continue
+        given, causes = connection.dot_line(dot_line) if dot_line else connection.run(statement)
         lines += [[b"|".join(map(printed, row)).decode("latin-1")] for row in given]
         if causes:
             lines.append(sorted(("Error " + c).encode().decode("latin-1") for c in causes))

@@ -11,6 +11,7 @@ OVERFLOW = "1: integer overflow"
 NOT_TEXT = "1: blob is not text"
 ESCAPE = "1: ESCAPE must be one character"
 TOO_BIG = "18: value longer than 1000000 bytes"
+MISMATCH = "20: datatype mismatch"
 
 SPACE = " \t\n\f\r"
 DECIMAL = r"[+-]?(?:[0-9]+(?:\.[0-9]*)?|\.[0-9]+)(?:[eE][+-]?[0-9]+)?"
@@ -34,13 +35,17 @@ def causes_in(out):
     return out.causes if isinstance(out, Bad) else frozenset()
 
 
+def causes_of(outs):
+    return frozenset().union(*map(causes_in, outs))
+
+
 def turned(f, out):
     return out if isinstance(out, Bad) else f(out)
 
 
 def on_all(f, outs):
     """f of the values, or bad with the causes of all."""
-    causes = frozenset().union(*map(causes_in, outs))
+    causes = causes_of(outs)
     return Bad.of(causes) if causes else f(*outs)
 
 
