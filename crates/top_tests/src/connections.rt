@@ -148,7 +148,9 @@ fn three_rows(alloc: Global) -> Result<Session, AllocError> {
         "INSERT INTO t VALUES(6)",
         "INSERT INTO t VALUES(5)",
     ] {
-        run(alloc, &mut session, sql, &[])?;
+        if run(alloc, &mut session, sql, &[])? == Outcome::Refused(Cause::Mem.code()) {
+            return Err(AllocError);
+        }
     }
     Ok(session)
 }
