@@ -1,3 +1,5 @@
 pub mod ByteOrder
 pub mod RowidLaws
+pub mod RowKeyLaws
+pub mod SpellingLaws
 pub mod ValueLaws

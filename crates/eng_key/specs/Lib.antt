@@ -1,2 +1,3 @@
 pub mod Rowids
 pub mod Values
+pub mod RowKeys

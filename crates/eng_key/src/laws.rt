@@ -2,6 +2,7 @@
 ghost use Rattle.std.specs.Prelude.{◌≡◌, ℤ, Some, replicate};
 ghost use Rattle.std.specs.Cmp.Lexicographic.{slice_cmp};
 ghost use Rattle.std.specs.Ordering.{int_cmp, nat_cmp};
+ghost use Rattle.eng_key.specs.RowKeys.{FrontsBound};
 ghost use Rattle.eng_key.specs.Rowids.{IsRowid, least_rowid, rowid_key, rowid_of};
 ghost use Rattle.eng_key.specs.Values.{value_key};
 ghost use Rattle.eng_value.specs.Collations.{compare};
@@ -52,3 +53,8 @@ fn keys_of_integers_keep_the_order(collation: Built, a: i64, b: &Value)
         Value::Integer(n) => keys_keep_the_order(a, *n),
     }
 }
+
+/// A front and what stands behind it bound the keys that begin with the front, and no others lie between.
+pub fn fronts_bound_their_keys()
+    ensures { FrontsBound }
+{}

@@ -54,7 +54,8 @@ fn classed(alloc: Global, class: u8, bytes: &[u8]) -> Result<Blob, AllocError>
     Ok(Blob::new(key))
 }
 
-fn without_spaces_behind(text: &[u8]) -> &[u8]
+/// A text without the spaces at its end.
+pub(crate) fn without_spaces_behind(text: &[u8]) -> &[u8]
     ensures { result.now ≡ reverse (without_spaces (reverse text.now)) }
 {
     let mut end = text.len();

@@ -1,6 +1,6 @@
 // A map as a vector of pairs in the order of their keys.
 ghost use Rattle.std.specs.Prelude.{◌≡◌, ◌≤◌, [], length, IfOk, OnErr, None, option_map, slice_get, MatchResult};
-ghost use Rattle.eng_tree.specs.Map.{find, greatest, least_from, put, without, IsAscending};
+ghost use Rattle.eng_tree.specs.Map.{find, greatest, least_from, put, without, IsAscending, IsFree, IsThere};
 
 use crate::Bytes;
 use crate::search::{place_of, search, search_near};
@@ -80,6 +80,14 @@ impl Tree {
     {
         *near = place_of(search_near(&self.entries, key, *near));
         self.pair_at(*near)
+    }
+
+    /// The place of a key in the order of the keys, or, where it is not there, the place at which it would stand.
+    pub fn place(&self, key: &[u8]) -> Result<usize, usize>
+        ensures place { MatchResult result (IsThere key.now self.now.pairs) (IsFree key.now self.now.pairs) }
+        ensures order { IsAscending self.now.pairs }
+    {
+        search(&self.entries, key)
     }
 
     /// The pair of the greatest key.

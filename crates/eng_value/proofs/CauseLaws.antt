@@ -9,7 +9,7 @@ use Rattle.std.specs.Cmp.{Equal-is}
 use Rattle.std.proofs.lemmas.List.{append_assoc, map-append}
 use Rattle.std.specs.declared.cmp.Ordering.TheVariants.{Equal}
 use Rattle.eng_value.specs.declared.cause.Cause.{Cause}
-use Rattle.eng_value.specs.declared.cause.Cause.TheVariants.{NotYet, Mem, Interrupted, SinkFault, Real, Overflow, NotText, Escape, TooBig, Full, Unknown, Exists, Reserved, Arity, Misuse, Limit, Syntax, Skip, Ambiguous, BareColumn, Fault, Denied, Constraint, Mismatch}
+use Rattle.eng_value.specs.declared.cause.Cause.TheVariants.{NotYet, Mem, Interrupted, SinkFault, Real, Overflow, NotText, Escape, TooBig, Full, Unknown, Exists, Reserved, Arity, Misuse, Limit, Syntax, Skip, Ambiguous, BareColumn, Fault, Denied, Constraint, Mismatch, HostRefused, ModuleRefused, TriggerDepth, TransactionState, NoPlan, BestIndex, Locked, Raise, CommitRefused, NotQuery, NoSuchStatement, StatementsFull}
 use Rattle.eng_value.specs.declared.cause.ConstraintKind.{ConstraintKind}
 use Rattle.eng_value.specs.declared.cause.ConstraintKind.TheVariants as constraint
 use Rattle.eng_value.specs.declared.cause.LimitKind.{LimitKind}
@@ -61,7 +61,8 @@ kind_of n = if nat_eq n 0 then kind.Table else if nat_eq n 1 then kind.Column el
     if nat_eq n 5 then kind.Module else if nat_eq n 6 then kind.Index else if nat_eq n 7 then kind.View else if nat_eq n 8 then kind.Trigger else kind.Savepoint
 
 abbrev limit_of : ℕ → LimitKind
-limit_of n = if nat_eq n 0 then limit.Columns else if nat_eq n 1 then limit.Nestings else if nat_eq n 2 then limit.Operators else if nat_eq n 3 then limit.Parts else if nat_eq n 4 then limit.Items else limit.Queries
+limit_of n = if nat_eq n 0 then limit.Columns else if nat_eq n 1 then limit.Nestings else if nat_eq n 2 then limit.Operators else if nat_eq n 3 then limit.Parts else if nat_eq n 4 then limit.Items else
+    if nat_eq n 5 then limit.Queries else if nat_eq n 6 then limit.Rows else limit.Asks
 
 abbrev constraint_of : ℕ → ConstraintKind
 constraint_of n = if nat_eq n 0 then constraint.NotNull else if nat_eq n 1 then constraint.Check else constraint.Unique
@@ -90,7 +91,19 @@ cause_by n detail name =
     if nat_eq n 20 then Fault name else
     if nat_eq n 21 then Denied detail else
     if nat_eq n 22 then Constraint (constraint_of detail) name else
-    if nat_eq n 23 then Mismatch else NotYet
+    if nat_eq n 23 then Mismatch else
+    if nat_eq n 24 then HostRefused name else
+    if nat_eq n 25 then ModuleRefused name else
+    if nat_eq n 26 then TriggerDepth detail else
+    if nat_eq n 27 then TransactionState (nat_eq detail 1) else
+    if nat_eq n 28 then NoPlan name else
+    if nat_eq n 29 then BestIndex name else
+    if nat_eq n 30 then Locked name detail else
+    if nat_eq n 31 then Raise name else
+    if nat_eq n 32 then CommitRefused else
+    if nat_eq n 33 then NotQuery else
+    if nat_eq n 34 then NoSuchStatement detail else
+    if nat_eq n 35 then StatementsFull else NotYet
 
 -- the cause of a key
 abbrev cause_of : List ℕ → Cause
@@ -116,6 +129,8 @@ limit_of-limit_key limit.Operators = refl
 limit_of-limit_key limit.Parts = refl
 limit_of-limit_key limit.Items = refl
 limit_of-limit_key limit.Queries = refl
+limit_of-limit_key limit.Rows = refl
+limit_of-limit_key limit.Asks = refl
 
 constraint_of-constraint_key : (k : ConstraintKind) → constraint_of (constraint_key k) ≡ k
 constraint_of-constraint_key constraint.NotNull = refl
@@ -142,6 +157,19 @@ cause_of-cause_key (Fault host) = refl
 cause_of-cause_key (Denied action) = refl
 cause_of-cause_key (Constraint k table) = ap (λ m. Constraint m table) (constraint_of-constraint_key k)
 cause_of-cause_key Mismatch = refl
+cause_of-cause_key (HostRefused text) = refl
+cause_of-cause_key (ModuleRefused text) = refl
+cause_of-cause_key (TriggerDepth most) = refl
+cause_of-cause_key (TransactionState true) = refl
+cause_of-cause_key (TransactionState false) = refl
+cause_of-cause_key (NoPlan host) = refl
+cause_of-cause_key (BestIndex host) = refl
+cause_of-cause_key (Locked table n) = refl
+cause_of-cause_key (Raise text) = refl
+cause_of-cause_key CommitRefused = refl
+cause_of-cause_key NotQuery = refl
+cause_of-cause_key (NoSuchStatement n) = refl
+cause_of-cause_key StatementsFull = refl
 cause_of-cause_key (Reserved name) = refl
 cause_of-cause_key (Arity name) = refl
 cause_of-cause_key (Misuse name) = refl

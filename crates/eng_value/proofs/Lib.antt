@@ -6,3 +6,6 @@ mod Beside
 pub mod LiteralLaws
 pub mod SubstrLaws
 pub mod TrimLaws
+pub mod Arranging
+pub mod Shuffling
+pub mod Sorting

@@ -4,7 +4,7 @@ use Rattle.std.specs.Ordering.{nat_cmp}
 use Rattle.std.specs.Cmp.Lexicographic.{pointwise, slice_cmp}
 use Rattle.std.specs.FinSet as set
 use Rattle.eng_value.specs.declared.cause.Cause.{Cause}
-use Rattle.eng_value.specs.declared.cause.Cause.TheVariants.{NotYet, Mem, Interrupted, SinkFault, Real, Overflow, NotText, Escape, TooBig, Full, Unknown, Exists, Reserved, Arity, Misuse, Limit, Syntax, Skip, Ambiguous, BareColumn, Fault, Denied, Constraint, Mismatch}
+use Rattle.eng_value.specs.declared.cause.Cause.TheVariants.{NotYet, Mem, Interrupted, SinkFault, Real, Overflow, NotText, Escape, TooBig, Full, Unknown, Exists, Reserved, Arity, Misuse, Limit, Syntax, Skip, Ambiguous, BareColumn, Fault, Denied, Constraint, Mismatch, HostRefused, ModuleRefused, TriggerDepth, TransactionState, NoPlan, BestIndex, Locked, Raise, CommitRefused, NotQuery, NoSuchStatement, StatementsFull}
 use Rattle.eng_value.specs.declared.cause.ConstraintKind.{ConstraintKind}
 use Rattle.eng_value.specs.declared.cause.ConstraintKind.TheVariants as constraint
 use Rattle.eng_value.specs.declared.cause.LimitKind.{LimitKind}
@@ -31,6 +31,8 @@ limit_key limit.Operators = 2
 limit_key limit.Parts = 3
 limit_key limit.Items = 4
 limit_key limit.Queries = 5
+limit_key limit.Rows = 6
+limit_key limit.Asks = 7
 
 abbrev pub constraint_key : ConstraintKind → ℕ
 constraint_key constraint.NotNull = 0
@@ -63,6 +65,18 @@ number_of (Fault host) = 20
 number_of (Denied action) = 21
 number_of (Constraint k table) = 22
 number_of Mismatch = 23
+number_of (HostRefused text) = 24
+number_of (ModuleRefused text) = 25
+number_of (TriggerDepth most) = 26
+number_of (TransactionState inside) = 27
+number_of (NoPlan host) = 28
+number_of (BestIndex host) = 29
+number_of (Locked table n) = 30
+number_of (Raise text) = 31
+number_of CommitRefused = 32
+number_of NotQuery = 33
+number_of (NoSuchStatement n) = 34
+number_of StatementsFull = 35
 
 -- the number that it tells, or the kind
 abbrev pub detail_of : Cause → ℕ
@@ -73,6 +87,10 @@ detail_of (Exists k name) = kind_key k
 detail_of (Syntax at) = at
 detail_of (Denied action) = action
 detail_of (Constraint k table) = constraint_key k
+detail_of (TriggerDepth most) = most
+detail_of (TransactionState inside) = if inside then 1 else 0
+detail_of (Locked table n) = n
+detail_of (NoSuchStatement n) = n
 detail_of other = 0
 
 -- the name that it tells
@@ -87,6 +105,12 @@ name_of (Ambiguous name) = name
 name_of (BareColumn name) = name
 name_of (Fault host) = host
 name_of (Constraint k table) = table
+name_of (HostRefused text) = text
+name_of (ModuleRefused text) = text
+name_of (NoPlan host) = host
+name_of (BestIndex host) = host
+name_of (Locked table n) = table
+name_of (Raise text) = text
 name_of other = []
 
 -- no two causes have the same key

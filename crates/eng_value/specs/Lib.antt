@@ -15,3 +15,5 @@ pub mod Environments
 pub mod Written
 pub mod Literals
 pub mod OperandTexts
+pub mod Arrangements
+pub mod Shown

@@ -1,7 +1,7 @@
 // Why a statement is refused.
 ghost use Rattle.std.specs.Prelude.{◌≡◌, ◌++◌, codes, OnOk};
 ghost use Rattle.std.specs.Fmt.{decimal};
-ghost use Rattle.eng_value.specs.CauseText.{code_of, constraint_words, kind_word, limit_words, text_of};
+ghost use Rattle.eng_value.specs.CauseText.{code_of, constraint_words, kind_word, limit_words, text_of, transaction_words};
 ghost use Rattle.eng_value.specs.declared.cause.Cause.TheVariants.{Mem};
 
 use crate::Text;
@@ -58,6 +58,10 @@ pub enum LimitKind {
     Items,
     /// Queries within one another, views opened.
     Queries,
+    /// Rows of a recursive table.
+    Rows,
+    /// Queries that a function asks in one call.
+    Asks,
 }
 
 impl LimitKind {
@@ -72,6 +76,8 @@ impl LimitKind {
             LimitKind::Parts => "500 parts",
             LimitKind::Items => "16 items",
             LimitKind::Queries => "20 queries",
+            LimitKind::Rows => "1000000 rows",
+            LimitKind::Asks => "16 asks",
         }
     }
 }
@@ -148,6 +154,30 @@ pub enum Cause {
     Constraint(ConstraintKind, Text),
     /// A rowid is no integer.
     Mismatch,
+    /// A host refused the call and said why.
+    HostRefused(Text),
+    /// A host of a table refused the call and said why.
+    ModuleRefused(Text),
+    /// One trigger more would run within this many.
+    TriggerDepth(u64),
+    /// Whether a transaction is open, where none may be or one must be.
+    TransactionState(bool),
+    /// An argument that this host of a table needs is not given.
+    NoPlan(Text),
+    /// The plan of this host of a table is not one of those that it was asked for.
+    BestIndex(Text),
+    /// The table is read by the open statement of this number.
+    Locked(Text, u64),
+    /// A trigger ends the statement with this text (CREATE TRIGGER, The RAISE() function).
+    Raise(Text),
+    /// The hook of commits did not go on.
+    CommitRefused,
+    /// The statement gives no rows.
+    NotQuery,
+    /// No open statement has the number.
+    NoSuchStatement(u64),
+    /// As many statements are open as may be.
+    StatementsFull,
 }
 
 impl Cause {
@@ -156,6 +186,7 @@ impl Cause {
         ensures { result ≡ code_of self.now }
     {
         match self {
+            Cause::Locked(..) => 6,
             Cause::Mem => 7,
             Cause::Interrupted(_) => 9,
             Cause::SinkFault => 10,
@@ -163,7 +194,12 @@ impl Cause {
             Cause::Full(_) => 13,
             Cause::TooBig => 18,
             Cause::Constraint(..) => 19,
+            Cause::Raise(_) => 19,
+            Cause::CommitRefused => 19,
             Cause::Mismatch => 20,
+            Cause::NotQuery => 21,
+            Cause::NoSuchStatement(_) => 21,
+            Cause::StatementsFull => 21,
             Cause::Denied(_) => 23,
             _ => 1,
         }
@@ -210,7 +246,42 @@ impl Cause {
             ),
             Cause::Constraint(kind, table) => append_failed(out, *kind, table),
             Cause::Mismatch => out.extend_from_slice(b"datatype mismatch"),
+            Cause::HostRefused(text) => out.extend_from_slice(text.as_bytes()),
+            Cause::ModuleRefused(text) => out.extend_from_slice(text.as_bytes()),
+            Cause::TriggerDepth(most) => append_both(
+                out,
+                b"trigger depth over ",
+                Buffer::new().format(*most).as_bytes(),
+            ),
+            Cause::TransactionState(inside) => {
+                out.extend_from_slice(transaction_words(*inside).as_bytes())
+            }
+            Cause::NoPlan(module) => append_both(out, b"missing argument of ", module.as_bytes()),
+            Cause::BestIndex(module) => {
+                append_both(out, b"bad index answer of ", module.as_bytes())
+            }
+            Cause::Locked(table, number) => append_locked(out, table, *number),
+            Cause::Raise(text) => out.extend_from_slice(text.as_bytes()),
+            Cause::CommitRefused => out.extend_from_slice(b"commit refused by hook"),
+            Cause::NotQuery => out.extend_from_slice(b"not a query"),
+            Cause::NoSuchStatement(number) => append_both(
+                out,
+                b"no statement ",
+                Buffer::new().format(*number).as_bytes(),
+            ),
+            Cause::StatementsFull => out.extend_from_slice(b"sixteen statements are open"),
         }
+    }
+}
+
+/// Whether a transaction is open, in words.
+pub(crate) fn transaction_words(inside: bool) -> &'static str
+    ensures { result.now ≡ transaction_words inside }
+{
+    if inside {
+        "a transaction is open"
+    } else {
+        "no transaction is open"
     }
 }
 
@@ -249,6 +320,18 @@ fn append_failed(out: &mut Vec<u8>, kind: ConstraintKind, table: &Text) -> Resul
     out.extend_from_slice(kind.words().as_bytes())?;
     out.extend_from_slice(b" constraint failed: ")?;
     out.extend_from_slice(table.as_bytes())?;
+    Ok(())
+}
+
+/// Writes that the open statement of this number reads the table.
+fn append_locked(out: &mut Vec<u8>, table: &Text, number: u64) -> Result<(), AllocError>
+    ensures { OnOk result (out.new.items ≡
+        out.old.items ++ (codes "table " ++ table.now ++ codes " is read by statement " ++ decimal number)) }
+{
+    out.extend_from_slice(b"table ")?;
+    out.extend_from_slice(table.as_bytes())?;
+    out.extend_from_slice(b" is read by statement ")?;
+    out.extend_from_slice(Buffer::new().format(number).as_bytes())?;
     Ok(())
 }
 
@@ -292,6 +375,18 @@ impl Clone for Cause {
             Cause::Denied(action) => Ok(Cause::Denied(*action)),
             Cause::Constraint(kind, table) => Ok(Cause::Constraint(*kind, table.clone()?)),
             Cause::Mismatch => Ok(Cause::Mismatch),
+            Cause::HostRefused(text) => Ok(Cause::HostRefused(text.clone()?)),
+            Cause::ModuleRefused(text) => Ok(Cause::ModuleRefused(text.clone()?)),
+            Cause::TriggerDepth(most) => Ok(Cause::TriggerDepth(*most)),
+            Cause::TransactionState(inside) => Ok(Cause::TransactionState(*inside)),
+            Cause::NoPlan(module) => Ok(Cause::NoPlan(module.clone()?)),
+            Cause::BestIndex(module) => Ok(Cause::BestIndex(module.clone()?)),
+            Cause::Locked(table, number) => Ok(Cause::Locked(table.clone()?, *number)),
+            Cause::Raise(text) => Ok(Cause::Raise(text.clone()?)),
+            Cause::CommitRefused => Ok(Cause::CommitRefused),
+            Cause::NotQuery => Ok(Cause::NotQuery),
+            Cause::NoSuchStatement(number) => Ok(Cause::NoSuchStatement(*number)),
+            Cause::StatementsFull => Ok(Cause::StatementsFull),
         }
     }
 }
@@ -324,6 +419,18 @@ impl Drop for Cause {
             Cause::Denied(_) => {}
             Cause::Constraint(_, table) => drop(table),
             Cause::Mismatch => {}
+            Cause::HostRefused(text) => drop(text),
+            Cause::ModuleRefused(text) => drop(text),
+            Cause::TriggerDepth(_) => {}
+            Cause::TransactionState(_) => {}
+            Cause::NoPlan(module) => drop(module),
+            Cause::BestIndex(module) => drop(module),
+            Cause::Locked(table, _) => drop(table),
+            Cause::Raise(text) => drop(text),
+            Cause::CommitRefused => {}
+            Cause::NotQuery => {}
+            Cause::NoSuchStatement(_) => {}
+            Cause::StatementsFull => {}
         }
     }
 }

@@ -43,6 +43,18 @@ impl Cause {
             Cause::Denied(_) => 21,
             Cause::Constraint(..) => 22,
             Cause::Mismatch => 23,
+            Cause::HostRefused(_) => 24,
+            Cause::ModuleRefused(_) => 25,
+            Cause::TriggerDepth(_) => 26,
+            Cause::TransactionState(_) => 27,
+            Cause::NoPlan(_) => 28,
+            Cause::BestIndex(_) => 29,
+            Cause::Locked(..) => 30,
+            Cause::Raise(_) => 31,
+            Cause::CommitRefused => 32,
+            Cause::NotQuery => 33,
+            Cause::NoSuchStatement(_) => 34,
+            Cause::StatementsFull => 35,
         }
     }
 
@@ -58,6 +70,10 @@ impl Cause {
             Cause::Syntax(at) => *at as u64,
             Cause::Denied(action) => *action as u64,
             Cause::Constraint(kind, _) => constraint_key(*kind),
+            Cause::TriggerDepth(most) => *most,
+            Cause::TransactionState(inside) => u64::from(*inside),
+            Cause::Locked(_, number) => *number,
+            Cause::NoSuchStatement(number) => *number,
             _ => 0,
         }
     }
@@ -77,6 +93,12 @@ impl Cause {
             Cause::BareColumn(name) => name.as_bytes(),
             Cause::Fault(host) => host.as_bytes(),
             Cause::Constraint(_, table) => table.as_bytes(),
+            Cause::HostRefused(text) => text.as_bytes(),
+            Cause::ModuleRefused(text) => text.as_bytes(),
+            Cause::NoPlan(module) => module.as_bytes(),
+            Cause::BestIndex(module) => module.as_bytes(),
+            Cause::Locked(table, _) => table.as_bytes(),
+            Cause::Raise(text) => text.as_bytes(),
             _ => &[],
         }
     }
@@ -119,5 +141,7 @@ fn limit_key(kind: LimitKind) -> u64
         LimitKind::Parts => 3,
         LimitKind::Items => 4,
         LimitKind::Queries => 5,
+        LimitKind::Rows => 6,
+        LimitKind::Asks => 7,
     }
 }

@@ -7,6 +7,7 @@
 #![tactic(auto)]
 
 mod affinity;
+mod arrangements;
 mod asking;
 mod authorizing;
 mod blob;
@@ -19,8 +20,10 @@ mod causes;
 mod collation;
 mod collations;
 mod compare_op;
+mod display;
 mod laws;
 mod limits;
+mod making;
 mod meanings;
 mod modules;
 mod operand_text;
@@ -34,6 +37,7 @@ mod truth;
 mod value;
 
 pub use affinity::Affinity;
+pub use arrangements::{arranging_is_stable, shuffled_lists_hold_the_same, stable_sorts_arrange};
 pub use asking::{Answer, Query, Reply};
 pub use authorizing::{Action, ActionKind, Verdict};
 pub use blob::Blob;

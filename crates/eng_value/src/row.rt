@@ -60,6 +60,16 @@ impl Row {
     }
 }
 
+impl Clone for Row {
+    ghost is_clone = { λ source copy. copy ≡ source };
+
+    fn clone(&self) -> Result<Row, AllocError> {
+        Ok(Row {
+            values: self.values.clone()?,
+        })
+    }
+}
+
 /// Rows in an order. Contracts see the list of them.
 #[derive(Debug, Drop)]
 pub struct Rows {
