@@ -1,8 +1,8 @@
--- An expression with NULL in place of what is ignored has as many nodes.
+-- An expression with NULL in place of what is ignored, and the rowid in place of the column that is it, has as many nodes.
 use Rattle.std.proofs.Common.{◌≡◌, ℕ, ◌+◌, Bool, true, false, List, [], ◌∷◌, Some, None, map, refl, ap, ◌∙◌}
 use Rattle.bound_tree.specs.Exprs as e
 use Rattle.bound_tree.specs.Exprs.{BoundArms, BoundExpr, BoundExprs, BoundMatches, NoExprs, AnExpr, NoArms, AnArm, NoMatches, AMatch}
-use Rattle.bound_ignored.specs.Erased.{Marks, erased, erased_arms, erased_in, erased_matches, is_marked, or_null}
+use Rattle.bound_ignored.specs.Erased.{Marks, column_or_rowid, erased, erased_arms, erased_in, erased_matches, is_marked, is_rowid, or_null}
 use Rattle.bound_size.specs.Sizes.{all_nodes, nodes_in, nodes_in_arms, nodes_in_matches, nodes_of}
 
 two : (f : ℕ → ℕ → ℕ) {a a' b b' : ℕ} → a ≡ a' → b ≡ b' → f a b ≡ f a' b'
@@ -15,12 +15,16 @@ nodes_of-or_null : (b : Bool) (x : BoundExpr) → nodes_of x ≡ 1 → nodes_of 
 nodes_of-or_null true x one = refl
 nodes_of-or_null false x one = one
 
+nodes_of-column : (b : Bool) (i c : ℕ) → nodes_of (column_or_rowid b i c) ≡ 1
+nodes_of-column true i c = refl
+nodes_of-column false i c = refl
+
 module _ (m : Marks) where
   mutual
     pub nodes_of-erased : (x : BoundExpr) → nodes_of (erased m x) ≡ nodes_of x
     nodes_of-erased (e.Literal l) = refl
     nodes_of-erased (e.Parameter n) = refl
-    nodes_of-erased (e.Column i c) = nodes_of-or_null (is_marked m i (Some c)) (e.Column i c) refl
+    nodes_of-erased (e.Column i c) = nodes_of-or_null (is_marked m i (Some c)) (column_or_rowid (is_rowid m i c) i c) (nodes_of-column (is_rowid m i c) i c)
     nodes_of-erased (e.Rowid i) = nodes_of-or_null (is_marked m i None) (e.Rowid i) refl
     nodes_of-erased (e.Argument n) = refl
     nodes_of-erased (e.Aggregate n) = refl

@@ -4,7 +4,6 @@ pub mod Sizing
 pub mod MarkedRuns
 pub mod IgnoredLaws
 pub mod ErasedSizes
-pub mod BuiltPlain
 pub mod Whole
 pub mod Places
 pub mod PlainValues

@@ -138,7 +138,7 @@ plain-binds catalog number text s i rows b at puts p built untriggered =
     let d = read-definition (table_in (definition_of entry)) (length put.columns) second.1 in
     let few : length d.table.columns ≤ MAX_COLUMNS = subst (λ n. n ≤ MAX_COLUMNS) (sym d.wide) (leb-true (length put.columns) MAX_COLUMNS two.0) in
     let are : AreRows text (length d.table.columns) (r.first ∷ r.rest) b.rows = subst (λ n. AreRows text n (r.first ∷ r.rest) b.rows) (sym d.wide) (subst (λ rs. AreRows text (length put.columns) rs b.rows) r.all p.rows) in
-    let runs = statement-runs catalog text s i.table r.first r.rest b.rows entry d.table (tables_of catalog) put r.inserts p.table.named (read-kind entry.kind two.1) d.is d.plain third.1 few are untriggered p.table.called d.wide in
+    let runs = statement-runs catalog text s i.table r.first r.rest b.rows entry d.table (tables_of catalog) put r.inserts p.table.named (read-kind entry.kind two.1) d.is d.plain third.1 few are untriggered p.table.called d.wide p.table.rowid in
     bound_so (asked_by None) catalog number text s runs.statement runs.statement (Ok (bound.Insert b)) untriggered built runs.bound (permitted-all runs.statement) (
       Puts (put_as put b.rows),
       runs.runs number,

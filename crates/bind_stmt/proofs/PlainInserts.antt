@@ -192,15 +192,15 @@ command-is o s name first rows made entry t deep inserts named table defines pla
 abbrev pub put_as : TableEntry → List (List BoundExpr) → Put
 put_as t made = put_from t (placed_from 0 t.columns) [] made rowid.Drawn
 
-plain-put : (entry : Entry) (t : TableEntry) (d : BoundTarget) (width : ℕ) (made : List (List BoundExpr)) → IsBare entry d → width ≡ length t.columns → put_at t d (places_from 0 width) None made ≡ Ok (put_as t made)
-plain-put entry t d width made bare wide =
+plain-put : (entry : Entry) (t : TableEntry) (d : BoundTarget) (width : ℕ) (made : List (List BoundExpr)) → IsBare entry d → width ≡ length t.columns → t.rowid ≡ None → put_at t d (places_from 0 width) None made ≡ Ok (put_as t made)
+plain-put entry t d width made bare wide none =
     let are = ap (λ n. columns_put t.columns (places_from 0 n) d.defaults d.not_nulls) wide ∙ all_put 0 t.columns d.defaults d.not_nulls bare.defaults bare.not_nulls in
-    put-at-is t d (places_from 0 width) None made (placed_from 0 t.columns) rowid.Drawn are (ap (λ r. rowid_from (placed_from 0 t.columns) r None) bare.rowid)
+    put-at-is t d (places_from 0 width) None made (placed_from 0 t.columns) rowid.Drawn are (ap (λ r. rowid_from (placed_from 0 t.columns) r None) none)
     ∙ ap (λ cs. Ok (put_from t (placed_from 0 t.columns) cs made rowid.Drawn)) bare.checks
 
 runs : (tables : List TableEntry) (number : ℕ) (text : List ℕ) (s : Statement) (entry : Entry) (width : ℕ) (made : List (List BoundExpr)) (b : BoundCommand × Opened) (t : TableEntry) → Writes entry width made b → table_called tables entry.name ≡ Some t
-    → width ≡ length t.columns → runnable_of tables number text s (statement_with s.explain b) ≡ Ok (Puts (put_as t made))
-runs tables number text s entry width made b t w called wide =
+    → width ≡ length t.columns → t.rowid ≡ None → runnable_of tables number text s (statement_with s.explain b) ≡ Ok (Puts (put_as t made))
+runs tables number text s entry width made b t w called wide none =
     let units = b.1.units in
     let d = w.write.target in
     let put : Result Put Cause → Result Runnable Cause = λ r. r >>= λ p. Ok (Puts p) in
@@ -211,7 +211,7 @@ runs tables number text s entry width made b t w called wide =
     ∙ ap (λ x. found_table x >>= into) called
     ∙ ap (λ c. put (put_into t d units c)) w.change.is
     ∙ ap (λ p. put (p >>= rows_of_part >>= λ rows. put_at t d (places_from 0 width) None rows)) w.change.part
-    ∙ ap put (plain-put entry t d width made w.target wide)
+    ∙ ap put (plain-put entry t d width made w.target wide none)
 
 -- a statement that puts these rows into this table
 pub record Runs (catalog : Entries) (text : List ℕ) (s : Statement) (t : TableEntry) (made : List (List BoundExpr)) (tables : List TableEntry) : Type 0 where
@@ -221,12 +221,12 @@ pub record Runs (catalog : Entries) (text : List ℕ) (s : Statement) (t : Table
 
 pub statement-runs : (catalog : Entries) (text : List ℕ) (s : Statement) (name : Token) (first : List Expr) (rows : List (List Expr)) (made : List (List BoundExpr)) (entry : Entry) (t : TableDefinition) (tables : List TableEntry) (te : TableEntry)
     → InsertsRows s name first rows → table_named (name_at text name) catalog ≡ Some entry → entry.kind ≡ entry_kind.Table → table_in (definition_of entry) ≡ Some t → is_plain_table t ≡ true → has_no_index entry.name catalog.names ≡ true
-    → length t.columns ≤ MAX_COLUMNS → AreRows text (length t.columns) (first ∷ rows) made → catalog.triggers ≡ [] → table_called tables entry.name ≡ Some te → length t.columns ≡ length te.columns → Runs catalog text s te made tables
-statement-runs catalog text s name first rows made entry t tables te inserts named table defines plain bare few are untriggered called wide =
+    → length t.columns ≤ MAX_COLUMNS → AreRows text (length t.columns) (first ∷ rows) made → catalog.triggers ≡ [] → table_called tables entry.name ≡ Some te → length t.columns ≡ length te.columns → te.rowid ≡ None → Runs catalog text s te made tables
+statement-runs catalog text s name first rows made entry t tables te inserts named table defines plain bare few are untriggered called wide none =
     let a = around catalog in
     let w = command-is (outer_at a (full_depth a) text [] in_statement) s name first rows made entry t (deep-enough a) inserts named table defines plain bare few are untriggered in
     record {
       statement = statement_with s.explain w.0;
       bound = ap (λ r. r >>= λ b. Ok (statement_with s.explain b)) w.1;
-      runs = λ number. runs tables number text s entry (length t.columns) made w.0 te w.2 called wide;
+      runs = λ number. runs tables number text s entry (length t.columns) made w.0 te w.2 called wide none;
     }

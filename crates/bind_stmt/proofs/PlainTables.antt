@@ -104,11 +104,10 @@ no-created facts table columns (entry ∷ entries) h =
 
 -- ---- the table
 
--- a target without defaults, constraints and indexes, and without a column that is the rowid
+-- a target without defaults, constraints and indexes
 pub record IsBare (entry : Entry) (d : BoundTarget) : Type 0 where
   pub source : d.item.source ≡ bound_source.Table entry.name entry.number
   pub indexes : d.item.indexes ≡ []
-  pub rowid : d.item.rowid ≡ None
   pub defaults : AreNone d.defaults
   pub not_nulls : AreUnset d.not_nulls
   pub checks : d.checks ≡ []
@@ -176,7 +175,6 @@ module _ (o : Outer) (name : List ℕ) (entry : Entry) (t : TableDefinition) (ta
         record {
           source = refl;
           indexes = indexes-none;
-          rowid = no-rowid entry.text t plain-columns no-constraints;
           defaults = defaults.2;
           not_nulls = no-not_nulls o.around.facts entry.text t.columns plain-columns;
           checks = refl;

@@ -95,7 +95,7 @@ rows-put : (t : TableEntry) (target : BoundTarget) (places : List (Option ℕ)) 
 rows-put t target places given rows p e =
     let columns = columns_put t.columns places target.defaults target.not_nulls in
     let put : RowidFrom → Put = put_from t columns target.checks rows in
-    let from = then-ok (rowid_from columns target.item.rowid given) (λ f. Ok (put f)) p e in
+    let from = then-ok (rowid_from columns t.rowid given) (λ f. Ok (put f)) p e in
     ap (λ (y : Put). y.insert.rows) (same-ok (put from.0) p from.2)
 
 -- an INSERT of rows, by its change

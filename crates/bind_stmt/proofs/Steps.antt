@@ -1,8 +1,9 @@
 -- What single steps come to.
-use Rattle.std.proofs.Common.{◌≡◌, ◌≤◌, nat_le, is_some, subst, if◌then◌else◌, ℕ, List, [], ◌∷◌, true, length, Option, Some, None, Result, Ok, inl, inr, ◌∙◌, flat_map, slice_get, refl, ap, sym}
+use Rattle.std.proofs.Common.{◌≡◌, ◌≤◌, nat_eq, nat_le, is_some, subst, if◌then◌else◌, ℕ, List, [], ◌∷◌, ◌++◌, false, true, length, Option, Some, None, Result, Ok, Err, inl, inr, ◌∙◌, flat_map, slice_get, refl, ap, sym}
 use Rattle.std.proofs.lemmas.Bool.{le-leb}
 use Rattle.std.proofs.lemmas.List.{length-map}
 use Rattle.eng_value.specs.declared.cause.Cause.{Cause}
+use Rattle.eng_value.specs.declared.cause.Cause.TheVariants.{NotYet}
 use Rattle.eng_value.specs.declared.limits.TheConstants.{MAX_COLUMNS}
 use Rattle.bound_tree.specs.declared.units.BoundCore.{BoundCore}
 use Rattle.bound_tree.specs.declared.units.BoundItem.{BoundItem}
@@ -19,9 +20,10 @@ use Rattle.sql_meaning.specs.Running.{columns_put, first_part, from_of, is_plain
 use Rattle.sql_meaning.specs.Runnables.{FromItem, Put, Puts, Queries, Query, Runnable}
 use Rattle.bound_tree.specs.Conditions.{conditions_of}
 use Rattle.bound_tree.specs.declared.statements.BoundCreation.{BoundCreation}
-use Rattle.sql_meaning.specs.Declarations.{column_of, columns_created, columns_of}
+use Rattle.sql_meaning.specs.Declarations.{column_of, columns_created, columns_of, rowid_created}
 use Rattle.sql_meaning.specs.Running.{creation_of, entry_with, if_built}
 use Rattle.sql_meaning.specs.Runnables.{Creates}
+use Rattle.sql_bound.specs.Declarations.{rowid_of}
 use Rattle.sql_tree.specs.declared.statement.Command.TheVariants as command
 use Rattle.sql_tree.specs.declared.statement.Create.{Create}
 use Rattle.sql_tree.specs.declared.statement.Definition.TheVariants as definition
@@ -53,13 +55,22 @@ abbrev pub put_from : TableEntry → List PutColumn → List BoundExpr → List 
 put_from t columns checks rows from = record { table = t; insert = record { table = t.number; name = t.name; columns = columns; rowid = from; checks = checks; rows = rows } }
 
 pub put-at-is : (t : TableEntry) (target : BoundTarget) (places : List (Option ℕ)) (given : Option ℕ) (rows : List (List BoundExpr)) (columns : List PutColumn) (from : RowidFrom) → columns_put t.columns places target.defaults target.not_nulls ≡ columns
-    → rowid_from columns target.item.rowid given ≡ Ok from → put_at t target places given rows ≡ Ok (put_from t columns target.checks rows from)
+    → rowid_from columns t.rowid given ≡ Ok from → put_at t target places given rows ≡ Ok (put_from t columns target.checks rows from)
 put-at-is t target places given rows columns from are is = ap (λ cs. put_with t target cs given rows) are ∙ ap (λ r. r >>= λ f. Ok (put_from t columns target.checks rows f)) is
 
 pub columns-are : (text : List ℕ) (s : Statement) (k : Create) (t : TableDefinition) → s.command ≡ command.Create k → k.definition ≡ definition.Table t → length t.columns ≤ MAX_COLUMNS → columns_created text s.command ≡ Some (columns_of text t)
 columns-are text s k t is at few =
     let wide : nat_le (length (columns_of text t)) MAX_COLUMNS ≡ true = le-leb _ _ (subst (λ n. n ≤ MAX_COLUMNS) (sym (length-map t.columns (column_of text))) few) in
     rw (is, at) (ap (λ b. if b then Some (columns_of text t) else None) wide)
+
+pub rowid-is : (text : List ℕ) (s : Statement) (k : Create) (t : TableDefinition) → s.command ≡ command.Create k → k.definition ≡ definition.Table t → rowid_created text s.command ≡ rowid_of text t
+rowid-is text s k t is at = rw (is, at) refl
+
+-- where there is an item more than one
+pub from-more : (tables : List TableEntry) (others : List BoundItem) (i : BoundItem) → nat_eq (length others) 0 ≡ false → from_of tables (others ++ i ∷ []) ≡ Err NotYet
+from-more tables [] i more = absurd (let bad : true ≡ false = more in cc)
+from-more tables (j ∷ []) i more = refl
+from-more tables (j ∷ k ∷ others) i more = refl
 
 pub created-is : (number : ℕ) (text : List ℕ) (s : Statement) (b : BoundCreation) (k : Create) (t : TableDefinition) → s.command ≡ command.Create k → k.definition ≡ definition.Table t → length t.columns ≤ MAX_COLUMNS
     → creation_of number text s b ≡ Ok (Creates (entry_with number text b.name s))

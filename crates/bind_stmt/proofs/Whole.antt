@@ -1,8 +1,6 @@
 -- The whole statement.
-use Rattle.std.proofs.Common.{◌≡◌, ◌⊎◌, codes, ℕ, ◌+◌, ◌≤◌, nat_eq, length, Bool, true, false, ◌&&◌, not, is_some, if◌then◌else◌, List, [], ◌∷◌, map, Option, Some, None, Result, Ok, Err, inl, inr, refl, sym, ap, subst, ◌∙◌, arith}
-use Rattle.std.specs.Bool.{⊤}
+use Rattle.std.proofs.Common.{◌≡◌, ◌⊎◌, codes, ℕ, ◌+◌, ◌≤◌, nat_eq, length, Bool, true, false, not, is_some, List, [], ◌∷◌, map, None, Result, Ok, Err, inl, inr, refl, sym, ap, subst, ◌∙◌, arith}
 use Rattle.eng_entry.specs.Entries.{Entries, entry_named}
-use Rattle.eng_entry.specs.declared.entry.Entry.{Entry}
 use Rattle.eng_value.specs.declared.cause.Cause.{Cause}
 use Rattle.eng_value.specs.declared.cause.Cause.TheVariants as cause
 use Rattle.eng_value.specs.declared.cause.NameKind.TheVariants as name_kind
@@ -10,21 +8,17 @@ use Rattle.sql_tree.specs.Layers.{of_query}
 use Rattle.sql_tree.specs.Sizes.{size_of_command, size_of_definition, size_of_query, size_of_source, size_of_statement}
 use Rattle.sql_tree.specs.declared.statement.Command.{Command}
 use Rattle.sql_tree.specs.declared.statement.Command.TheVariants as command
-use Rattle.sql_tree.specs.declared.statement.Create.{Create}
 use Rattle.sql_tree.specs.declared.statement.Definition.{Definition}
 use Rattle.sql_tree.specs.declared.statement.Definition.TheVariants as definition
 use Rattle.sql_tree.specs.declared.statement.Insert.{Insert}
 use Rattle.sql_tree.specs.declared.statement.InsertSource.{InsertSource}
 use Rattle.sql_tree.specs.declared.statement.InsertSource.TheVariants as source
-use Rattle.sql_tree.specs.declared.statement.ObjectKind.{ObjectKind}
 use Rattle.sql_tree.specs.declared.statement.RowCommand.TheVariants as rows_by
 use Rattle.sql_tree.specs.declared.statement.Statement.{Statement}
 use Rattle.sql_tree.specs.declared.query.Query.{Query as Tree}
 use Rattle.bound_tree.specs.declared.statements.BoundCommand.{BoundCommand}
 use Rattle.bound_tree.specs.declared.statements.BoundCommand.TheVariants as made
 use Rattle.bound_tree.specs.declared.statements.BoundStatement.{BoundStatement}
-use Rattle.bound_tree.specs.declared.statements.ThingKind.{ThingKind}
-use Rattle.bound_tree.specs.declared.statements.ThingKind.TheVariants as thing
 use Rattle.bound_tree.specs.declared.units.BoundUnit.{BoundUnit}
 use Rattle.bound_tree.specs.declared.writes.BoundChange.{BoundChange}
 use Rattle.bound_tree.specs.declared.writes.BoundChange.TheVariants as change
@@ -32,10 +26,10 @@ use Rattle.bound_tree.specs.declared.writes.BoundWrite.{BoundWrite}
 use Rattle.bound_size.proofs.BoundLaws.{both_hold, bound_by, same_answer}
 use Rattle.bound_size.proofs.StatementLaws.{insert_small, query_small}
 use Rattle.sql_bound.specs.Carriers.{InsertParts}
-use Rattle.sql_bound.specs.Creates.{create_bound, create_there, created_by, entries_beside, is_free, name_of_entry, nothing_created}
+use Rattle.sql_bound.specs.Creates.{create_bound, entries_beside}
 use Rattle.sql_bound.specs.Refusals.{Checked}
 use Rattle.sql_bound.specs.Scopes.{Outer, begun, in_statement}
-use Rattle.sql_bound.specs.Statements.{bound_of, command_bound, entries_of, nothing_opened, plain, pragma_bound, remove_bound, removed, rows_bound, statement_with, thing_there}
+use Rattle.sql_bound.specs.Statements.{bound_of, command_bound, entries_of, nothing_opened, plain, pragma_bound, remove_bound, rows_bound, statement_with, thing_there}
 use Rattle.sql_bound.specs.Targets.{Target, target_bound}
 use Rattle.sql_bound.specs.Trees.{full_depth, of_insert_source, of_rows, outer_at}
 use Rattle.sql_bound.specs.Triggers.{opening}
@@ -43,30 +37,24 @@ use Rattle.sql_bound.specs.Writes.{Begun, Opened, fired_all, insert_begun, inser
 use Rattle.sql_bound.specs.declared.scopes.Work.{Work}
 use Rattle.sql_meaning.specs.Built.{is_abort, is_built, is_built_command, is_built_rows, is_built_rows_source, is_built_values}
 use Rattle.sql_meaning.specs.Declarations.{tables_of}
-use Rattle.sql_meaning.specs.Running.{command_of, entry_with, found_table, if_built, put_into, put_of, removal_of, runnable_of, table_of_source}
+use Rattle.sql_meaning.specs.Running.{command_of, if_built, put_into, put_of, runnable_of, table_of_source}
 use Rattle.sql_meaning.specs.Runnables.{Creates, DoesNothing, Drops, Put, Puts, Queries, Runnable, Shows}
 use Rattle.sql_meaning.specs.Statement.{around}
 use Rattle.sql_meaning.specs.declared.column.TableEntry.{TableEntry}
-use Rattle.sql_meaning.specs.Declarations.{columns_created, table_called}
+use Rattle.sql_meaning.proofs.AsideLaws.{IsAside, IsAsideCommand, command-aside, create-aside, pragma-aside, removed-aside}
 use Rattle.sql_meaning.proofs.ValidLaws.{if_built-ok, same-ok, then-ok}
 use Rattle.sql_words.specs.Refusals.{◌>>=◌}
 use Rattle.sql_words.specs.Spelled.{name_at}
 use Rattle.bind_stmt.specs.declared.statement.Bound.{Bound}
 use Rattle.bind_stmt.specs.Binds.{AnswersBy, Binds, IsBound, IsRefusal}
 use Rattle.bind_stmt.specs.Small.{AreFew, IsSmall}
-use Rattle.bind_stmt.proofs.BuiltPlain.{built_query_plain, built_values_plain}
+use Rattle.sql_meaning.proofs.BuiltPlain.{built_query_plain, built_values_plain}
 use Rattle.sql_meaning.specs.Permits.{Asking, Denies, Ignores, Permit, permitted}
 use Rattle.bound_ignored.specs.Marked.{ignoring}
 use Rattle.bind_stmt.proofs.MarkedRuns.{marked-small}
 use Rattle.bind_stmt.proofs.Sizing.{defaulted-small, inserted-small, query-small}
 
 -- ---- what neither reads nor puts rows
-
-abbrev IsAside : Runnable → Type 0
-IsAside (Creates e) = ⊤
-IsAside (Drops t) = ⊤
-IsAside DoesNothing = ⊤
-IsAside other = ⊥
 
 aside-small : (size : ℕ) (x : Runnable) → 1 ≤ size → IsAside x → IsSmall size x
 aside-small size (Creates e) le a = le
@@ -75,58 +63,6 @@ aside-small size DoesNothing le a = le
 aside-small size (Puts p) le a = absurd a
 aside-small size (Queries q) le a = absurd a
 aside-small size (Shows rows) le a = absurd a
-
-abbrev IsAsideCommand : BoundCommand → Type 0
-IsAsideCommand (made.Asked place) = ⊥
-IsAsideCommand (made.Written w) = ⊥
-IsAsideCommand other = ⊤
-
-removal-aside : (tables : List TableEntry) (k : ThingKind) (name : List ℕ) (x : Runnable) → removal_of tables k name ≡ Ok x → IsAside x
-removal-aside tables thing.ATable name x e =
-    let drops : TableEntry → Result Runnable Cause = λ t. Ok (Drops t) in
-    let t = then-ok (found_table (table_called tables name)) drops x e in
-    subst IsAside (same-ok (Drops t.0) x t.2) tt
-removal-aside tables thing.AModuleTable name x e = absurd (let bad : Err cause.NotYet ≡ Ok x = e in cc)
-removal-aside tables thing.AnIndex name x e = absurd (let bad : Err cause.NotYet ≡ Ok x = e in cc)
-removal-aside tables thing.AView name x e = absurd (let bad : Err cause.NotYet ≡ Ok x = e in cc)
-removal-aside tables thing.ATrigger name x e = absurd (let bad : Err cause.NotYet ≡ Ok x = e in cc)
-
-command-aside : (tables : List TableEntry) (number : ℕ) (text : List ℕ) (s : Statement) (units : List BoundUnit) (k : BoundCommand) (x : Runnable) → IsAsideCommand k → command_of tables number text s units k ≡ Ok x → IsAside x
-command-aside tables number text s units (made.Asked place) x a e = absurd a
-command-aside tables number text s units (made.Written w) x a e = absurd a
-command-aside tables number text s units (made.Created c) x a e =
-    let entry = entry_with number text c.name s in
-    subst IsAside (same-ok (Creates entry) x (if_built-ok (is_some (columns_created text s.command)) (Ok (Creates entry)) x e).1) tt
-command-aside tables number text s units (made.Removed r) x a e = removal-aside tables r.kind r.name x e
-command-aside tables number text s units (made.Transacted t) x a e = absurd (let bad : Err cause.NotYet ≡ Ok x = e in cc)
-command-aside tables number text s units (made.Pragma name) x a e = subst IsAside (same-ok DoesNothing x e) tt
-command-aside tables number text s units (made.Nothing kind name owner) x a e = subst IsAside (same-ok DoesNothing x e) tt
-
-nothing-aside : (o : Outer) (name : List ℕ) (d : Definition) → IsAsideCommand (nothing_created o name d)
-nothing-aside o name (definition.Table t) = tt
-nothing-aside o name (definition.Index i) = tt
-nothing-aside o name (definition.View v) = tt
-nothing-aside o name (definition.Trigger t) = tt
-nothing-aside o name (definition.VirtualTable v) = tt
-
-create-aside : (o : Outer) (c : Create) (name : List ℕ) (there : Option Entry) (k : BoundCommand) → create_there o c name there ≡ Ok k → IsAsideCommand k
-create-aside o c name there k e = by (c.if_not_exists && is_some there) e
-  where
-    by : (skips : Bool) → (if skips then Ok (nothing_created o (name_of_entry name there) c.definition) else (is_free name there >>= λ u. created_by o name c.definition >>= λ x. Ok (made.Created x))) ≡ Ok k → IsAsideCommand k
-    by true f = subst IsAsideCommand (same-ok (nothing_created o (name_of_entry name there) c.definition) k f) (nothing-aside o (name_of_entry name there) c.definition)
-    by false f =
-        let free = then-ok (is_free name there) (λ u. created_by o name c.definition >>= λ x. Ok (made.Created x)) k f in
-        let one = then-ok (created_by o name c.definition) (λ x. Ok (made.Created x)) k free.2 in
-        subst IsAsideCommand (same-ok (made.Created one.0) k one.2) tt
-
-removed-aside : (if_exists : Bool) (kind : ObjectKind) (name : List ℕ) (there : Option Entry) (t : Option (ThingKind × Entry)) (k : BoundCommand) → removed if_exists kind name there t ≡ Ok k → IsAsideCommand k
-removed-aside if_exists kind name there (Some t) k e = subst IsAsideCommand (same-ok _ k e) tt
-removed-aside true kind name there None k e = subst IsAsideCommand (same-ok _ k e) tt
-removed-aside false kind name there None k e = absurd (cc)
-
-pragma-aside : (known : Bool) (name : List ℕ) (why : Cause) (k : BoundCommand) → (if known then Ok (made.Pragma name) else Err why) ≡ Ok k → IsAsideCommand k
-pragma-aside true name why k e = subst IsAsideCommand (same-ok (made.Pragma name) k e) tt
-pragma-aside false name why k e = absurd (let bad : Err why ≡ Ok k = e in cc)
 
 -- ---- DEFAULT VALUES
 

@@ -8,7 +8,7 @@ use Rattle.sql_tree.specs.declared.statement.Statement.{Statement}
 use Rattle.sql_meaning.specs.declared.bound.BoundInsert.{BoundInsert}
 use Rattle.sql_meaning.specs.declared.bound.BoundSelect.{BoundSelect}
 use Rattle.sql_meaning.specs.Runnables.{Runnable, Creates, DoesNothing, Drops, FromItem, Put, Puts, Queries, Query, Shows}
-use Rattle.sql_meaning.specs.Declarations.{columns_created}
+use Rattle.sql_meaning.specs.Declarations.{columns_created, rowid_created}
 use Rattle.eng_entry.specs.Entries.{Entries}
 use Rattle.bound_tree.specs.Conditions.{conditions_of}
 use Rattle.bound_ignored.specs.Erased.{Marks, erased}
@@ -42,11 +42,11 @@ IsFrom [] None = ⊤
 IsFrom (i ∷ []) (Some number) = number ≡ i.table.number
 IsFrom _ _ = ⊥
 
--- which columns of the items are ignored
+-- which columns of the items are ignored, and which is the rowid
 abbrev pub marks_in : List FromItem → Marks
-marks_in from = map (λ (i : FromItem). i.ignored) from
+marks_in from = map (λ (i : FromItem). record { ignored = i.ignored; rowid = i.table.rowid }) from
 
--- NULL stands in place of what is ignored
+-- NULL stands in place of what is ignored, and the rowid in place of the column that is it
 pub record IsQueryAs (q : Query) (b : BoundSelect) : Type 0 where
   pub from : IsFrom q.from b.table
   pub conjuncts : flat_map conditions_of b.conjuncts ≡ map (erased (marks_in q.from)) q.conjuncts
@@ -59,7 +59,8 @@ IsPut p b = b ≡ p.insert
 -- ---- statements
 
 abbrev pub IsBound : Runnable → Bound → Type 0
-IsBound (Creates e) (bound.CreateTable t) = (t.name ≡ e.name) × (columns_created e.text e.def.command ≡ Some t.columns)
+IsBound (Creates e) (bound.CreateTable t) =
+    (t.name ≡ e.name) × (columns_created e.text e.def.command ≡ Some t.columns) × (t.rowid ≡ rowid_created e.text e.def.command)
 IsBound (Drops t) (bound.DropTable d) = (d.name ≡ t.name) × (d.table ≡ t.number)
 IsBound (Puts p) (bound.Insert b) = IsPut p b
 IsBound (Queries q) (bound.Select b) = IsQueryAs q b

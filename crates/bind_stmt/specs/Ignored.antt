@@ -1,10 +1,10 @@
--- Whether a column of an item of a FROM is ignored.
-use Rattle.std.specs.Prelude.{nat_eq, Bool, not, List, length}
+-- Whether an item of a FROM has a column that is ignored, or one that is the rowid.
+use Rattle.std.specs.Prelude.{nat_eq, Bool, not, ◌||◌, List, is_some, length}
 use Rattle.std.specs.List.{list_any}
 use Rattle.bound_tree.specs.declared.units.BoundItem.{BoundItem}
 
-abbrev pub is_ignored : BoundItem → Bool
-is_ignored i = not (nat_eq (length i.ignored) 0)
+abbrev pub is_marked : BoundItem → Bool
+is_marked i = not (nat_eq (length i.ignored) 0) || is_some i.rowid
 
-abbrev pub ignores : List BoundItem → Bool
-ignores items = list_any is_ignored items
+abbrev pub are_marked : List BoundItem → Bool
+are_marked items = list_any is_marked items

@@ -108,11 +108,12 @@ abbrev pub is_plain_entry : Entries → Entry → ℕ → Bool
 is_plain_entry catalog entry width =
     nat_le width MAX_COLUMNS && is_table_kind entry.kind && defines_plain entry width && has_no_index entry.name catalog.names
 
--- such a table, by its name
+-- such a table, by its name; none of its columns is the rowid
 pub record IsPlainTable (catalog : Entries) (tables : List TableEntry) (name : List ℕ) (t : TableEntry) : Type 0 where
   pub entry : Entry
   pub named : table_named name catalog ≡ Some entry
   pub called : table_called tables entry.name ≡ Some t
+  pub rowid : t.rowid ≡ None
   pub plain : is_plain_entry catalog entry (length t.columns) ≡ true
 
 -- each column takes the value in its own place, from this place on, and that may be NULL

@@ -6,6 +6,7 @@ ghost use Rattle.sql_meaning.specs.Running.{creation_of};
 ghost use Rattle.sql_words.specs.Types.{type_affinity};
 
 use crate::statement::Bound;
+use bind_entry::rowid_of;
 use bind_name::{affinity_of_type, name};
 use bound_tree::BoundCreation;
 use eng_value::{Affinity, Cause, MAX_COLUMNS, Text};
@@ -14,11 +15,12 @@ use sql_tree::{ColumnDefinition, Command, Definition, Statement, TypeName};
 use sqlite_items::Items;
 use std::alloc::{AllocError, Global};
 
-/// A table that is created: its name, and its columns.
+/// A table that is created: its name, its columns, and which of them is the rowid, if one is.
 #[derive(Drop)]
 pub struct NewTable {
     pub name: Text,
     pub columns: Items<Column>,
+    pub rowid: Option<u32>,
 }
 
 /// The table that a statement creates; what else CREATE makes is not built.
@@ -36,6 +38,7 @@ pub(crate) fn created(
                 Bound::CreateTable(NewTable {
                     name: creation.name.clone()?,
                     columns: declared_columns(alloc, text, table.columns.as_slice())?,
+                    rowid: rowid_of(alloc, text, table)?,
                 }),
             ),
             _ => Err(Cause::NotYet),

@@ -171,7 +171,7 @@ fn plain_table<'a>(
 {
     let entry = table_named(name, catalog)?;
     let table = table_called(tables, entry.name.as_bytes())?;
-    if is_plain_entry(catalog, entry, table.columns.len()) {
+    if table.rowid.is_none() && is_plain_entry(catalog, entry, table.columns.len()) {
         Some(table)
     } else {
         None

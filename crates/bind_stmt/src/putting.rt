@@ -90,7 +90,7 @@ fn put_at(
     let defaults = mem::replace(&mut target.defaults, Items::new(alloc));
     let not_nulls = target.not_nulls.as_slice();
     let columns = columns_put(alloc, table.columns.as_slice(), places, defaults, not_nulls)?;
-    let rowid = rowid_from(columns.as_slice(), target.item.rowid, given)?;
+    let rowid = rowid_from(columns.as_slice(), table.rowid, given)?;
     Ok(BoundInsert {
         table: table.number,
         name: table.name.clone()?,

@@ -1,7 +1,8 @@
 // Queries that run.
-ghost use Rattle.std.specs.Prelude.{◌≡◌, ◌∷◌, [], map, slice_get, OnOk};
-ghost use Rattle.bind_stmt.specs.Binds.{Answers, AnswersBy, IsBound, IsFrom};
-ghost use Rattle.bind_stmt.specs.Ignored.{ignores, is_ignored};
+ghost use Rattle.std.specs.Prelude.{◌≡◌, ◌∷◌, ◌++◌, [], map, slice_get, OnOk};
+ghost use Rattle.bind_stmt.specs.Binds.{Answers, AnswersBy, IsBound};
+ghost use Rattle.bind_stmt.specs.Ignored.{are_marked, is_marked};
+ghost use Rattle.bind_stmt.specs.Steps.{IsFromAs};
 ghost use Rattle.bind_stmt.specs.declared.statement.Bound.TheVariants as bound;
 ghost use Rattle.bound_ignored.specs.Erased.{erased, marks_of};
 ghost use Rattle.sql_meaning.specs.Running.{first_part, from_of, is_plain_query, query_of, select_of};
@@ -70,7 +71,7 @@ fn select(alloc: Global, tables: &[TableEntry], core: &mut BoundCore) -> Result<
     if core.groups.is_some() || core.distinct {
         return Err(Cause::NotYet);
     }
-    let table = from_table(tables, core.items.as_slice())?;
+    let table = from_table(tables, &mut core.items)?;
     erase(alloc, core)?;
     Ok(BoundSelect {
         table,
@@ -79,32 +80,42 @@ fn select(alloc: Global, tables: &[TableEntry], core: &mut BoundCore) -> Result<
     })
 }
 
-/// The number of the table of a FROM, where it has an item.
-fn from_table(tables: &[TableEntry], items: &[BoundItem]) -> Result<Option<u32>, Cause>
-    ensures { AnswersBy IsFrom (from_of tables.now items.now) result }
+/// The number of the table of a FROM, where it has an item, which then has the rowid of that table.
+fn from_table(tables: &[TableEntry], items: &mut Items<BoundItem>) -> Result<Option<u32>, Cause>
+    ensures { AnswersBy (IsFromAs items.new) (from_of tables.now items.old) result }
 {
-    match items {
-        [] => Ok(None),
-        [item] => item_table(tables, item),
-        _ => Err(Cause::NotYet),
+    match items.pop() {
+        None => Ok(None),
+        Some(item) => item_table(tables, items, item),
     }
 }
 
-fn item_table(tables: &[TableEntry], item: &BoundItem) -> Result<Option<u32>, Cause>
-    ensures { AnswersBy IsFrom (from_of tables.now (item.now ∷ [])) result }
+/// The same for the last item, which is put back where it is the only one.
+fn item_table(
+    tables: &[TableEntry],
+    others: &mut Items<BoundItem>,
+    item: BoundItem,
+) -> Result<Option<u32>, Cause>
+    ensures { AnswersBy (IsFromAs others.new) (from_of tables.now (others.old ++ item ∷ [])) result }
 {
+    if !others.is_empty() {
+        return Err(Cause::NotYet);
+    }
+    let mut item = item;
     let table = table_of_source(tables, &item.source)?;
+    item.rowid = table.rowid;
+    others.push(item)?;
     Ok(Some(table.number))
 }
 
-// ---- columns that are ignored
+// ---- columns that are ignored, and those that are rowids
 
-/// NULL comes in place of the columns that are ignored.
+/// NULL comes in place of the columns that are ignored, and the rowid in place of the column that is it.
 fn erase(alloc: Global, core: &mut BoundCore) -> Result<(), AllocError>
     ensures conjuncts { OnOk result (core.new.conjuncts ≡ map (erased (marks_of core.old.items)) core.old.conjuncts) }
     ensures results { OnOk result (core.new.results ≡ map (erased (marks_of core.old.items)) core.old.results) }
 {
-    if !ignores(core.items.as_slice()) {
+    if !are_marked(core.items.as_slice()) {
         return Ok(());
     }
     let conjuncts = erased_all(alloc, core.items.as_slice(), core.conjuncts.as_slice())?;
@@ -114,16 +125,16 @@ fn erase(alloc: Global, core: &mut BoundCore) -> Result<(), AllocError>
     Ok(())
 }
 
-/// Whether a column of the items is ignored.
-fn ignores(items: &[BoundItem]) -> bool
-    ensures { result ≡ ignores items.now }
+/// Whether a column of the items is ignored, or is the rowid.
+fn are_marked(items: &[BoundItem]) -> bool
+    ensures { result ≡ are_marked items.now }
 {
-    items.iter().any(|item| is_ignored(item))
+    items.iter().any(|item| is_marked(item))
 }
 
-/// Whether a column of the item is ignored.
-fn is_ignored(item: &BoundItem) -> bool
-    ensures { result ≡ is_ignored item.now }
+/// Whether a column of the item is ignored, or is the rowid.
+fn is_marked(item: &BoundItem) -> bool
+    ensures { result ≡ is_marked item.now }
 {
-    !item.ignored.is_empty()
+    !item.ignored.is_empty() || item.rowid.is_some()
 }

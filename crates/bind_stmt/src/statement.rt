@@ -121,7 +121,7 @@ fn nobody_tells(alloc: Global) -> HostFacts
     }
 }
 
-/// What runs of a statement whose names are bound. Columns that are ignored read NULL.
+/// What runs of a statement whose names are bound. Columns that are ignored read NULL, and those that are rowids read the rowid.
 pub fn runnable(
     alloc: Global,
     tables: &[TableEntry],

@@ -13,7 +13,7 @@ use Rattle.bound_tree.specs.declared.tree.ArmTree.{ArmTree, out-ArmTree}
 use Rattle.bound_tree.specs.declared.tree.ExprTree.TheVariants as t
 use Rattle.bound_tree.specs.declared.tree.ExprTree.{ExprTree, the_lemmas}
 use Rattle.bound_tree.specs.declared.tree.MatchTree.{MatchTree, out-MatchTree}
-use Rattle.bound_ignored.specs.Erased.{Marks, erased, erased_arm, erased_match, is_marked, or_null}
+use Rattle.bound_ignored.specs.Erased.{Marks, erased, erased_arm, erased_match, column_or_rowid, is_marked, is_rowid, or_null}
 use Rattle.bound_ignored.proofs.ErasedLists.{erased_arms-arms, erased_in-exprs, erased_matches-matches}
 
 pub erased-Literal : (m : Marks) (l : Literal) → erased m (seen (t.Literal l)) ≡ e.Literal l
@@ -22,7 +22,7 @@ erased-Literal m l = ap (erased m) (seen-Literal l)
 pub erased-Parameter : (m : Marks) (n : ℕ) → erased m (seen (t.Parameter n)) ≡ e.Parameter n
 erased-Parameter m n = ap (erased m) (seen-Parameter n)
 
-pub erased-Column : (m : Marks) (i c : ℕ) → erased m (seen (t.Column i c)) ≡ or_null (is_marked m i (Some c)) (e.Column i c)
+pub erased-Column : (m : Marks) (i c : ℕ) → erased m (seen (t.Column i c)) ≡ or_null (is_marked m i (Some c)) (column_or_rowid (is_rowid m i c) i c)
 erased-Column m i c = ap (erased m) (seen-Column i c)
 
 pub erased-Rowid : (m : Marks) (i : ℕ) → erased m (seen (t.Rowid i)) ≡ or_null (is_marked m i None) (e.Rowid i)

@@ -1,4 +1,5 @@
--- Expressions with NULL in place of the columns that are ignored (Compile-Time Authorization Callbacks).
+-- Expressions as they read rows that are stored: NULL stands in place of the columns that are ignored (Compile-Time Authorization Callbacks), and
+-- the rowid in place of the column that is it (Rowid Tables).
 use Rattle.std.specs.Prelude.{ℕ, nat_eq, Bool, true, false, List, [], map, Option, Some, None, slice_index_or}
 use Rattle.std.specs.List.{list_any}
 use Rattle.eng_value.specs.declared.value.Value.TheVariants as value
@@ -7,13 +8,25 @@ use Rattle.bound_tree.specs.Exprs as e
 use Rattle.bound_tree.specs.Exprs.{BoundArm, BoundArms, BoundExpr, BoundExprs, BoundMatch, BoundMatches, NoExprs, AnExpr, NoArms, AnArm, NoMatches, AMatch}
 use Rattle.bound_tree.specs.declared.units.BoundItem.{BoundItem}
 
--- for each item of the own FROM which of its columns are ignored; without a place that is its rowid
+-- of an item of the own FROM which of its columns are ignored, where that without a place is its rowid, and which column is the rowid, if one is
+pub record ItemMarks : Type 0 where
+  pub ignored : List (Option ℕ)
+  pub rowid : Option ℕ
+
+-- of each item
 abbrev pub Marks : Type 0
-Marks = List (List (Option ℕ))
+Marks = List ItemMarks
+
+-- of an item whose columns are all read where they stand
+abbrev pub no_marks : ItemMarks
+no_marks = record { ignored = []; rowid = None }
 
 -- what these items are marked with
 abbrev pub marks_of : List BoundItem → Marks
-marks_of items = map (λ (i : BoundItem). i.ignored) items
+marks_of items = map (λ (i : BoundItem). record { ignored = i.ignored; rowid = i.rowid }) items
+
+abbrev pub marks_at : Marks → ℕ → ItemMarks
+marks_at marks item = slice_index_or marks item no_marks
 
 abbrev pub same_place : Option ℕ → Option ℕ → Bool
 same_place None None = true
@@ -22,7 +35,11 @@ same_place (Some p) None = false
 same_place (Some p) (Some q) = nat_eq p q
 
 abbrev pub is_marked : Marks → ℕ → Option ℕ → Bool
-is_marked marks item place = list_any (same_place place) (slice_index_or marks item [])
+is_marked marks item place = list_any (same_place place) (marks_at marks item).ignored
+
+-- the column is the rowid
+abbrev pub is_rowid : Marks → ℕ → ℕ → Bool
+is_rowid marks item column = same_place (Some column) (marks_at marks item).rowid
 
 abbrev pub null : BoundExpr
 null = e.Literal (literal.Value value.Null)
@@ -31,13 +48,18 @@ abbrev pub or_null : Bool → BoundExpr → BoundExpr
 or_null true x = null
 or_null false x = x
 
+-- a column, or the rowid where it is that
+abbrev pub column_or_rowid : Bool → ℕ → ℕ → BoundExpr
+column_or_rowid true item column = e.Rowid item
+column_or_rowid false item column = e.Column item column
+
 -- ---- expressions
 
 abbrev mutual
   pub erased : Marks → BoundExpr → BoundExpr
   erased m (e.Literal l) = e.Literal l
   erased m (e.Parameter n) = e.Parameter n
-  erased m (e.Column item column) = or_null (is_marked m item (Some column)) (e.Column item column)
+  erased m (e.Column item column) = or_null (is_marked m item (Some column)) (column_or_rowid (is_rowid m item column) item column)
   erased m (e.Rowid item) = or_null (is_marked m item None) (e.Rowid item)
   erased m (e.Argument n) = e.Argument n
   erased m (e.Aggregate n) = e.Aggregate n

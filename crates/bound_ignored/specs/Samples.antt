@@ -34,6 +34,16 @@ other_things_stay = refl
 arguments_and_arms : erased marks (e.Choose (record { condition = e.Column 0 1; value = e.Call builtin.Max by_bytes (e.Column 0 0 ∷ e.Column 0 1 ∷ []) } ∷ []) (e.Scalar 0 (e.Rowid 0 ∷ []))) ≡ e.Choose (record { condition = null; value = e.Call builtin.Max by_bytes (e.Column 0 0 ∷ null ∷ []) } ∷ []) (e.Scalar 0 (null ∷ []))
 arguments_and_arms = refl
 
+-- column 1 of the second item is its rowid, which is no other's; one that is ignored reads NULL also there
+abbrev keyed : BoundItem → BoundItem
+keyed i = record i { rowid = Some 1 }
+
+a_column_that_is_the_rowid : erased (marks_of (t_item ∷ keyed u_item ∷ [])) (both (both (e.Column 1 1) (e.Column 1 0)) (both (e.Column 0 1) (e.Rowid 1))) ≡ both (both (e.Rowid 1) (e.Column 1 0)) (both (e.Column 0 1) (e.Rowid 1))
+a_column_that_is_the_rowid = refl
+
+a_rowid_is_ignored_by_its_name : erased (marks_of (ignores (Some 1 ∷ []) (keyed t_item) ∷ ignores (None ∷ []) (keyed u_item) ∷ [])) (both (both (e.Column 0 1) (e.Rowid 0)) (both (e.Column 1 1) (e.Rowid 1))) ≡ both (both null (e.Rowid 0)) (both (e.Rowid 1) null)
+a_rowid_is_ignored_by_its_name = refl
+
 -- ---- of an item: a table's column and its rowid; what stands in another text, another table's column, and what is no read are nothing to it
 a_column_of_a_table : marked (read None (codes "t") (codes "b") ∷ []) None t_item ≡ ignores (Some 1 ∷ []) t_item
 a_column_of_a_table = refl

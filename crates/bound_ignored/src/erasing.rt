@@ -1,8 +1,8 @@
-// Expressions with NULL in place of the columns that are ignored.
-ghost use Rattle.std.specs.Prelude.{◌≡◌, IfOk, map};
+// Expressions as they read rows that are stored: NULL in place of the columns that are ignored, and the rowid in place of the column that is it.
+ghost use Rattle.std.specs.Prelude.{◌≡◌, IfOk, Some, map};
 ghost use Rattle.std.specs.List.{list_any};
 ghost use Rattle.bound_tree.specs.Seen.{seen, seen_arm, seen_match};
-ghost use Rattle.bound_ignored.specs.Erased.{erased, erased_arm, erased_match, is_marked, marks_of, null, or_null, same_place};
+ghost use Rattle.bound_ignored.specs.Erased.{column_or_rowid, erased, erased_arm, erased_match, is_marked, is_rowid, marks_of, null, or_null, same_place};
 
 use bound_tree::{ArmTree, BoundArm, BoundExpr, BoundItem, BoundMatch, ExprTree, MatchTree};
 use eng_value::Value;
@@ -44,6 +44,17 @@ fn is_marked(items: &[BoundItem], item: u32, place: Option<u32>) -> bool
     }
 }
 
+/// Whether this column of an item is its rowid.
+#[tactic(auto, using(crate::proofs::Marks::marks_of_at))]
+fn is_rowid(items: &[BoundItem], item: u32, column: u32) -> bool
+    ensures { result ≡ is_rowid (marks_of items.now) item column }
+{
+    match at(items, item as usize) {
+        Some(item) => is_same_place(Some(column), item.rowid),
+        None => false,
+    }
+}
+
 fn null() -> BoundExpr
     ensures { result ≡ null }
 {
@@ -55,6 +66,17 @@ fn or_null(is_marked: bool, e: BoundExpr) -> BoundExpr
     ensures { result ≡ or_null is_marked e }
 {
     if is_marked { null() } else { e }
+}
+
+/// The column, or the rowid where it is that.
+fn column_or_rowid(is_rowid: bool, item: u32, column: u32) -> BoundExpr
+    ensures { result ≡ column_or_rowid is_rowid item column }
+{
+    if is_rowid {
+        BoundExpr::rowid(item)
+    } else {
+        BoundExpr::column(item, column)
+    }
 }
 
 // ---- stored trees
@@ -69,7 +91,8 @@ fn erased_tree(alloc: Global, items: &[BoundItem], e: &ExprTree) -> Result<Bound
         ExprTree::Parameter(number) => Ok(BoundExpr::parameter(*number)),
         ExprTree::Column { item, column } => {
             let is_marked = is_marked(items, *item, Some(*column));
-            Ok(or_null(is_marked, BoundExpr::column(*item, *column)))
+            let is_rowid = is_rowid(items, *item, *column);
+            Ok(or_null(is_marked, column_or_rowid(is_rowid, *item, *column)))
         }
         ExprTree::Rowid { item } => {
             let is_marked = is_marked(items, *item, None);
@@ -222,14 +245,15 @@ fn erased_match(
 
 // ---- expressions
 
-/// The expression with NULL in place of the columns that are marked at these items, which are those of the own FROM.
+/// The expression with NULL in place of the columns that are ignored at these items, which are those of the own FROM, and with the rowid
+/// in place of the column that is the rowid of its item.
 pub fn erased(alloc: Global, items: &[BoundItem], e: &BoundExpr) -> Result<BoundExpr, AllocError>
     ensures { IfOk result (λ made. made ≡ erased (marks_of items.now) e.now) }
 {
     erased_tree(alloc, items, e.tree())
 }
 
-/// The expressions, each with NULL in place of the columns that are marked at these items.
+/// The expressions, each with NULL in place of the columns that are ignored at these items, and with the rowid in place of that which is it.
 pub fn erased_all(
     alloc: Global,
     items: &[BoundItem],

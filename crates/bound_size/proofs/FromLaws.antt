@@ -52,7 +52,7 @@ pub record Brings (n : ℕ) (item : ScopeItem) : Type 0 where
   pub nodes : BringsNodes item
   pub count : length item.columns ≤ n
 
-item_brings : (place : ℕ) (name : Option (List ℕ)) (s : Sourced) → Brings (length s.columns) (scope_item place name s)
+pub item_brings : (place : ℕ) (name : Option (List ℕ)) (s : Sourced) → Brings (length s.columns) (scope_item place name s)
 item_brings place name s =
     let all = columns_are_nodes place 0 s.columns s.hidden in
     record {

@@ -12,6 +12,7 @@ pub mod CoreLaws
 pub mod QueryLaws
 pub mod SameSizes
 pub mod PlaceLaws
+pub mod TargetLaws
 pub mod InsertLaws
 pub mod RollLaws
 pub mod StatementLaws

@@ -10,13 +10,15 @@ use Rattle.sql_tree.specs.declared.statement.Statement.{Statement}
 use Rattle.bound_tree.specs.declared.statements.BoundCommand.TheVariants.{Asked, Written}
 use Rattle.bound_tree.specs.declared.statements.BoundStatement.{BoundStatement}
 use Rattle.bound_tree.specs.declared.writes.BoundWrite.{BoundWrite}
+use Rattle.sql_words.specs.Spelled.{name_at}
+use Rattle.sql_bound.specs.Declarations.{table_named}
 use Rattle.sql_bound.specs.Scopes.{Around, Outer, in_statement}
 use Rattle.sql_bound.specs.Statements.{bound_of, command_bound, statement_with}
 use Rattle.sql_bound.specs.Trees.{full_depth, outer_at}
 use Rattle.bound_size.specs.Plain.{is_plain_query}
-use Rattle.bound_size.specs.Small.{InsertsSmall, MakesSmall}
+use Rattle.bound_size.specs.Small.{InsertsSmall, IsSmallTarget, MakesSmall}
 use Rattle.bound_size.proofs.BoundLaws.{bound_by, same_answer}
-use Rattle.bound_size.proofs.InsertLaws.{insert_placed}
+use Rattle.bound_size.proofs.InsertLaws.{insert_placed, insert_targeted}
 use Rattle.bound_size.proofs.PlaceLaws.{asked_placed}
 
 -- in which it is bound
@@ -37,6 +39,14 @@ pub insert_small : (around : Around) (text : List ℕ) (s : Statement) (i : Inse
 insert_small around text s i q b is from none plain h =
     let o = outermost around text in
     let c = bound_by (command_bound o s.command) (λ c. Ok (statement_with s.explain c)) b h in
-    let placed = insert_placed q o i c.0 from none plain (subst (λ (x : Command). command_bound o x ≡ Ok c.0) is c.1) in
+    let placed = insert_placed o q i c.0 from none plain (subst (λ (x : Command). command_bound o x ≡ Ok c.0) is c.1) in
     let same = same_answer (statement_with s.explain c.0) b c.2 in
     (placed.0, ap (λ (x : BoundStatement). x.command) (sym same) ∙ placed.1, subst (λ (x : BoundStatement). InsertsSmall q placed.0.change x.units) same placed.2)
+
+pub target_small : (around : Around) (text : List ℕ) (s : Statement) (i : Insert) (b : BoundStatement) → s.command ≡ command.Rows (rows_by.Insert i) → bound_of around text s ≡ Ok b
+    → (write : BoundWrite) × (b.command ≡ Written write) × IsSmallTarget (table_named (name_at text i.table) around.catalog) write.target
+target_small around text s i b is h =
+    let o = outermost around text in
+    let c = bound_by (command_bound o s.command) (λ c. Ok (statement_with s.explain c)) b h in
+    let placed = insert_targeted o i c.0 (subst (λ (x : Command). command_bound o x ≡ Ok c.0) is c.1) in
+    (placed.0, ap (λ (x : BoundStatement). x.command) (sym (same_answer (statement_with s.explain c.0) b c.2)) ∙ placed.1, placed.2)

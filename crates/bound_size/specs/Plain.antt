@@ -9,6 +9,12 @@ use Rattle.sql_tree.specs.declared.expr.Expr.{Expr}
 use Rattle.sql_tree.specs.declared.query.Query.{Query}
 use Rattle.sql_tree.specs.declared.query.ResultColumn.{ResultColumn}
 use Rattle.sql_tree.specs.declared.query.SelectCore.{SelectCore}
+use Rattle.sql_tree.specs.declared.statement.ColumnConstraint.TheVariants as own
+use Rattle.sql_tree.specs.declared.statement.ColumnConstraint.{ColumnConstraint}
+use Rattle.sql_tree.specs.declared.statement.ColumnDefinition.{ColumnDefinition}
+use Rattle.sql_tree.specs.declared.statement.TableConstraint.TheVariants as behind
+use Rattle.sql_tree.specs.declared.statement.TableConstraint.{TableConstraint}
+use Rattle.sql_tree.specs.declared.statement.TableDefinition.{TableDefinition}
 
 abbrev pub option_plain : Option Bool → Bool
 option_plain None = true
@@ -83,3 +89,21 @@ is_alone (x ∷ others) = false
 -- of one part, which is plain
 abbrev pub is_plain_query : Query → Bool
 is_plain_query q = is_alone (of_query q).others && is_plain_part (of_part (of_query q).first)
+
+-- ---- the DEFAULTs and CHECKs of a table
+
+abbrev pub is_plain_constraint : ColumnConstraint → Bool
+is_plain_constraint (own.Check x) = is_plain x
+is_plain_constraint (own.Default x) = is_plain x
+is_plain_constraint other = true
+
+abbrev pub is_plain_column : ColumnDefinition → Bool
+is_plain_column c = list_all is_plain_constraint c.constraints
+
+abbrev pub is_plain_behind : TableConstraint → Bool
+is_plain_behind (behind.Check x) = is_plain x
+is_plain_behind other = true
+
+-- none of them asks a query
+abbrev pub is_plain_table : TableDefinition → Bool
+is_plain_table t = list_all is_plain_column t.columns && list_all is_plain_behind t.constraints

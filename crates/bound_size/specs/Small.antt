@@ -1,25 +1,32 @@
 -- How large what is bound of a query is, beside its tree.
 use Rattle.std.specs.Prelude.{◌≡◌, ◌≤◌, ℕ, ◌+◌, ◌*◌, Bool, true, false, List, [], ◌∷◌, length, map, slice_get, Option, Some}
 use Rattle.std.specs.List.{flat_map, list_all}
+use Rattle.std.specs.Option.{option_to_list}
+use Rattle.eng_entry.specs.declared.entry.Entry.{Entry}
 use Rattle.sql_tree.specs.Layers.{PartLayer, ResultLayer, SelectLayer, of_part, of_query, of_result, of_select}
-use Rattle.sql_tree.specs.Sizes.{size_of_filter, size_of_from, size_of_result, size_of_row, total}
+use Rattle.sql_tree.specs.Sizes.{size_of_filter, size_of_from, size_of_result, size_of_row, size_of_table, total}
 use Rattle.sql_tree.specs.declared.expr.Expr.TheOpen.{QueryPart-F, ResultColumn-F}
 use Rattle.sql_tree.specs.declared.query.Query.{Query}
 use Rattle.sql_tree.specs.declared.query.ResultColumn.{ResultColumn}
+use Rattle.sql_tree.specs.declared.statement.TableDefinition.{TableDefinition}
 use Rattle.bound_tree.specs.Exprs.{BoundExpr}
 use Rattle.bound_tree.specs.declared.units.BoundCore.{BoundCore}
 use Rattle.bound_tree.specs.declared.units.BoundItem.{BoundItem}
 use Rattle.bound_tree.specs.declared.units.BoundPart.TheVariants as bound_part
 use Rattle.bound_tree.specs.declared.units.BoundPart.{BoundPart}
 use Rattle.bound_tree.specs.declared.units.BoundQuery.{BoundQuery}
+use Rattle.bound_tree.specs.declared.units.BoundSource.TheVariants.{Table}
 use Rattle.bound_tree.specs.declared.units.BoundUnit.TheVariants.{Queried}
 use Rattle.bound_tree.specs.declared.units.BoundUnit.{BoundUnit}
 use Rattle.bound_tree.specs.declared.writes.BoundChange.TheVariants.{Inserted}
 use Rattle.bound_tree.specs.declared.writes.BoundChange.{BoundChange}
+use Rattle.bound_tree.specs.declared.writes.BoundTarget.{BoundTarget}
+use Rattle.sql_bound.specs.Declarations.{definition_of, table_in}
 use Rattle.sql_bound.specs.Scopes.{Level}
 use Rattle.sql_bound.specs.declared.scopes.ScopeItem.{ScopeItem}
 use Rattle.bound_tree.specs.Conditions.{conditions_of}
 use Rattle.bound_size.specs.Counts.{rows_size}
+use Rattle.bound_size.specs.Plain.{is_plain_table}
 use Rattle.bound_size.specs.Sizes.{all_nodes}
 
 -- ---- FROM
@@ -84,3 +91,21 @@ pub record InsertsSmall (q : Query) (made : BoundChange) (units : List BoundUnit
   pub arguments : List BoundExpr
   pub change : made ≡ Inserted columns rowid source arguments
   pub makes : MakesSmall q source units
+
+-- ---- what an INSERT puts by default, and what it tests of a row
+
+abbrev pub constraints_nodes : BoundTarget → ℕ
+constraints_nodes t = all_nodes (flat_map option_to_list t.defaults) + all_nodes t.checks
+
+-- an entry creates the table of this name, and its DEFAULTs and CHECKs are small beside its tree, where they ask no query
+pub record HasSmallConstraints (there : Option Entry) (name : List ℕ) (target : BoundTarget) : Type 0 where
+  pub entry : Entry
+  pub is_there : there ≡ Some entry
+  pub named : entry.name ≡ name
+  pub table : TableDefinition
+  pub creates : table_in (definition_of entry) ≡ Some table
+  pub small : is_plain_table table ≡ true → constraints_nodes target ≤ 2 * size_of_table table
+
+-- where it writes rows of a table, and not of a view or a module
+abbrev pub IsSmallTarget : Option Entry → BoundTarget → Type 0
+IsSmallTarget there target = (name : List ℕ) (number : ℕ) → target.item.source ≡ Table name number → HasSmallConstraints there name target

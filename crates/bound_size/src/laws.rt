@@ -9,6 +9,7 @@ ghost use Rattle.bound_tree.specs.declared.writes.BoundChange.{BoundChange};
 ghost use Rattle.bound_tree.specs.declared.writes.BoundWrite.{BoundWrite};
 ghost use Rattle.sql_bound.specs.Carriers.{ItemParts};
 ghost use Rattle.sql_bound.specs.Compounds.{trees_in, values_bound};
+ghost use Rattle.sql_bound.specs.Declarations.{table_named};
 ghost use Rattle.sql_bound.specs.Froms.{Inside, items_found, nothing_found};
 ghost use Rattle.sql_bound.specs.Results.{ResultScope, nothing_shown, results_bound};
 ghost use Rattle.sql_bound.specs.Scopes.{Around, Outer, Scope};
@@ -31,11 +32,12 @@ ghost use Rattle.sql_tree.specs.declared.statement.Insert.{Insert};
 ghost use Rattle.sql_tree.specs.declared.statement.InsertSource.TheVariants.{Query as FromQuery};
 ghost use Rattle.sql_tree.specs.declared.statement.RowCommand.TheVariants.{Insert as RowsInserted, Query as RowsAsked};
 ghost use Rattle.sql_tree.specs.declared.statement.Statement.{Statement};
+ghost use Rattle.sql_words.specs.Spelled.{name_at};
 ghost use Rattle.bound_size.specs.Brought.{AllBringNodes, own_of};
 ghost use Rattle.bound_size.specs.Plain.{is_plain, is_plain_query, is_plain_result, is_plain_row};
 ghost use Rattle.bound_tree.specs.Conditions.{conditions_of};
 ghost use Rattle.bound_size.specs.Sizes.{all_nodes, nodes_of};
-ghost use Rattle.bound_size.specs.Small.{AreFewRows, AreFewShown, InsertsSmall, MakesSmall, columns_in, seen_columns};
+ghost use Rattle.bound_size.specs.Small.{AreFewRows, AreFewShown, InsertsSmall, IsSmallTarget, MakesSmall, columns_in, seen_columns};
 
 /// Where an expression asks no query, no result has a name and each column of the own FROM is one node, what it is bound to has at most
 /// twice as many nodes as its tree, and so has what a condition is split into; what is tested of a condition, of which each BETWEEN makes
@@ -76,4 +78,10 @@ pub fn queries_are_linear()
 pub fn statements_are_linear()
     ensures query { (around : Around) (text : List ℕ) (s : Statement) (q : Query) (b : BoundStatement) → s.command ≡ Rows (RowsAsked q) → is_plain_query q ≡ true → bound_of around text s ≡ Ok b → (place : ℕ) × (b.command ≡ AskedOf place) × MakesSmall q place b.units }
     ensures insert { (around : Around) (text : List ℕ) (s : Statement) (i : Insert) (q : Query) (b : BoundStatement) → s.command ≡ Rows (RowsInserted i) → i.source ≡ FromQuery q → around.catalog.triggers ≡ [] → is_plain_query q ≡ true → bound_of around text s ≡ Ok b → (write : BoundWrite) × (b.command ≡ Written write) × InsertsSmall q write.change b.units }
+{}
+
+/// What an INSERT puts by default and tests of a row has at most twice as many nodes as the tree of the CREATE TABLE that spells it out,
+/// where no DEFAULT and no CHECK there asks a query.
+pub fn constraints_are_linear()
+    ensures { (around : Around) (text : List ℕ) (s : Statement) (i : Insert) (b : BoundStatement) → s.command ≡ Rows (RowsInserted i) → bound_of around text s ≡ Ok b → (write : BoundWrite) × (b.command ≡ Written write) × IsSmallTarget (table_named (name_at text i.table) around.catalog) write.target }
 {}

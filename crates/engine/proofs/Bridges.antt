@@ -1,6 +1,7 @@
 -- What statements that are ready to run come to is what the definitions say of what was bound.
-use Rattle.std.proofs.Common.{◌≡◌, ◌⊎◌, inl, inr, ◌||◌, ℕ, ◌<◌, true, List, [], ◌∷◌, ◌++◌, ℤ, length, map, option_map, Option, Some, None, refl, sym, ap, ◌∙◌}
+use Rattle.std.proofs.Common.{◌≡◌, ◌⊎◌, inl, inr, ◌||◌, ℕ, ◌<◌, true, List, [], ◌∷◌, ◌++◌, ℤ, length, map, option_map, All, Option, Some, None, refl, sym, ap, ◌∙◌}
 use Rattle.std.specs.List.{flat_map}
+use Rattle.std.proofs.lemmas.List.Elements.{All-head, All-tail}
 use Rattle.std.specs.FinSet as set
 use Rattle.std.specs.Cmp.Lexicographic.{nat_list_cmp_total}
 use Rattle.eng_value.specs.Causes.{CauseSet, cause_key, has_cause, named}
@@ -11,7 +12,7 @@ use Rattle.eng_value.specs.Written.{unwritten}
 use Rattle.eng_value.specs.declared.cause.Cause.{Cause}
 use Rattle.eng_value.specs.declared.value.Value.{Value}
 use Rattle.gen_query.specs.Queries.{rows_in}
-use Rattle.gen_write.specs.Writes.{Course, rows_run, run_by, source_run, source_of, untouched}
+use Rattle.gen_write.specs.Writes.{Course, rows_run, run_by, source_run, untouched}
 use Rattle.bound_tree.specs.Exprs.{BoundExpr}
 use Rattle.sql_meaning.specs.declared.bound.BoundInsert.{BoundInsert}
 use Rattle.sql_meaning.specs.declared.bound.BoundSelect.{BoundSelect}
@@ -19,11 +20,12 @@ use Rattle.sql_meaning.specs.declared.column.TableEntry.{TableEntry}
 use Rattle.sql_meaning.specs.Runnables.{FromItem, Put, Query}
 use Rattle.sql_meaning.specs.Statement.{Item, Row, Failed as Bad, IsNamed, causes_of, with_others, closed, drop_outcome, Outcome, query_outcome, items_of, items_at, product, put_outcome, put_source, source_of as source_meant, refusal_of, given_of, rows_put}
 use Rattle.sql_meaning.specs.Steps.{Effect, Done, Left, Fails}
-use Rattle.sql_meaning.specs.World.{Context, State, context, environment_at, rows_at}
+use Rattle.sql_meaning.specs.World.{Context, State, context, environment_at, rows_at, seen}
 use Rattle.vm_code.specs.Machine.{ending_by, World as Lists, IsSound, Shared}
 use Rattle.bind_stmt.specs.Binds.{IsFrom, IsQueryAs, marks_in}
-use Rattle.bound_ignored.specs.Erased.{erased}
-use Rattle.sql_meaning.proofs.ErasedValues.{items_at-erased, items_at-erased_one}
+use Rattle.bound_ignored.specs.Erased.{ItemMarks, erased}
+use Rattle.sql_meaning.proofs.ErasedValues.{items_at-erased, items_at-erased_one, null-reads, seen-reads}
+use Rattle.sql_meaning.proofs.RowidPlaces.{HasPlace}
 use Rattle.bind_stmt.specs.declared.statement.DroppedTable.{DroppedTable}
 use Rattle.eng_entry.specs.Entries.{Entries}
 use Rattle.engine.specs.Held.{state_of}
@@ -51,13 +53,13 @@ bad_sides (Bad causes ∷ items) =
 
 -- ---- the product of one item, and the lists of tables
 
--- a row of a single item is an environment's only row; where columns of it are ignored, it is as if they read NULL
-one_item : (f g : List ItemRow → List Item) (places : List (Option ℕ)) → ((row : ItemRow) → f (ignoring places row ∷ []) ≡ g (row ∷ [])) → (rows : List StoredRow)
-    → flat_map f (flat_map (λ r. (r ∷ []) ∷ []) (map (λ r. ignoring places (table_row r)) rows)) ≡ flat_map g (map (λ r. table_row r ∷ []) rows)
-one_item f g places same [] = refl
-one_item f g places same (r ∷ rows) =
-    ap (λ items. items ++ flat_map f (flat_map (λ r. (r ∷ []) ∷ []) (map (λ r. ignoring places (table_row r)) rows))) (same (table_row r))
-    ∙ ap (λ items. g (table_row r ∷ []) ++ items) (one_item f g places same rows)
+-- a row of a single item is an environment's only row, as it is seen
+one_item : (f g : List ItemRow → List Item) (as_seen : StoredRow → ItemRow) (P : StoredRow → Type 0) → ((r : StoredRow) → P r → f (as_seen r ∷ []) ≡ g (table_row r ∷ [])) → (rows : List StoredRow) → All P rows
+    → flat_map f (flat_map (λ r. (r ∷ []) ∷ []) (map as_seen rows)) ≡ flat_map g (map (λ r. table_row r ∷ []) rows)
+one_item f g as_seen P same [] all = refl
+one_item f g as_seen P same (r ∷ rows) all =
+    ap (λ items. items ++ flat_map f (flat_map (λ r. (r ∷ []) ∷ []) (map as_seen rows))) (same r (All-head P r rows all))
+    ∙ ap (λ items. g (table_row r ∷ []) ++ items) (one_item f g as_seen P same rows (All-tail P r rows all))
 
 -- the run of a query ends as the query is refused
 pub query_ended : (state : State) (items : List Item) → ending_by (refusal_of items) ≡ ended_by (query_outcome state items).refusal
@@ -79,22 +81,29 @@ module _ (hosts : HostMeanings) (entries : Entries) (lists : Lists) (changes : �
 
   -- ---- SELECT
 
-  -- the items of a FROM are those of the rows of its table, with NULL in place of what is ignored
-  from_same : (conjuncts results : List BoundExpr) (from : List FromItem) (number : Option ℕ) → IsFrom from number
+  -- each row of an item's table has a place for the column that is the rowid
+  abbrev pub HavePlaces : FromItem → Type 0
+  HavePlaces i = All (HasPlace i.table.rowid) (rows_at lists i.table.number)
+
+  -- the items of a FROM are those of the rows of its table, with NULL in place of what is ignored and the rowid in place of the column that is it
+  from_same : (conjuncts results : List BoundExpr) (from : List FromItem) (number : Option ℕ) → IsFrom from number → All HavePlaces from
       → flat_map (λ rows. items_at conjuncts results (environment_at ctx rows)) (product ctx from [])
       ≡ flat_map (λ rows. items_at (map (erased (marks_in from)) conjuncts) (map (erased (marks_in from)) results) (environment around [] [] rows)) (rows_in number lists)
-  from_same conjuncts results [] None at = ap (λ items. items ++ []) (sym (items_at-erased [] (environment around [] [] []) [] (λ item. refl) conjuncts results refl))
-  from_same conjuncts results (i ∷ []) (Some number) at =
+  from_same conjuncts results [] None at places =
+      ap (λ items. items ++ []) (sym (items_at-erased [] (environment around [] [] []) [] (λ item. null-reads) conjuncts results refl))
+  from_same conjuncts results (i ∷ []) (Some number) at places =
+      let k : ItemMarks = record { ignored = i.ignored; rowid = i.table.rowid } in
+      let as_seen : StoredRow → ItemRow = λ r. ignoring i.ignored (table_row (seen i.table.rowid r)) in
       rw at (one_item (λ rows. items_at conjuncts results (environment_at ctx rows))
-      (λ rows. items_at (map (erased (i.ignored ∷ [])) conjuncts) (map (erased (i.ignored ∷ [])) results) (environment around [] [] rows)) i.ignored
-      (λ row. sym (items_at-erased_one i.ignored row (environment around [] [] []) conjuncts results)) (rows_at lists i.table.number))
-  from_same conjuncts results [] (Some number) at = absurd at
-  from_same conjuncts results (i ∷ []) None at = absurd at
-  from_same conjuncts results (i ∷ j ∷ from) None at = absurd at
-  from_same conjuncts results (i ∷ j ∷ from) (Some number) at = absurd at
+      (λ rows. items_at (map (erased (k ∷ [])) conjuncts) (map (erased (k ∷ [])) results) (environment around [] [] rows)) as_seen (HasPlace i.table.rowid)
+      (λ r place. sym (items_at-erased_one k (table_row r) (as_seen r) (environment around [] [] []) conjuncts results (seen-reads i.ignored i.table.rowid r place))) (rows_at lists i.table.number) (All-head HavePlaces i [] places))
+  from_same conjuncts results [] (Some number) at places = absurd at
+  from_same conjuncts results (i ∷ []) None at places = absurd at
+  from_same conjuncts results (i ∷ j ∷ from) None at places = absurd at
+  from_same conjuncts results (i ∷ j ∷ from) (Some number) at places = absurd at
 
-  pub query_same : (q : Query) (b : BoundSelect) → IsQueryAs q b → query_outcome state (items_of ctx q) ≡ query_outcome_in hosts entries lists changes last params b
-  query_same q b at = rw (at.conjuncts, at.results) (ap (query_outcome state) (from_same q.conjuncts q.results q.from b.table at.from))
+  pub query_same : (q : Query) (b : BoundSelect) → IsQueryAs q b → All HavePlaces q.from → query_outcome state (items_of ctx q) ≡ query_outcome_in hosts entries lists changes last params b
+  query_same q b at places = rw (at.conjuncts, at.results) (ap (query_outcome state) (from_same q.conjuncts q.results q.from b.table at.from places))
 
   -- ---- INSERT
 

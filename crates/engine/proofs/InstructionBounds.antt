@@ -31,6 +31,7 @@ use Rattle.sql_meaning.specs.declared.bound.BoundInsert.{BoundInsert}
 use Rattle.sql_meaning.specs.declared.bound.BoundSelect.{BoundSelect}
 use Rattle.sql_meaning.specs.declared.bound.PutColumn.{PutColumn}
 use Rattle.sql_meaning.specs.declared.column.Column.{Column}
+use Rattle.sql_meaning.proofs.ConstraintLaws.{IsSpelled, text-spelled}
 use Rattle.sql_meaning.proofs.DoneLaws.{given_each}
 use Rattle.sql_meaning.proofs.StoringLaws.{IsInto, StoresAs}
 use Rattle.sql_meaning.proofs.ValidLaws.{FitsIn, text-fits}
@@ -38,9 +39,9 @@ use Rattle.sql_meaning.specs.Declarations.{tables_of}
 use Rattle.sql_meaning.specs.Valid.{IsWorld}
 use Rattle.sql_meaning.specs.Runnables.{Runnable, Creates, DoesNothing, Drops, FromItem, Put, Puts, Queries, Query, Shows}
 use Rattle.sql_meaning.specs.Permits.{Asking}
-use Rattle.sql_meaning.specs.Statement.{Item, Row, Failed, causes_of, given_of, refusal_of, source_of, text_bound}
+use Rattle.sql_meaning.specs.Statement.{Item, causes_of, given_of, refusal_of, source_of, text_bound}
 use Rattle.sql_meaning.specs.Work.{bound_where, bound_within, from_size, from_work, opened_size, repeated_size, source_work, work_of}
-use Rattle.sql_meaning.specs.World.{Context, context, rows_at}
+use Rattle.sql_meaning.specs.World.{Context, context, rows_at, seen}
 use Rattle.vm_code.specs.Machine.{World as Lists}
 use Rattle.engine.specs.Held.{state_of, world_in}
 use Rattle.engine.specs.Outcomes.{steps_in, surroundings_in}
@@ -142,7 +143,7 @@ module _ (asked : Asking) (hosts : HostMeanings) (entries : Entries) (lists : Li
   -- so many rows are read as the item has
   rows_same : (i : FromItem) (number : ℕ) → IsFrom (i ∷ []) (Some number) → from_work ctx (i ∷ []) ≡ 1 + rows_seen (Some number) lists
   rows_same i number at =
-      let many = length-map (rows_at lists i.table.number) (λ (r : StoredRow). ignoring i.ignored (table_row r)) in
+      let many = length-map (rows_at lists i.table.number) (λ (r : StoredRow). ignoring i.ignored (table_row (seen i.table.rowid r))) in
       let rows = ap (λ k. length (rows_at lists k)) at in
       omega (arith, many, rows)
 
@@ -176,12 +177,12 @@ module _ (asked : Asking) (hosts : HostMeanings) (entries : Entries) (lists : Li
 
   -- ---- an INSERT
 
-  put_few : (p : Put) → IsInto p.table p.insert → AreFew tokens p.insert.rows
+  put_few : (p : Put) → IsInto p.table p.insert → IsSpelled (Puts p) → AreFew tokens p.insert.rows
       → put_steps p.insert around ≤ 256 * (tokens + opened_size (Puts p) + 0) * (1 + source_work (causes_of (source_of ctx p)) (given_of (source_of ctx p)) + 1)
-  put_few p into few =
+  put_few p into spelled few =
       let b = p.insert in
       let items = source_of ctx p in
-      let each : row_bound b ≤ 256 * (tokens + opened_size (Puts p) + 0) = omega (arith, defaults_nodes b.columns, checks_few b.checks, widths p.table.columns b.columns into.columns, few.nodes) in
+      let each : row_bound b ≤ 256 * (tokens + opened_size (Puts p) + 0) = omega (arith, defaults_nodes b.columns, checks_few b.checks, widths p.table.columns b.columns into.columns, spelled, few.nodes) in
       let read : 3 * sum_by all_nodes b.rows + 3 * length b.rows + 4 ≤ 256 * (tokens + opened_size (Puts p) + 0) = omega (arith, rows_nodes b.rows, few.nodes) in
       let same : source_work (causes_of items) (given_of items) ≡ turns_of (refusal_of items) (length b.rows) = turns_same items ∙ ap (turns_of (refusal_of items)) (length-map b.rows _) in
       let steps : put_steps b around ≤ 3 * sum_by all_nodes b.rows + 3 * length b.rows + turns_of (refusal_of items) (length b.rows) * row_bound b + 4 = puts_few b around in
@@ -189,47 +190,47 @@ module _ (asked : Asking) (hosts : HostMeanings) (entries : Entries) (lists : Li
 
   -- ---- any statement
 
-  few_for : (x : Runnable) (r : Ready) → 1 ≤ tokens → FitsIn (tables_of entries) (length lists) x → IsBound x (bound_in r) → IsSmall tokens x → steps_in around r ≤ 256 * (tokens + opened_size x + repeated_size tokens x) * (work_of ctx x + 1)
-  few_for (Creates e) (ready.Create n) some fits at small = within_size 2 tokens 0 0 0 (omega (arith, small))
-  few_for (Creates e) (ready.Drop d) some fits at small = absurd at
-  few_for (Creates e) (ready.Insert b) some fits at small = absurd at
-  few_for (Creates e) (ready.Select b) some fits at small = absurd at
-  few_for (Creates e) (ready.Values b) some fits at small = absurd at
-  few_for (Creates e) ready.Nothing some fits at small = absurd at
-  few_for (Drops t) (ready.Create n) some fits at small = absurd at
-  few_for (Drops t) (ready.Drop d) some fits at small = within_size 2 tokens 0 0 0 (omega (arith, small))
-  few_for (Drops t) (ready.Insert b) some fits at small = absurd at
-  few_for (Drops t) (ready.Select b) some fits at small = absurd at
-  few_for (Drops t) (ready.Values b) some fits at small = absurd at
-  few_for (Drops t) ready.Nothing some fits at small = absurd at
-  few_for (Puts p) (ready.Create n) some fits at small = absurd at
-  few_for (Puts p) (ready.Drop d) some fits at small = absurd at
-  few_for (Puts p) (ready.Insert b) some fits at small =
-      subst (λ (c : BoundInsert). put_steps c around ≤ 256 * (tokens + opened_size (Puts p) + 0) * (work_of ctx (Puts p) + 1)) (sym at) (put_few p fits.into small)
-  few_for (Puts p) (ready.Select b) some fits at small = absurd at
-  few_for (Puts p) (ready.Values b) some fits at small = absurd at
-  few_for (Puts p) ready.Nothing some fits at small = absurd at
-  few_for (Queries q) (ready.Create n) some fits at small = absurd at
-  few_for (Queries q) (ready.Drop d) some fits at small = absurd at
-  few_for (Queries q) (ready.Insert b) some fits at small = absurd at
-  few_for (Queries q) (ready.Select b) some fits at small = query_few q b q.from b.table refl refl (marks_in q.from) at.conjuncts at.results at.from small
-  few_for (Queries q) (ready.Values b) some fits at small = absurd at
-  few_for (Queries q) ready.Nothing some fits at small = absurd at
-  few_for (Shows rows) (ready.Create n) some fits at small = absurd at
-  few_for (Shows rows) (ready.Drop d) some fits at small = absurd at
-  few_for (Shows rows) (ready.Insert b) some fits at small = absurd at
-  few_for (Shows rows) (ready.Select b) some fits at small = absurd at
-  few_for (Shows rows) (ready.Values b) some fits at small =
+  few_for : (x : Runnable) (r : Ready) → 1 ≤ tokens → FitsIn (tables_of entries) (length lists) x → IsSpelled x → IsBound x (bound_in r) → IsSmall tokens x → steps_in around r ≤ 256 * (tokens + opened_size x + repeated_size tokens x) * (work_of ctx x + 1)
+  few_for (Creates e) (ready.Create n) some fits spelled at small = within_size 2 tokens 0 0 0 (omega (arith, small))
+  few_for (Creates e) (ready.Drop d) some fits spelled at small = absurd at
+  few_for (Creates e) (ready.Insert b) some fits spelled at small = absurd at
+  few_for (Creates e) (ready.Select b) some fits spelled at small = absurd at
+  few_for (Creates e) (ready.Values b) some fits spelled at small = absurd at
+  few_for (Creates e) ready.Nothing some fits spelled at small = absurd at
+  few_for (Drops t) (ready.Create n) some fits spelled at small = absurd at
+  few_for (Drops t) (ready.Drop d) some fits spelled at small = within_size 2 tokens 0 0 0 (omega (arith, small))
+  few_for (Drops t) (ready.Insert b) some fits spelled at small = absurd at
+  few_for (Drops t) (ready.Select b) some fits spelled at small = absurd at
+  few_for (Drops t) (ready.Values b) some fits spelled at small = absurd at
+  few_for (Drops t) ready.Nothing some fits spelled at small = absurd at
+  few_for (Puts p) (ready.Create n) some fits spelled at small = absurd at
+  few_for (Puts p) (ready.Drop d) some fits spelled at small = absurd at
+  few_for (Puts p) (ready.Insert b) some fits spelled at small =
+      subst (λ (c : BoundInsert). put_steps c around ≤ 256 * (tokens + opened_size (Puts p) + 0) * (work_of ctx (Puts p) + 1)) (sym at) (put_few p fits.into spelled small)
+  few_for (Puts p) (ready.Select b) some fits spelled at small = absurd at
+  few_for (Puts p) (ready.Values b) some fits spelled at small = absurd at
+  few_for (Puts p) ready.Nothing some fits spelled at small = absurd at
+  few_for (Queries q) (ready.Create n) some fits spelled at small = absurd at
+  few_for (Queries q) (ready.Drop d) some fits spelled at small = absurd at
+  few_for (Queries q) (ready.Insert b) some fits spelled at small = absurd at
+  few_for (Queries q) (ready.Select b) some fits spelled at small = query_few q b q.from b.table refl refl (marks_in q.from) at.conjuncts at.results at.from small
+  few_for (Queries q) (ready.Values b) some fits spelled at small = absurd at
+  few_for (Queries q) ready.Nothing some fits spelled at small = absurd at
+  few_for (Shows rows) (ready.Create n) some fits spelled at small = absurd at
+  few_for (Shows rows) (ready.Drop d) some fits spelled at small = absurd at
+  few_for (Shows rows) (ready.Insert b) some fits spelled at small = absurd at
+  few_for (Shows rows) (ready.Select b) some fits spelled at small = absurd at
+  few_for (Shows rows) (ready.Values b) some fits spelled at small =
       let few : rows_size b ≤ 2 * tokens = subst (λ r. rows_size r ≤ 2 * tokens) (sym at) small in
       within_size (values_steps b around) tokens 0 0 1 (omega (arith, values-few b around, rows_nodes b, few, some))
-  few_for (Shows rows) ready.Nothing some fits at small = absurd at
-  few_for DoesNothing (ready.Create n) some fits at small = absurd at
-  few_for DoesNothing (ready.Drop d) some fits at small = absurd at
-  few_for DoesNothing (ready.Insert b) some fits at small = absurd at
-  few_for DoesNothing (ready.Select b) some fits at small = absurd at
-  few_for DoesNothing (ready.Values b) some fits at small = absurd at
-  few_for DoesNothing ready.Nothing some fits at small = within_size 1 tokens 0 0 0 (omega (arith, small))
+  few_for (Shows rows) ready.Nothing some fits spelled at small = absurd at
+  few_for DoesNothing (ready.Create n) some fits spelled at small = absurd at
+  few_for DoesNothing (ready.Drop d) some fits spelled at small = absurd at
+  few_for DoesNothing (ready.Insert b) some fits spelled at small = absurd at
+  few_for DoesNothing (ready.Select b) some fits spelled at small = absurd at
+  few_for DoesNothing (ready.Values b) some fits spelled at small = absurd at
+  few_for DoesNothing ready.Nothing some fits spelled at small = within_size 1 tokens 0 0 0 (omega (arith, small))
 
   -- what is ready runs within what its text may run
   pub runs_within : (x : Runnable) (r : Ready) → text_bound asked (world_in entries lists) text ≡ Ok x → IsBound x (bound_in r) → IsSmall tokens x → steps_in around r ≤ bound_where asked ctx text
-  runs_within x r is at small = rw (ap (bound_within ctx tokens) is) (few_for x r (has_tokens asked (world_in entries lists) text x is) (text-fits asked (world_in entries lists) text x is) at small)
+  runs_within x r is at small = rw (ap (bound_within ctx tokens) is) (few_for x r (has_tokens asked (world_in entries lists) text x is) (text-fits asked (world_in entries lists) text x is) (text-spelled asked (world_in entries lists) text x valid is) at small)

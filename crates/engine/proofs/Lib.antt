@@ -17,3 +17,4 @@ pub mod NoTokens
 pub mod Places
 pub mod InstructionBounds
 pub mod Saying
+pub mod PlainCauses

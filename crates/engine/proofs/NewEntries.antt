@@ -1,5 +1,5 @@
 -- The entry of a table that is created is the one that the definition creates, and declares the table.
-use Rattle.std.proofs.Common.{◌≡◌, ℕ, List, length, Some, is_some, Result, Ok, Err, sym, ap, ◌∙◌}
+use Rattle.std.proofs.Common.{◌≡◌, ℕ, List, length, Option, Some, is_some, Result, Ok, Err, sym, ap, ◌∙◌}
 use Rattle.std.specs.Option.{option_map}
 use Rattle.bind_stmt.specs.Binds.{BindsTo, IsBound}
 use Rattle.bind_stmt.specs.Small.{IsSmall}
@@ -31,7 +31,7 @@ use Rattle.bound_tree.specs.declared.writes.BoundWrite.{BoundWrite}
 use Rattle.sql_bound.specs.Statements.{bound_of}
 use Rattle.sql_meaning.proofs.ValidLaws.{if_built-ok, same-ok, then-ok}
 use Rattle.sql_meaning.specs.Built.{is_built}
-use Rattle.sql_meaning.specs.Declarations.{columns_created, table_called, table_with, tables_of}
+use Rattle.sql_meaning.specs.Declarations.{columns_created, rowid_created, table_called, table_with, tables_of}
 use Rattle.sql_meaning.specs.Runnables.{Creates, DoesNothing, Drops, FromItem, Put, Puts, Queries, Runnable, Shows}
 use Rattle.sql_meaning.specs.Running.{command_of, creation_of, entry_with, first_part, found_table, from_of, is_plain_core, part_of, put_into, put_of, query_of, removal_of, runnable_of, table_of_source}
 use Rattle.bound_tree.specs.declared.statements.BoundStatement.{BoundStatement}
@@ -115,17 +115,19 @@ module _ (size : ℕ) (asked : Asking) (catalog : Entries) (number : ℕ) (text 
 
   -- the table with its entry
   pub create-readies : (new : NewTable) (n : NewEntry) → BindsTo size meant (Ok (bound.CreateTable new)) → n.entry ≡ entry_with number text new.name s
-      → n.table ≡ record { name = new.name; columns = new.columns; number = number; tokens = length (tokens_of text) } → Readies size meant (Ok (ready.Create n))
+      → n.table ≡ record { name = new.name; columns = new.columns; rowid = new.rowid; number = number; tokens = length (tokens_of text) } → Readies size meant (Ok (ready.Create n))
   create-readies new n binds entry table = by binds.0 binds.1 binds.2 binds.3
     where
       by : (x : Runnable) → meant ≡ Ok x → IsBound x (bound.CreateTable new) → IsSmall size x → Readies size meant (Ok (ready.Create n))
       by (Creates e) is at small =
           let own = statement-entry asked catalog number text s e is in
           let same : n.entry ≡ e = entry ∙ ap (λ name. entry_with number text name s) at.0 ∙ sym own in
-          let declared : table_with e new.columns ≡ n.table = ap (λ (x : Entry). table_with x new.columns) own ∙ ap (λ name. table_with (entry_with number text name s) new.columns) (sym at.0) ∙ sym table in
+          let rowid : rowid_created text s.command ≡ new.rowid = ap (λ (x : Entry). rowid_created x.text x.def.command) (sym own) ∙ sym at.2 in
+          let declared : table_with e new.columns ≡ n.table = ap (λ (x : Entry). table_with x new.columns) own ∙ ap (λ name. table_with (entry_with number text name s) new.columns) (sym at.0) ∙ ap (λ (r : Option ℕ). record { name = new.name; columns = new.columns; rowid = r; number = number; tokens = length (tokens_of text) }) rowid ∙ sym table in
           let named : n.table.name ≡ e.name = ap (λ (t : TableEntry). t.name) table ∙ at.0 in
           let columns : columns_created e.text e.def.command ≡ Some n.table.columns = at.1 ∙ ap (λ (t : TableEntry). Some t.columns) (sym table) in
-          (Creates e, is, (named, columns), small, (same, ap (option_map (table_with e)) at.1 ∙ ap Some declared))
+          let column : n.table.rowid ≡ rowid_created e.text e.def.command = ap (λ (t : TableEntry). t.rowid) table ∙ at.2 in
+          (Creates e, is, (named, columns, column), small, (same, ap (option_map (table_with e)) at.1 ∙ ap Some declared))
       by (Drops t) is at small = absurd at
       by (Puts p) is at small = absurd at
       by (Queries q) is at small = absurd at

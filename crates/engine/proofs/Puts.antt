@@ -1,6 +1,5 @@
 -- The rows of an INSERT come to their places, one after another, as the definition puts them.
 use Rattle.std.proofs.Common.{◌≡◌, ℕ, ◌<◌, ◌+◌, List, [], ◌∷◌, Bool, true, false, ◌&&◌, not, length, Some, None, Result, Ok, Err, int_lt, if◌then◌else◌, slice_set, refl, sym, ap, ◌∙◌, subst, lt-ltb}
-use Rattle.std.specs.Bool.{⊤}
 use Rattle.std.proofs.lemmas.List.{length-set}
 use Rattle.eng_value.specs.Causes.{CauseSet}
 use Rattle.eng_value.specs.Environments.{Environment}

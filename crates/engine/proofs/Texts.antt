@@ -1,5 +1,5 @@
 -- What a text means whose statement is ready to run: the outcome of what is ready, where tables go by their numbers.
-use Rattle.std.proofs.Common.{◌≡◌, ◌<◌, ◌-◌, inl, inr, ℕ, cond, List, [], ◌∷◌, ℤ, length, Option, Some, None, Ok, Err, All, refl, subst, sym, ap, ◌∙◌}
+use Rattle.std.proofs.Common.{◌≡◌, ◌<◌, ◌-◌, inl, inr, ℕ, cond, List, [], ◌∷◌, ℤ, length, Option, Some, None, Ok, Err, All, slice_index_or, refl, subst, sym, ap, ◌∙◌}
 use Rattle.bind_stmt.specs.Binds.{IsBound, IsRefusal}
 use Rattle.eng_entry.specs.Entries.{Entries, entry_named}
 use Rattle.eng_entry.specs.declared.entry.Entry.{Entry}
@@ -7,6 +7,7 @@ use Rattle.eng_value.specs.HostMeanings.{HostMeanings}
 use Rattle.eng_value.specs.declared.cause.Cause.{Cause}
 use Rattle.eng_value.specs.declared.value.Value.{Value}
 use Rattle.sql_meaning.proofs.TableLaws.{IsElse, found-all, none-named}
+use Rattle.sql_meaning.proofs.RowidPlaces.{found-places}
 use Rattle.sql_meaning.proofs.ValidLaws.{FitsIn, text-fits}
 use Rattle.sql_meaning.specs.Runnables.{Runnable, Creates, DoesNothing, Drops, Puts, Queries, Shows}
 use Rattle.sql_meaning.specs.Declarations.{table_of, tables_of}
@@ -90,7 +91,7 @@ module _ (asked : Asking) (hosts : HostMeanings) (entries : Entries) (lists : Li
   bound_stands (Queries q) (ready.Create n) sound fits at has = absurd at
   bound_stands (Queries q) (ready.Drop d) sound fits at has = absurd at
   bound_stands (Queries q) (ready.Insert b) sound fits at has = absurd at
-  bound_stands (Queries q) (ready.Select b) sound fits at has = stands_same _ _ (query_same hosts entries lists changes last params q b at)
+  bound_stands (Queries q) (ready.Select b) sound fits at has = stands_same _ _ (query_same hosts entries lists changes last params q b at (λ k d within. found-places (world_in entries lists) (slice_index_or q.from k d).table valid (fits k d within)))
   bound_stands (Queries q) (ready.Values b) sound fits at has = absurd at
   bound_stands (Queries q) ready.Nothing sound fits at has = absurd at
   bound_stands (Shows rows) (ready.Create n) sound fits at has = absurd at

@@ -8,3 +8,4 @@ pub mod Causes
 pub mod Connected
 pub mod Prepared
 pub mod Outcomes
+pub mod Uncounted

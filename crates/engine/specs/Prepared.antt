@@ -31,7 +31,7 @@ StandsIn len before (failure.TooMuch limit at) = ⊤
 
 -- what was bound
 abbrev pub bound_in : Ready → Bound
-bound_in (ready.Create n) = bound.CreateTable (record { name = n.table.name; columns = n.table.columns })
+bound_in (ready.Create n) = bound.CreateTable (record { name = n.table.name; columns = n.table.columns; rowid = n.table.rowid })
 bound_in (ready.Drop d) = bound.DropTable d
 bound_in (ready.Insert b) = bound.Insert b
 bound_in (ready.Select q) = bound.Select q

@@ -1,13 +1,12 @@
 // A connection.
-ghost use Rattle.std.specs.Prelude.{◌≡◌, ◌≤◌, ◌+◌, ◌-◌, map, None, Some, OnOk, OnErr, IfOk, IfErr};
+ghost use Rattle.std.specs.Prelude.{◌≡◌, ◌≤◌, ◌+◌, ◌-◌, map, slice_set, None, Some, OnOk, OnErr, IfOk, IfErr};
 ghost use Rattle.eng_value.specs.declared.cause.Cause.TheVariants.{Mem};
 ghost use Rattle.engine.specs.Causes.{GivesCounted, GivesFront, IsCause, WhereTold};
-ghost use Rattle.std.specs.Option.{option_map};
+ghost use Rattle.std.specs.Option.{option_copied};
 ghost use Rattle.sql_meaning.specs.Declarations.{table_called};
-ghost use Rattle.sql_meaning.specs.declared.column.TableEntry.{TableEntry as Declared};
 ghost use Rattle.host_traits.specs.Faults.{Rose};
 ghost use Rattle.sql_meaning.specs.Valid.{IsValid};
-ghost use Rattle.sql_meaning.specs.World.{is_in_transaction, new_state, rows_at, table_rows, with_rowid};
+ghost use Rattle.sql_meaning.specs.World.{is_in_transaction, new_state, rows_at, seen, table_rows, with_rowid};
 ghost use Rattle.vm_core.specs.Meant.{meant};
 
 use crate::answers::{Done, Refusal};
@@ -125,16 +124,16 @@ impl Connection {
         }
     }
 
-    /// The rows of a table by ascending rowid, each with its rowid in front, or None where there is no table of this name. The
-    /// only refusal is want of memory.
+    /// The rows of a table by ascending rowid, each with its rowid in front, or None where there is no table of this name. A column that is
+    /// the rowid shows it. The only refusal is want of memory.
     pub fn table(&self, alloc: Global, name: &str) -> Result<Option<Rows>, Refusal>
         ensures table { IfOk result (λ found. found ≡ table_rows self.now.state name.now) }
         ensures memory { IfErr result (λ r. r.cause ≡ Mem) }
     {
-        let Some(number) = number_named(self.database.schema.tables(), name) else {
+        let Some(table) = table_named(self.database.schema.tables(), name) else {
             return Ok(None);
         };
-        match numbered(alloc, &self.database.tables, number as usize) {
+        match rows_seen(alloc, &self.database.tables, table) {
             Ok(rows) => Ok(Some(rows)),
             Err(_) => Err(Refusal { cause: Cause::Mem }),
         }
@@ -163,36 +162,58 @@ impl Connection {
     }
 }
 
-/// The number of the table of this name.
-fn number_named(tables: &[TableEntry], name: &str) -> Option<u32>
-    ensures { result ≡ option_map (λ (t : Declared). t.number) (table_called tables.now name.now) }
+/// The table of this name.
+fn table_named<'a>(tables: &'a [TableEntry], name: &str) -> Option<&'a TableEntry>
+    ensures { option_copied result ≡ table_called tables.now name.now }
 {
-    let table = tables
+    tables
         .iter()
-        .find(|t| is_same_name(t.name.as_bytes(), name.as_bytes()))?;
-    Some(table.number)
+        .find(|t| is_same_name(t.name.as_bytes(), name.as_bytes()))
 }
 
-/// The rows of a table with their rowids in front.
-fn numbered(alloc: Global, tables: &Tables, table: usize) -> Result<Rows, AllocError>
-    ensures { IfOk result (λ found. found ≡ map with_rowid (rows_at tables.now.world table)) }
+/// The rows of a table as they are seen, with their rowids in front.
+fn rows_seen(alloc: Global, tables: &Tables, table: &TableEntry) -> Result<Rows, AllocError>
+    ensures { IfOk result (λ found. found ≡ map (λ r. with_rowid (seen table.now.rowid r)) (rows_at tables.now.world table.now.number)) }
 {
-    let rows = tables.rows(alloc, table)?;
+    let rows = tables.rows(alloc, table.number as usize)?;
     let mut found = Rows::empty(alloc);
     for row in &rows {
-        found.push(with_rowid(alloc, row)?)?;
+        found.push(row_seen(alloc, row, table.rowid)?)?;
     }
     Ok(found)
 }
 
-/// A row with its rowid in front.
-fn with_rowid(alloc: Global, row: &StoredRow) -> Result<Row, AllocError>
-    ensures { IfOk result (λ values. values ≡ with_rowid row.now) }
+/// A row as it is seen, with its rowid in front: that stands in the column that is the rowid, too.
+fn row_seen(alloc: Global, row: &StoredRow, column: Option<u32>) -> Result<Row, AllocError>
+    ensures { IfOk result (λ values. values ≡ with_rowid (seen column row.now)) }
 {
-    let mut values = Row::empty(alloc);
+    let mut values = with_rowid(alloc, row)?;
+    match column {
+        None => Ok(Row::new(values)),
+        Some(place) => {
+            put_at(&mut values, place as usize + 1, Value::Integer(row.rowid()));
+            Ok(Row::new(values))
+        }
+    }
+}
+
+/// The values of a row with its rowid in front.
+fn with_rowid(alloc: Global, row: &StoredRow) -> Result<Vec<Value>, AllocError>
+    ensures { IfOk result (λ values. values.items ≡ with_rowid row.now) }
+{
+    let mut values = Vec::new(alloc);
     values.push(Value::Integer(row.rowid()))?;
     for value in row.values() {
         values.push(value.clone()?)?;
     }
     Ok(values)
+}
+
+/// Puts a value in a place, where there is one.
+fn put_at(values: &mut Vec<Value>, place: usize, value: Value)
+    ensures { values.new.items ≡ slice_set values.old.items place value }
+{
+    if place < values.len() {
+        values[place] = value;
+    }
 }

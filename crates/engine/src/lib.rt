@@ -6,13 +6,18 @@
 mod answers;
 mod connection;
 mod database;
+mod display;
 mod executing;
+mod kept_rows;
 mod preparing;
 mod row_sink;
 mod running;
 mod schema;
+mod uncounted;
+mod unkept_rows;
 
 pub use answers::{Done, Refusal};
 pub use connection::Connection;
+pub use kept_rows::KeptRows;
 pub use row_sink::{RowSink, Took};
 pub use vm_core::Hosts;

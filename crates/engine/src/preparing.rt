@@ -165,10 +165,14 @@ fn new_entry(
     statement: Statement,
 ) -> Result<NewEntry, Cause>
     ensures entry { IfOk result (λ n. n.entry ≡ entry_with number body.now new.name statement) }
-    ensures table { IfOk result (λ n. n.table ≡ record { name = new.name; columns = new.columns; number = number; tokens = length (tokens_of body.now) }) }
+    ensures table { IfOk result (λ n. n.table ≡ record { name = new.name; columns = new.columns; rowid = new.rowid; number = number; tokens = length (tokens_of body.now) }) }
     ensures memory { IfErr result (λ why. why ≡ Mem) }
 {
-    let NewTable { name, columns } = new;
+    let NewTable {
+        name,
+        columns,
+        rowid,
+    } = new;
     let Ok(place) = u32::try_from(number) else {
         return Err(Cause::Mem);
     };
@@ -183,6 +187,7 @@ fn new_entry(
     let table = TableEntry {
         name,
         columns,
+        rowid,
         number: place,
         tokens: tokens(alloc, body)?.len(),
     };

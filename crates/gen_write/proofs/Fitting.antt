@@ -15,14 +15,15 @@ use Rattle.eng_value.specs.declared.out.Out.TheVariants.{Good, Bad}
 use Rattle.eng_value.specs.declared.value.Value.{Value}
 use Rattle.eng_value.specs.declared.value.Value.TheVariants as value
 use Rattle.gen_write.specs.Stretches.{first_broken}
-use Rattle.gen_write.specs.Writes.{columns_beside, row_effect, rowid_given}
+use Rattle.gen_write.specs.Writes.{columns_beside, is_within, row_effect, rowid_given}
 use Rattle.gen_write.proofs.Causing.{calm-good}
 use Rattle.gen_write.proofs.Checking.{checked-is, effect_by}
-use Rattle.sql_meaning.specs.Rows.{NewRow, at_row, checked, fitted, fixed, given_rowid, good_or_null, is_taken, lacks_value, new_by, new_row, rowid_beside, stored_for, unless_broken, with_rowid_in}
+use Rattle.sql_meaning.specs.Rows.{NewRow, at_row, checked, fitted, fixed, given_rowid, good_or_null, is_taken, lacks_value, new_by, new_row, rowid_beside, rowid_column, stored_for, unless_broken}
 use Rattle.sql_meaning.specs.Steps.{Effect, Step, Done, Fails, ◌then◌, done, settled}
 use Rattle.sql_meaning.specs.declared.bound.BoundInsert.{BoundInsert}
 use Rattle.sql_meaning.specs.declared.bound.RowidFrom.{RowidFrom}
 use Rattle.sql_meaning.specs.declared.bound.RowidFrom.TheVariants as rowid
+use Rattle.sql_meaning.specs.World.{seen, stored, with_column}
 use Rattle.vm_code.specs.Machine.{is_bad, rows_of, with_row}
 
 -- ---- the steps of a row
@@ -42,10 +43,13 @@ module _ (env : Environment) (b : BoundInsert) (source : List Value) (x : Writte
 
   module _ (new : NewRow) (made : new_row env b source ≡ Ok new) where
     abbrev pub row_with : ℤ → StoredRow
-    row_with n = record { rowid = n; values = with_rowid_in b.rowid n new.values }
+    row_with n = seen (rowid_column b.rowid) (record { rowid = n; values = new.values })
+
+    abbrev pub row_stored : ℤ → StoredRow
+    row_stored n = stored (rowid_column b.rowid) (row_with n)
 
     abbrev at_last : ℤ → Written → Step StoredRow
-    at_last n y = unless_broken (is_taken rows n) (Constraint constraint.Unique b.name) y then λ u y. Done (row_with n) y
+    at_last n y = unless_broken (is_taken rows n) (Constraint constraint.Unique b.name) y then λ u y. Done (row_stored n) y
 
     abbrev behind_nulls : ℤ → Written → Step StoredRow
     behind_nulls n y = checked b.name b.checks (at_row env (row_with n)) y then λ u y. at_last n y
@@ -88,12 +92,12 @@ module _ (env : Environment) (b : BoundInsert) (source : List Value) (x : Writte
         module _ (passes : first_broken b.name b.checks (at_row env (row_with n)) ≡ None) where
           abbrev by_taken : Bool → Effect
           by_taken t =
-              (unless_broken t (Constraint constraint.Unique b.name) x then λ u y. Done (row_with n) y) then λ row y. put row y
+              (unless_broken t (Constraint constraint.Unique b.name) x then λ u y. Done (row_stored n) y) then λ row y. put row y
 
           pub effect_taken : is_taken rows n ≡ true → row_effect env b source x ≡ Fails (only (Constraint constraint.Unique b.name)) x
           effect_taken e = check_is None passes ∙ ap by_taken e
 
-          pub effect_free : is_taken rows n ≡ false → row_effect env b source x ≡ done (with_row x b.table (row_with n))
+          pub effect_free : is_taken rows n ≡ false → row_effect env b source x ≡ done (with_row x b.table (row_stored n))
           effect_free e = check_is None passes ∙ ap by_taken e
 
 -- ---- a new row
@@ -133,9 +137,9 @@ module _ (from : RowidFrom) (outs beside : List Out) where
 
 -- nothing is given, or it stands among what is stored; the column that is the rowid then holds it
 pub data Stands (from : RowidFrom) (values beside : List Value) : Option ℕ → Type 0 where
-  Missing : given_rowid from beside values ≡ value.Null → ((n : ℤ) → with_rowid_in from n values ≡ values) → Stands from values beside None
-  Beside : (k : ℕ) → k ≡ length values → k < length values + length beside → given_rowid from beside values ≡ slice_index_or (values ++ beside) k value.Null → ((n : ℤ) → with_rowid_in from n values ≡ values) → Stands from values beside (Some k)
-  Within : (k : ℕ) → k < length values → given_rowid from beside values ≡ slice_index_or (values ++ beside) k value.Null → ((n : ℤ) → with_rowid_in from n values ≡ slice_set values k (value.Integer n)) → Stands from values beside (Some k)
+  Missing : given_rowid from beside values ≡ value.Null → ((n : ℤ) → with_column (rowid_column from) (value.Integer n) values ≡ values) → Stands from values beside None
+  Beside : (k : ℕ) → k ≡ length values → k < length values + length beside → given_rowid from beside values ≡ slice_index_or (values ++ beside) k value.Null → ((n : ℤ) → with_column (rowid_column from) (value.Integer n) values ≡ values) → Stands from values beside (Some k)
+  Within : (k : ℕ) → k < length values → given_rowid from beside values ≡ slice_index_or (values ++ beside) k value.Null → ((n : ℤ) → with_column (rowid_column from) (value.Integer n) values ≡ slice_set values k (value.Integer n)) → Stands from values beside (Some k)
 
 pub stands : (from : RowidFrom) (values beside : List Value) (width : ℕ) → width ≡ length values → length beside ≡ length (columns_beside from) → Stands from values beside (rowid_given from width)
 stands rowid.Drawn values beside width wide long = Missing refl (λ n. refl)
@@ -146,3 +150,17 @@ stands (rowid.Column place) values beside width wide long = by (nat_lt place wid
     by : (b : Bool) → nat_lt place width ≡ b → Stands (rowid.Column place) values beside (if b then Some place else None)
     by true e = let lt : place < width = ltb-true place width e in Within place (omega arith) (sym (get_or_append_left values beside value.Null place (omega arith))) (λ n. refl)
     by false e = let le : width ≤ place = ltb-false place width e in Missing (get_or_past values place value.Null (omega arith)) (λ n. set_past values place (value.Integer n) (omega arith))
+
+-- what is stored of a row: all of it, or NULL in place of its rowid that stands among the columns
+pub data Storing (from : RowidFrom) (width : ℕ) (o : Option ℕ) : Bool → Type 0 where
+  Apart : ((v : Value) (values : List Value) → length values ≡ width → with_column (rowid_column from) v values ≡ values) → Storing from width o false
+  Once : (k : ℕ) → k < width → o ≡ Some k → rowid_column from ≡ Some k → Storing from width o true
+
+pub storing : (from : RowidFrom) (width : ℕ) → Storing from width (rowid_given from width) (is_within from width)
+storing rowid.Drawn width = Apart (λ v values wide. refl)
+storing (rowid.Given place) width = Apart (λ v values wide. refl)
+storing (rowid.Column place) width = by (nat_lt place width) refl
+  where
+    by : (b : Bool) → nat_lt place width ≡ b → Storing (rowid.Column place) width (if b then Some place else None) b
+    by true e = Once place (ltb-true place width e) refl refl
+    by false e = let le : width ≤ place = ltb-false place width e in Apart (λ v values wide. set_past values place v (omega (arith, le, wide)))

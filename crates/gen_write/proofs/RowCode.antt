@@ -17,20 +17,21 @@ use Rattle.eng_value.specs.declared.out.Out.TheVariants.{Good}
 use Rattle.eng_value.specs.declared.value.Value.{Value}
 use Rattle.eng_value.specs.declared.value.Value.TheVariants.{Integer, Null, Text, Blob}
 use Rattle.bound_tree.specs.Exprs.{BoundExpr}
-use Rattle.gen_write.specs.Stretches.{AreHeld, AreKept, ChecksRow, Puts, SameBut, SteadyAt, Stores, first_broken, rowid_register, scene_on, seen_from, with_nulls_refused, with_row_tested, with_rowid_fixed, with_taken_tested}
-use Rattle.gen_write.specs.Writes.{Course, checks_steps, column_steps, columns_beside, course_of, failed, finished, null_steps, row_effect, row_put, row_steps, rowid_given, rowid_steps}
+use Rattle.gen_write.specs.Stretches.{AreHeld, AreKept, ChecksRow, Puts, SameBut, SteadyAt, Stores, first_broken, rowid_register, scene_on, seen_from, with_nulls_refused, with_row_put, with_row_tested, with_rowid_fixed, with_taken_tested}
+use Rattle.gen_write.specs.Writes.{Course, checks_steps, column_steps, columns_beside, course_of, failed, finished, insert_steps, is_within, null_steps, row_effect, row_put, row_steps, rowid_given, rowid_steps}
 use Rattle.gen_write.specs.declared.source.Kept.{Kept}
 use Rattle.gen_write.proofs.Causing.{calm-good}
-use Rattle.gen_write.proofs.Checking.{first_broken-same, t_passes}
+use Rattle.gen_write.proofs.Checking.{checks_row_next, first_broken-same, t_passes}
 use Rattle.gen_write.proofs.Columns.{stored-append, stored-long, t_stores}
-use Rattle.gen_write.proofs.Fitting.{Stands, Missing, Beside, Within, beside-is, beside-long, effect_bad, effect_broken, effect_free, effect_null, effect_taken, effect_unfixed, new-bad, new-good, new_of, stands}
+use Rattle.gen_write.proofs.Fitting.{Stands, Missing, Beside, Within, Storing, Apart, Once, beside-is, beside-long, effect_bad, effect_broken, effect_free, effect_null, effect_taken, effect_unfixed, new-bad, new-good, new_of, stands, storing}
 use Rattle.gen_write.proofs.Fresh.{next_rowid-free}
 use Rattle.gen_write.proofs.Opens.{at_none, at_of, at_standing, at_then}
 use Rattle.gen_write.proofs.Refusals.{grows_refused, steady_refused, t_refused}
 use Rattle.gen_write.proofs.RowRuns.{HasFailed, HasRun, IsSetAt, puts_of}
 use Rattle.gen_write.proofs.Testing.{grows_nulls, grows_taken, grows_tested, same_nulls, steady_nulls, steady_taken, steady_tested, t_draws, t_nulls, t_taken, t_tested}
 use Rattle.gen_write.proofs.Views.{scene_at, sees-none, sees-row, stored-same}
-use Rattle.sql_meaning.specs.Rows.{NewRow, at_row, drawn, fixed, given_rowid, good_or_null, is_taken, lacks_value, new_row, rowid_beside, stored_for, with_rowid_in}
+use Rattle.sql_meaning.specs.Rows.{NewRow, at_row, drawn, fixed, given_rowid, good_or_null, is_taken, lacks_value, new_row, rowid_beside, rowid_column, stored_for}
+use Rattle.sql_meaning.specs.World.{seen, stored as stored_of, with_column}
 use Rattle.sql_meaning.specs.Steps.{Step, Done, Fails}
 use Rattle.sql_meaning.specs.declared.bound.BoundInsert.{BoundInsert}
 use Rattle.sql_meaning.specs.declared.bound.PutColumn.{PutColumn}
@@ -47,10 +48,10 @@ use Rattle.vm_code.proofs.Drafts.{g_op, g_released, g_taken, grows_none, grows_t
 use Rattle.vm_code.proofs.Kept.{ordered_rows}
 use Rattle.vm_code.proofs.Loops.{moved, t_move}
 use Rattle.vm_code.proofs.NewRows.{t_row_of}
-use Rattle.vm_code.proofs.Tracks.{st_inner, st_none, st_released, st_taken, st_then, st_use}
+use Rattle.vm_code.proofs.Tracks.{st_inner, st_none, st_op, st_released, st_taken, st_then, st_use}
 use Rattle.vm_code.proofs.Registers.{outs_same, values_outs}
 use Rattle.vm_code.proofs.Triples.{no_labels, t_seq, t_use, t_more, t_draft, t_op}
-use Rattle.vm_code.proofs.Effects.{But, but_none, but_regs}
+use Rattle.vm_code.proofs.Effects.{But, but_none, but_regs, t_put}
 
 -- ---- registers
 
@@ -148,10 +149,9 @@ steps-both : (o : Option ℕ) → fix_steps o + taken_steps o ≡ rowid_steps o
 steps-both None = refl
 steps-both (Some k) = refl
 
-with_rowid-long : (from : RowidFrom) (n : ℤ) (values : List Value) → length (with_rowid_in from n values) ≡ length values
-with_rowid-long rowid.Drawn n values = refl
-with_rowid-long (rowid.Given place) n values = refl
-with_rowid-long (rowid.Column place) n values = length-set values place (Integer n)
+with_column-long : (column : Option ℕ) (v : Value) (values : List Value) → length (with_column column v values) ≡ length values
+with_column-long None v values = refl
+with_column-long (Some place) v values = length-set values place v
 
 stands-within : {from : RowidFrom} {values beside : List Value} {k : ℕ} → Stands from values beside (Some k) → k < length values + length beside
 stands-within (Beside k is lt e same) = lt
@@ -163,7 +163,7 @@ stands-is (Within k lt e same) = e
 
 -- ---- the code
 
-module _ (calls : Calls) (a y c : Draft) (may : Bool) (o : Option ℕ) (causes : ℕ) (insert : BoundInsert) (row : List Kept) (below : causes < a.next) (cursors_are : a.cursors ≡ 2) where
+module _ (calls : Calls) (a y c : Draft) (may : Bool) (o : Option ℕ) (within : Bool) (causes : ℕ) (insert : BoundInsert) (row : List Kept) (below : causes < a.next) (cursors_are : a.cursors ≡ 2) where
   abbrev first : ℕ
   first = a.next
 
@@ -195,12 +195,19 @@ module _ (calls : Calls) (a y c : Draft) (may : Bool) (o : Option ℕ) (causes :
   finding = with_taken_tested o c name rid causes
 
   abbrev putting : Draft
-  putting = with_op finding (op.Insert 1 rid first width)
+  putting = with_row_put within finding rid first width
+
+  -- where the rowid stands among the columns
+  abbrev copying : Draft
+  copying = with_op (taken finding) (op.Copy rid finding.next)
+
+  abbrev clearing : Draft
+  clearing = with_op copying (op.Null rid)
 
   abbrev pub row_code : Draft
   row_code = released putting first
 
-  module _ (sy : Stores calls a y causes row all_columns) (held : may ≡ false → AreHeld row all_columns) (checks : ChecksRow calls nulling c name insert.checks rid first width) (placed : (values beside : List Value) → width ≡ length values → length beside ≡ length (columns_beside insert.rowid) → Stands insert.rowid values beside o) where
+  module _ (sy : Stores calls a y causes row all_columns) (held : may ≡ false → AreHeld row all_columns) (checks : ChecksRow calls nulling c name insert.checks rid first width) (placed : (values beside : List Value) → width ≡ length values → length beside ≡ length (columns_beside insert.rowid) → Stands insert.rowid values beside o) (keeping : Storing insert.rowid width o within) where
     -- ---- how drafts grow
 
     abbrev uses : List ℕ
@@ -242,6 +249,16 @@ module _ (calls : Calls) (a y c : Draft) (may : Bool) (o : Option ℕ) (causes :
     steady_taking None = st_none uses [] c
     steady_taking (Some k) = steady_taken c name rid causes
 
+    grows_putting : (b : Bool) → Grows finding (with_row_put b finding rid first width)
+    grows_putting false = g_op finding (op.Insert 1 rid first width)
+    grows_putting true =
+        grows_then (g_taken finding) (grows_then (g_op (taken finding) (op.Copy rid finding.next)) (grows_then (g_op copying (op.Null rid)) (g_op clearing (op.Insert 1 finding.next first width))))
+
+    steady_putting : (b : Bool) → Steady uses [] finding (with_row_put b finding rid first width)
+    steady_putting false = st_use uses [] finding (op.Insert 1 rid first width) 1 refl refl (0, omega arith, refl)
+    steady_putting true =
+        st_then (g_taken finding) (st_taken uses [] finding) (st_then (g_op (taken finding) (op.Copy rid finding.next)) (st_op uses [] (taken finding) (op.Copy rid finding.next) (refl, refl)) (st_then (g_op copying (op.Null rid)) (st_op uses [] copying (op.Null rid) (refl, refl)) (st_use uses [] clearing (op.Insert 1 finding.next first width) 1 refl refl (0, omega arith, refl))))
+
     grows_checking : (l : List BoundExpr) → ChecksRow calls nulling c name l rid first width → Grows nulling c
     grows_checking [] e = subst (Grows nulling) (sym e) (grows_none nulling)
     grows_checking (k ∷ ks) x =
@@ -261,11 +278,11 @@ module _ (calls : Calls) (a y c : Draft) (may : Bool) (o : Option ℕ) (causes :
 
     grows_row : Grows a row_code
     grows_row =
-        grows_then grows_to_nulling (grows_then (grows_checking insert.checks checks) (grows_then (grows_taking o) (grows_then (g_op finding (op.Insert 1 rid first width)) (g_released putting first))))
+        grows_then grows_to_nulling (grows_then (grows_checking insert.checks checks) (grows_then (grows_taking o) (grows_then (grows_putting within) (g_released putting first))))
 
     steady_row : SteadyAt uses a row_code
     steady_row =
-        at_then (at_of uses used (st_inner uses [] sy.steady)) (at_then (at_of uses used (steady_refusing may)) (at_then (at_of uses used (steady_fixing o)) (at_then (at_of uses used (steady_nulls uses fixing insert.columns name first causes)) (at_then (steady_checking insert.checks checks) (at_then (at_of uses used (steady_taking o)) (at_then (at_of uses used (st_use uses [] finding (op.Insert 1 rid first width) 1 refl refl (0, omega arith, refl))) (at_of uses used (st_released uses [] putting first))))))))
+        at_then (at_of uses used (st_inner uses [] sy.steady)) (at_then (at_of uses used (steady_refusing may)) (at_then (at_of uses used (steady_fixing o)) (at_then (at_of uses used (steady_nulls uses fixing insert.columns name first causes)) (at_then (steady_checking insert.checks checks) (at_then (at_of uses used (steady_taking o)) (at_then (at_of uses used (steady_putting within)) (at_of uses used (st_released uses [] putting first))))))))
 
     -- what is taken of registers
     wide_y : refused.next ≡ first + (width + length (columns_beside insert.rowid))
@@ -304,7 +321,10 @@ module _ (calls : Calls) (a y c : Draft) (may : Bool) (o : Option ℕ) (causes :
       new = new_of insert.rowid outs beside
 
       abbrev row_of : ℤ → StoredRow
-      row_of n = record { rowid = n; values = with_rowid_in insert.rowid n values }
+      row_of n = seen (rowid_column insert.rowid) (record { rowid = n; values = values })
+
+      abbrev kept_row : ℤ → StoredRow
+      kept_row n = stored_of (rowid_column insert.rowid) (row_of n)
 
       abbrev rows : Here → List StoredRow
       rows h0 = rows_of (world_of h0.shared) table
@@ -490,7 +510,7 @@ module _ (calls : Calls) (a y c : Draft) (may : Bool) (o : Option ℕ) (causes :
         stored_row = row_of n
 
         long_values : length stored_row.values ≡ width
-        long_values = with_rowid-long insert.rowid n values ∙ sym wide_values
+        long_values = with_column-long (rowid_column insert.rowid) (Integer n) values ∙ sym wide_values
 
         nulls : Triple m fixing nulling (λ h0. sum_by null_steps insert.columns) no_labels last (has_row rid n) (known n)
         nulls = t_nulls m fixing insert.columns name first causes last (has_row rid n) (known n) stored_row.values long_values causes_there (λ h0 h pre. pre.3) (λ h0 h pre e. (pre, e)) (λ h0 h pre e.
@@ -581,44 +601,97 @@ module _ (calls : Calls) (a y c : Draft) (may : Bool) (o : Option ℕ) (causes :
 
         -- ---- the row is put
 
-        abbrev with_put : Here → Here
-        with_put h =
-            record h { shared = record h.shared { written = inserted (cursor_at h.scene.cursors 1) h.shared.written (row_in h.regs rid first width) } }
+        -- all is known of a row whose rowid is in a register, and whose values, as they are stored, are in others
+        abbrev ready : ℕ → Claim
+        ready r h0 h =
+            Based h0 h × (row_in h.regs r first width ≡ kept_row n) × (read h.regs causes ≡ no_causes)
+            × (course h0.shared ≡ finished (record h0.shared { written = with_row h0.shared.written table (kept_row n) }))
 
-        puts : Triple m finding putting (λ h0. 1) no_labels last (free n) done
-        puts = t_op m finding (op.Insert 1 rid first width) with_put no_labels last (free n) done (λ at s. refl) (λ h. (refl, refl)) (λ h0 h most wide pre.
+        comes : (h0 h : Here) → free n h0 h → course h0.shared ≡ finished (record h0.shared { written = with_row h0.shared.written table (kept_row n) })
+        comes h0 h pre =
             let row = pre.0.0.0 in
-            let base = row.0 in
-            let none : is_taken (rows h0) n ≡ false = ap is_some pre.1 in
-            let effect = effect_free env insert kept_values (x0 h0) new (made row.5) n row.1 pre.0.0.1 pre.0.1 none in
-            let now : (with_put h).shared ≡ record h0.shared { written = with_row h0.shared.written table stored_row } = ap (λ k. record h.shared { written = inserted k h.shared.written (row_in h.regs rid first width) }) (opened h0 h base) ∙ ap (λ (x : Shared). record x { written = with_row x.written table (row_in h.regs rid first width) }) base.0.shared ∙ ap (λ r. record h0.shared { written = with_row h0.shared.written table r }) (row_is h0 h row) in
+            ap (course_of h0.shared) (effect_free env insert kept_values (x0 h0) new (made row.5) n row.1 pre.0.0.1 pre.0.1 (ap is_some pre.1))
+
+        abbrev with_put : ℕ → Here → Here
+        with_put r h =
+            record h { shared = record h.shared { written = inserted (cursor_at h.scene.cursors 1) h.shared.written (row_in h.regs r first width) } }
+
+        inserts : (d : Draft) (r : ℕ) → Triple m d (with_op d (op.Insert 1 r first width)) (λ h0. 1) no_labels last (ready r) done
+        inserts d r = t_op m d (op.Insert 1 r first width) (with_put r) no_labels last (ready r) done (λ at s. refl) (λ h. (refl, refl)) (λ h0 h most wide pre.
+            let base = pre.0 in
+            let now : (with_put r h).shared ≡ record h0.shared { written = with_row h0.shared.written table (kept_row n) } = ap (λ k. record h.shared { written = inserted k h.shared.written (row_in h.regs r first width) }) (opened h0 h base) ∙ ap (λ (x : Shared). record x { written = with_row x.written table (row_in h.regs r first width) }) base.0.shared ∙ ap (λ r. record h0.shared { written = with_row h0.shared.written table r }) pre.1 in
             record {
               regs = base.0.regs;
-              calm = row.4;
+              calm = pre.2;
               scene = base.0.scene;
               store = base.0.store;
-              is = ap (course_of h0.shared) effect ∙ ap finished (sym now);
+              is = pre.3 ∙ ap finished (sym now);
             })
 
+        next_finding : nulling.next ≡ finding.next
+        next_finding = sym (by o ∙ checks_row_next calls nulling c name insert.checks rid first width checks)
+          where
+            by : (o : Option ℕ) → (with_taken_tested o c name rid causes).next ≡ c.next
+            by None = refl
+            by (Some k) = refl
+
+        -- the rowid has been copied
+        abbrev copied : Claim
+        copied h0 h = free n h0 h × (read h.regs finding.next ≡ Good (Integer n))
+
+        -- the values with NULL in place of the rowid
+        cleared : (k : ℕ) (h0 h : Here) (regs : List Out) → rid ≡ first + k → rowid_column insert.rowid ≡ Some k → copied h0 h → read regs rid ≡ Good Null → ((j : ℕ) → j ≢ rid → read regs j ≡ read h.regs j) → row_in regs finding.next first width ≡ kept_row n
+        cleared k h0 h regs at column pre is same =
+            let row = pre.0.0.0.0 in
+            let apart : finding.next ≢ rid = λ e. omega (arith, e, rid_below, next_finding) in
+            let number : integer_in regs finding.next ≡ n = ap (λ v. integer_of (machine.good_or_null v)) (same finding.next apart ∙ pre.1) in
+            let outs_now : outs_from regs first width ≡ map Good (slice_set stored_row.values k Null) = outs_set h.regs regs width first k (Good Null) (ap (read regs) (sym at) ∙ is) (λ j ne. same j (λ e. ne (e ∙ at))) ∙ ap (λ l. slice_set l k (Good Null)) row.3 ∙ sym (map-set Good stored_row.values k Null) in
+            let values_now : values_from regs first width ≡ (kept_row n).values = values_outs regs width first ∙ ap (map machine.good_or_null) outs_now ∙ good_or_null-same (slice_set stored_row.values k Null) ∙ ap (λ o. with_column o Null stored_row.values) (sym column) in
+            ap (λ k. record { rowid = k; values = values_from regs first width }) number
+            ∙ ap (λ vs. record { rowid = n; values = vs }) values_now
+
+        puts : (b : Bool) → Storing insert.rowid width o b → Triple m finding (with_row_put b finding rid first width) (λ h0. insert_steps b) no_labels last (free n) done
+        puts false (Apart same) =
+            let whole : stored_row ≡ kept_row n = ap (λ vs. record { rowid = n; values = vs }) (sym (same Null stored_row.values long_values)) in
+            t_use (free n) done (λ h0 h pre. (pre.0.0.0.0, row_is h0 h pre.0.0.0 ∙ whole, pre.0.0.0.4, comes h0 h pre)) (λ h0 h post. post) (inserts finding rid)
+        puts true (Once k lt at column) =
+            let r = finding.next in
+            let place : rid ≡ first + k = ap (λ p. rowid_register p first refused.next) at in
+            let take = t_draft m no_labels last (free n) (g_taken finding) refl in
+            let copy = t_put m (taken finding) (op.Copy rid r) r (λ h. read h.regs rid) no_labels last (free n) copied (omega arith) (λ at s. refl) (λ h0 h regs pre long is same. (
+              ((known_regs h0 h regs (λ j low. same j (omega (arith, low, next_finding))) pre.0.0, pre.0.1), pre.1),
+              is ∙ pre.0.0.0.2,
+            )) in
+            let clear = t_put m copying (op.Null rid) rid (λ h. Good Null) no_labels last copied (ready r) (omega (arith, rid_below, next_finding)) (λ at s. refl) (λ h0 h regs pre long is same.
+            let row = pre.0.0.0.0 in (
+              based_regs h0 h regs (λ j low ne. same j (omega (arith, low, place))) row.0,
+              cleared k h0 h regs place column pre is same,
+              same causes (omega (arith, below, place)) ∙ row.4,
+              comes h0 h pre.0,
+            )) in
+            t_more (λ h0. 3) (λ h0. omega arith) (t_seq take (t_seq copy (t_seq clear (inserts clearing r))))
+
         abbrev behind_steps : ℕ
-        behind_steps = sum_by null_steps insert.columns + checks_steps insert.checks + taken_steps o + 1
+        behind_steps = sum_by null_steps insert.columns + checks_steps insert.checks + taken_steps o + insert_steps within
 
         behind : calls m → Triple m fixing putting (λ h0. behind_steps) no_labels last (has_row rid n) done
-        behind called = t_more (λ h0. behind_steps) (λ h0. omega arith) (t_seq (t_seq (t_seq nulls (checked called insert.checks refl checks)) (takes o stands_o refl)) puts)
+        behind called = t_more (λ h0. behind_steps) (λ h0. omega arith) (t_seq (t_seq (t_seq nulls (checked called insert.checks refl checks)) (takes o stands_o refl)) (puts within keeping))
 
-      whole : calls m → (rowid_steps o ≡ rowid_steps (rowid_given insert.rowid width)) → Triple m a row_code (λ h0. row_steps insert) no_labels last begun done
-      whole called steps_are =
+      whole : calls m → (rowid_steps o ≡ rowid_steps (rowid_given insert.rowid width)) → (insert_steps within ≡ insert_steps (is_within insert.rowid width)) → Triple m a row_code (λ h0. row_steps insert) no_labels last begun done
+      whole called steps_are puts_are =
           let front = t_seq (t_seq (stores called) (tests may (λ e. inr e))) (fixes o stands_o) in
           let rest = t_some (has_row rid) (λ n. behind n called) in
           let back = t_draft m no_labels last done (g_released putting first) refl in
-          t_more (λ h0. row_steps insert) (λ h0. omega (arith, steps_are, steps-both o, sum_by-append column_steps insert.columns (columns_beside insert.rowid))) (t_seq (t_seq front rest) back)
+          t_more (λ h0. row_steps insert) (λ h0. omega (arith, steps_are, puts_are, steps-both o, sum_by-append column_steps insert.columns (columns_beside insert.rowid))) (t_seq (t_seq front rest) back)
 
 pub row-puts : {calls : Calls} (a y c : Draft) (may : Bool) (causes : ℕ) (insert : BoundInsert) (row : List Kept) → causes < a.next → a.cursors ≡ 2 → Stores calls a y causes row (insert.columns ++ columns_beside insert.rowid) → (may ≡ false → AreHeld row (insert.columns ++ columns_beside insert.rowid)) → let o = rowid_given insert.rowid (length insert.columns) in let refused = with_row_tested may y causes in let rid = rowid_register o a.next refused.next in ChecksRow calls (with_nulls_refused (with_rowid_fixed o refused a.next insert.name) insert.columns insert.name a.next causes) c insert.name insert.checks rid a.next (length insert.columns)
-    → Puts calls a (released (with_op (with_taken_tested o c insert.name rid causes) (op.Insert 1 rid a.next (length insert.columns))) a.next) insert.table causes (AreKept causes a.next row) (λ env. row_put env insert) (row_steps insert)
+    → Puts calls a (released (with_row_put (is_within insert.rowid (length insert.columns)) (with_taken_tested o c insert.name rid causes) rid a.next (length insert.columns)) a.next) insert.table causes (AreKept causes a.next row) (λ env. row_put env insert) (row_steps insert)
 row-puts {calls} a y c may causes insert row below cursors_are sy held checks =
     let o = rowid_given insert.rowid (length insert.columns) in
+    let within = is_within insert.rowid (length insert.columns) in
+    let keeping = storing insert.rowid (length insert.columns) in
     let placed = λ (values beside : List Value) (wide : length insert.columns ≡ length values) (long : length beside ≡ length (columns_beside insert.rowid)). stands insert.rowid values beside (length insert.columns) wide long in
-    puts_of insert.table causes (AreKept causes a.next row) (λ env. row_put env insert) (λ m w x. begun calls a y c may o causes insert row below cursors_are sy held checks placed m w x) (grows_row calls a y c may o causes insert row below cursors_are sy held checks placed) refl (steady_row calls a y c may o causes insert row below cursors_are sy held checks placed) (λ m w x s sound set kept_now. ((but_none a.next causes (here s), record { scene = set.scene; args = set.args; calm = set.calm }, sound), set.calm, kept_now)) (λ m called w x. whole calls a y c may o causes insert row below cursors_are sy held checks placed m w x called refl)
+    puts_of insert.table causes (AreKept causes a.next row) (λ env. row_put env insert) (λ m w x. begun calls a y c may o within causes insert row below cursors_are sy held checks placed keeping m w x) (grows_row calls a y c may o within causes insert row below cursors_are sy held checks placed keeping) refl (steady_row calls a y c may o within causes insert row below cursors_are sy held checks placed keeping) (λ m w x s sound set kept_now. ((but_none a.next causes (here s), record { scene = set.scene; args = set.args; calm = set.calm }, sound), set.calm, kept_now)) (λ m called w x. whole calls a y c may o within causes insert row below cursors_are sy held checks placed keeping m w x called refl refl)
 
 -- ---- registers and cursors along it
 
@@ -640,11 +713,15 @@ pub taken-keeps : (c : Draft) (o : Option ℕ) (name : List ℕ) (rid causes : �
 taken-keeps c None _ r causes = (refl, refl)
 taken-keeps c (Some k) _ r causes = (refl, refl)
 
+pub put-keeps : (d : Draft) (within : Bool) (rid first count : ℕ) → let p = with_row_put within d rid first count in (p.cursors ≡ d.cursors) × (d.next ≤ p.next)
+put-keeps d false rid first count = (refl, omega arith)
+put-keeps d true rid first count = (refl, omega arith)
+
 pub row-counted : (y r f n : Draft) (may : Bool) (o : Option ℕ) (columns : List PutColumn) (name : List ℕ) (first causes : ℕ) → r ≡ with_row_tested may y causes → f ≡ with_rowid_fixed o r first name → n ≡ with_nulls_refused f columns name first causes → (n.cursors ≡ y.cursors) × (y.next ≤ y.most → n.next ≤ n.most) × (y.next ≤ n.next)
 row-counted y r f n may o columns name first causes r_is f_is n_is = rw (n_is, f_is, r_is) (row-keeps y may o columns name first causes)
 
 -- by what the calls of the Builder made
-pub row-puts-as : {calls : Calls} (a y r f n c t d : Draft) (may : Bool) (given : Option ℕ) (rid first count causes : ℕ) (insert : BoundInsert) (row : List Kept) → first ≡ a.next → count ≡ length insert.columns → given ≡ rowid_given insert.rowid count → r ≡ with_row_tested may y causes → rid ≡ rowid_register given first r.next → f ≡ with_rowid_fixed given r first insert.name → n ≡ with_nulls_refused f insert.columns insert.name first causes → ChecksRow calls n c insert.name insert.checks rid first count → t ≡ with_taken_tested given c insert.name rid causes → d ≡ released (with_op t (op.Insert 1 rid first count)) first → causes < a.next → a.cursors ≡ 2 → Stores calls a y causes row (insert.columns ++ columns_beside insert.rowid) → (may ≡ false → AreHeld row (insert.columns ++ columns_beside insert.rowid)) → Puts calls a d insert.table causes (AreKept causes a.next row) (λ env. row_put env insert) (row_steps insert)
-row-puts-as a y r f n c t d may given rid first count causes insert row first_is count_is given_is r_is rid_is f_is n_is checks t_is d_is below cursors_are sy held =
+pub row-puts-as : {calls : Calls} (a y r f n c t d : Draft) (may within : Bool) (given : Option ℕ) (rid first count causes : ℕ) (insert : BoundInsert) (row : List Kept) → first ≡ a.next → count ≡ length insert.columns → given ≡ rowid_given insert.rowid count → within ≡ is_within insert.rowid count → r ≡ with_row_tested may y causes → rid ≡ rowid_register given first r.next → f ≡ with_rowid_fixed given r first insert.name → n ≡ with_nulls_refused f insert.columns insert.name first causes → ChecksRow calls n c insert.name insert.checks rid first count → t ≡ with_taken_tested given c insert.name rid causes → d ≡ released (with_row_put within t rid first count) first → causes < a.next → a.cursors ≡ 2 → Stores calls a y causes row (insert.columns ++ columns_beside insert.rowid) → (may ≡ false → AreHeld row (insert.columns ++ columns_beside insert.rowid)) → Puts calls a d insert.table causes (AreKept causes a.next row) (λ env. row_put env insert) (row_steps insert)
+row-puts-as a y r f n c t d may within given rid first count causes insert row first_is count_is given_is within_is r_is rid_is f_is n_is checks t_is d_is below cursors_are sy held =
     let checked = rw (n_is, f_is, rid_is, given_is, r_is, count_is, first_is) at checks in
-    rw (d_is, t_is, rid_is, given_is, r_is, count_is, first_is) (row-puts a y c may causes insert row below cursors_are sy held checked)
+    rw (d_is, t_is, within_is, rid_is, given_is, r_is, count_is, first_is) (row-puts a y c may causes insert row below cursors_are sy held checked)

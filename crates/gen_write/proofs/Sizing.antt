@@ -1,12 +1,12 @@
 -- How many instructions an INSERT takes by how large it is.
-use Rattle.std.proofs.Common.{◌≡◌, ℕ, zero, suc, ◌+◌, ◌*◌, ◌≤◌, ◌<◌, Bool, true, false, not, ◌&&◌, List, [], ◌∷◌, length, if◌then◌else◌, refl, ap, ◌∙◌, arith}
+use Rattle.std.proofs.Common.{◌≡◌, ℕ, zero, suc, ◌+◌, ◌*◌, ◌≤◌, ◌<◌, Bool, true, false, not, ◌&&◌, List, [], ◌∷◌, length, if◌then◌else◌, nat_lt, refl, ap, ◌∙◌, arith}
 use Rattle.std.specs.Prelude.{Option, Some, None, is_some, sum_by}
 use Rattle.std.specs.List.{list_all}
 use Rattle.std.proofs.Math.Nat.{mul-le-mul_left}
 use Rattle.std.proofs.lemmas.List.Sums.{sum_by-cons}
 use Rattle.gen_expr.specs.Steps.{steps_of}
 use Rattle.gen_expr.proofs.Bounds.{steps_and_two_within}
-use Rattle.gen_write.specs.Writes.{LiteralsTakeNoSteps, StepsAreFew, and_refused, check_steps, checks_steps, column_steps, columns_beside, default_nodes, is_bare, is_plain, nodes_within, null_steps, plain_literal, read_steps, row_bound, row_steps, rowid_given, rowid_steps, source_of, steps_unless, stored_steps, turns_of, value_steps}
+use Rattle.gen_write.specs.Writes.{LiteralsTakeNoSteps, StepsAreFew, and_refused, check_steps, checks_steps, column_steps, columns_beside, default_nodes, insert_steps, is_bare, is_plain, is_within, nodes_within, null_steps, plain_literal, read_steps, row_bound, row_steps, rowid_given, rowid_steps, source_of, steps_unless, stored_steps, turns_of, value_steps}
 use Rattle.bound_size.specs.Sizes.{all_nodes}
 use Rattle.bound_tree.specs.Exprs.{BoundExpr}
 use Rattle.sql_meaning.specs.Statement.{refusal_of}
@@ -56,11 +56,6 @@ columns-few [] = omega arith
 columns-few (c ∷ columns) =
     omega (arith, stored-few c.place c.default, columns-few columns, sum_by-cons column_steps c columns, sum_by-cons default_nodes c columns)
 
-beside-few : (from : RowidFrom) → sum_by column_steps (columns_beside from) ≤ 3
-beside-few rowid.Drawn = omega arith
-beside-few (rowid.Given place) = omega arith
-beside-few (rowid.Column place) = omega arith
-
 null-few : (b : Bool) → (if b then 3 else 0) ≤ 3
 null-few true = omega arith
 null-few false = omega arith
@@ -81,9 +76,19 @@ rowid-few : (given : Option ℕ) → rowid_steps given ≤ 7
 rowid-few None = omega arith
 rowid-few (Some place) = omega arith
 
+-- what is given beside the columns does not stand among them
+put-few : (from : RowidFrom) (width : ℕ) → sum_by column_steps (columns_beside from) + insert_steps (is_within from width) ≤ 4
+put-few rowid.Drawn width = omega arith
+put-few (rowid.Given place) width = omega arith
+put-few (rowid.Column place) width = omega (arith, by (nat_lt place width))
+  where
+    by : (b : Bool) → insert_steps b ≤ 4
+    by true = omega arith
+    by false = omega arith
+
 row-few : (b : BoundInsert) → row_steps b ≤ row_bound b
 row-few b =
-    omega (arith, columns-few b.columns, beside-few b.rowid, rowid-few (rowid_given b.rowid (length b.columns)), nulls-few b.columns, checks-few b.checks)
+    omega (arith, columns-few b.columns, put-few b.rowid (length b.columns), rowid-few (rowid_given b.rowid (length b.columns)), nulls-few b.columns, checks-few b.checks)
 
 pub steps-few : (b : BoundInsert) → StepsAreFew b
 steps-few b x =
@@ -135,7 +140,8 @@ row-bare b h none drawn =
     let beside : sum_by column_steps (columns_beside b.rowid) ≡ 0 = ap (λ from. sum_by column_steps (columns_beside from)) drawn in
     let rowids : rowid_steps (rowid_given b.rowid (length b.columns)) ≡ 1 = ap (λ from. rowid_steps (rowid_given from (length b.columns))) drawn in
     let checks : checks_steps b.checks ≡ 0 = ap checks_steps none in
-    omega (arith, columns.0, columns.1, beside, rowids, checks)
+    let put : insert_steps (is_within b.rowid (length b.columns)) ≡ 1 = ap (λ from. insert_steps (is_within from (length b.columns))) drawn in
+    omega (arith, columns.0, columns.1, beside, rowids, checks, put)
 
 pub literals-none : (b : BoundInsert) → LiteralsTakeNoSteps b
 literals-none b h bare_columns none drawn x =

@@ -234,6 +234,11 @@ abbrev pub with_taken_tested : Option ℕ → Draft → List ℕ → ℕ → ℕ
 with_taken_tested None d name rowid causes = d
 with_taken_tested (Some place) d name rowid causes = with_taken_refused d name rowid causes
 
+-- the row that is in registers is put; where its rowid stands among the columns, another register takes that, and NULL is stored in its place
+abbrev pub with_row_put : Bool → Draft → ℕ → ℕ → ℕ → Draft
+with_row_put false d rowid first count = with_op d (op.Insert 1 rowid first count)
+with_row_put true d rowid first count = with_op (with_op (with_op (taken d) (op.Copy rowid d.next)) (op.Null rowid)) (op.Insert 1 d.next first count)
+
 -- the unit gives up where what a register holds is false, for that constraint, and where it is bad; two labels are there for that
 abbrev pub with_truth_refused : Draft → ℕ → ℕ → ℕ → List ℕ → Draft
 with_truth_refused d truth passed bad table =

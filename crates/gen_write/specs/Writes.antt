@@ -167,6 +167,12 @@ rowid_given rowid.Drawn width = None
 rowid_given (rowid.Given place) width = Some width
 rowid_given (rowid.Column place) width = if nat_lt place width then Some place else None
 
+-- the rowid stands among the columns
+abbrev pub is_within : RowidFrom → ℕ → Bool
+is_within rowid.Drawn width = false
+is_within (rowid.Given place) width = false
+is_within (rowid.Column place) width = nat_lt place width
+
 -- a rowid is drawn; one that is given is tested, or drawn where it is missing, and looked for among the rows
 abbrev pub rowid_steps : Option ℕ → ℕ
 rowid_steps None = 1
@@ -183,11 +189,16 @@ abbrev pub checks_steps : List BoundExpr → ℕ
 checks_steps [] = 0
 checks_steps (c ∷ checks) = sum_by check_steps (c ∷ checks) + 2
 
--- behind what is stored stand a test whether it is bad, which takes three, and the instruction that puts the row
+-- the row is put by one; a rowid that stands among the columns is copied before, and NULL comes in its place
+abbrev pub insert_steps : Bool → ℕ
+insert_steps false = 1
+insert_steps true = 3
+
+-- behind what is stored stands a test whether it is bad, which takes three
 abbrev pub row_steps : BoundInsert → ℕ
 row_steps b =
     sum_by column_steps b.columns + sum_by column_steps (columns_beside b.rowid) + 3 + rowid_steps (rowid_given b.rowid (length b.columns))
-    + sum_by null_steps b.columns + checks_steps b.checks + 1
+    + sum_by null_steps b.columns + checks_steps b.checks + insert_steps (is_within b.rowid (length b.columns))
 
 -- the rows that are put, which a bad row of the source leaves out
 abbrev pub turns_of : Option CauseSet → ℕ → ℕ

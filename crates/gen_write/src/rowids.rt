@@ -2,7 +2,7 @@
 ghost use Rattle.std.specs.Prelude.{◌≡◌, ◌+◌, IfOk, OnOk};
 ghost use Rattle.sql_meaning.specs.declared.bound.RowidFrom.TheVariants as rowid;
 ghost use Rattle.gen_write.specs.Stretches.{rowid_register, with_rowid_drawn, with_rowid_fixed, with_rowid_tested};
-ghost use Rattle.gen_write.specs.Writes.{rowid_given};
+ghost use Rattle.gen_write.specs.Writes.{is_within, rowid_given};
 
 use crate::rows::TABLE;
 use eng_value::Text;
@@ -25,6 +25,17 @@ fn within(place: u32, width: u32) -> Option<u32>
     ensures { result ≡ rowid_given (rowid.Column place) width }
 {
     if place < width { Some(place) } else { None }
+}
+
+/// Whether the rowid stands among so many columns.
+pub(crate) fn is_within(from: RowidFrom, width: u32) -> bool
+    ensures { result ≡ is_within from width }
+{
+    match from {
+        RowidFrom::Drawn => false,
+        RowidFrom::Given(_) => false,
+        RowidFrom::Column(place) => place < width,
+    }
 }
 
 /// The register at a place behind the first one. There are fewer than 2 ^ 32 of them.

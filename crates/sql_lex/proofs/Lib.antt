@@ -14,5 +14,6 @@ mod Signing
 mod Skipping
 mod Taking
 mod Widths
+pub mod FrontLaws
 pub mod FirstTokens
 pub mod TokenCuts

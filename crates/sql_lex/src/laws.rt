@@ -1,5 +1,6 @@
 // What holds of the ends of statements, of blanks and of tokens, whoever cuts a text. Nothing here runs: each contract is a law.
-ghost use Rattle.std.specs.Prelude.{◌≡◌, ℕ, ◌<◌, ◌≤◌, All, List, ◌++◌, length, Some};
+ghost use Rattle.std.specs.Prelude.{◌≡◌, ℕ, ◌<◌, ◌≤◌, All, List, [], ◌∷◌, ◌++◌, length, take, Some};
+ghost use Rattle.sql_tree.specs.declared.token.Token.{Token};
 ghost use Rattle.sql_tree.specs.declared.token.TokenKind.{TokenKind};
 ghost use Rattle.sql_lex.specs.Alone.{IsItself};
 ghost use Rattle.sql_lex.specs.Cutting.{blank_width, end_among, is_end, statement_end};
@@ -33,4 +34,9 @@ pub fn tokens_make_up_the_text()
 /// in a text the one behind the largest so far, or, behind 999, none.
 pub fn a_token_alone_is_itself()
     ensures { (text : List ℕ) → All (IsItself text) (tokens_of text) }
+{}
+
+/// A text that is cut behind one of its tokens has the tokens up to this one, and no others.
+pub fn a_cut_text_keeps_its_tokens()
+    ensures { (text : List ℕ) (front behind : List Token) (t : Token) → tokens_of text ≡ front ++ t ∷ behind → tokens_of (take t.span.end text) ≡ front ++ t ∷ [] }
 {}

@@ -26,7 +26,7 @@ mod words;
 pub use cutting::{blank_width, statement_end};
 pub use keywords::KEYWORDS;
 pub use laws::{
-    a_blank_stays, a_token_alone_is_itself, an_end_stays, the_end_is_the_first,
-    tokens_make_up_the_text,
+    a_blank_stays, a_cut_text_keeps_its_tokens, a_token_alone_is_itself, an_end_stays,
+    the_end_is_the_first, tokens_make_up_the_text,
 };
 pub use lexer::tokens;

@@ -42,9 +42,9 @@ use Rattle.sql_meaning.specs.Expression.{arms_of, chosen_in, first_known, litera
 use Rattle.sql_meaning.specs.Rows.{NewRow, at_row, checked, drawn, fitted, fixed, is_taken, lacks_value, new_by, new_row, or_default, passed, row_changed, row_put, rowid_beside, stored_for, unless_broken, value_for, with_row}
 use Rattle.sql_meaning.specs.Statement.{IsNamed, Item, Row, Failed, after_conjunct, begun, bound_for, bound_outcome, causes_of, closed, given_of, if_some, item_by, item_of, item_rows, items_at, items_of, outcome_of, product, put_source, refusal_of, rows_put, shown, shown_rows, sifted, source_of, text_outcome, with_others}
 use Rattle.sql_meaning.specs.Steps.{Step, Done, Left, Fails, Effect, ◌then◌, done, each, or_next, settled}
-use Rattle.sql_meaning.specs.World.{Context, State, environment_at, rows_at}
+use Rattle.sql_meaning.specs.World.{Context, State, environment_at, rows_at, seen}
 use Rattle.sql_meaning.proofs.CausedOperators.{AreCaused, IsCaused, IsCausedSet, IsCausedTruth, and_of-caused, bad-caused, binary_of-caused, choice_of-caused, comparison_of-caused, function_by-caused, good, like_escaped_of-caused, made-caused, member_of-caused, merged-caused, only-caused, or_else-caused, store_as-caused, truth_in-caused, truth_of-caused, turned-caused, unary_of-caused}
-use Rattle.sql_meaning.proofs.RowLaws.{placed, tested, with_rowid}
+use Rattle.sql_meaning.proofs.RowLaws.{kept, placed, tested, with_rowid}
 use Rattle.sql_meaning.proofs.StepLaws.{Gives, gives-each, gives-or_next, gives-then}
 
 -- ---- rows whose causes are causes
@@ -250,14 +250,14 @@ behind-caused : (rows : List ItemRow) (r : ItemRow) → RowsCaused rows → RowC
 behind-caused [] r c d = (d, tt)
 behind-caused (x ∷ rows) r c d = (c.0, behind-caused rows r c.1 d)
 
-table-caused : (ignored : List (Option ℕ)) (rows : List StoredRow) → RowsCaused (map (λ r. ignoring ignored (table_row r)) rows)
-table-caused ignored [] = tt
-table-caused ignored (r ∷ rows) = (ignoring-caused ignored (table_row r) (row-caused r), table-caused ignored rows)
+table-caused : (ignored : List (Option ℕ)) (column : Option ℕ) (rows : List StoredRow) → RowsCaused (map (λ r. ignoring ignored (table_row (seen column r))) rows)
+table-caused ignored column [] = tt
+table-caused ignored column (r ∷ rows) = (ignoring-caused ignored (table_row (seen column r)) (row-caused (seen column r)), table-caused ignored column rows)
 
 product-caused : (ctx : Context) (items : List FromItem) (rows : List ItemRow) → RowsCaused rows → EachCaused (product ctx items rows)
 product-caused ctx [] rows c = (c, tt)
 product-caused ctx (i ∷ items) rows c =
-    each-flat (λ r. product ctx items (rows ++ r ∷ [])) (item_rows ctx i) (table-caused i.ignored (rows_at ctx.state.world.tables i.table.number))
+    each-flat (λ r. product ctx items (rows ++ r ∷ [])) (item_rows ctx i) (table-caused i.ignored i.table.rowid (rows_at ctx.state.world.tables i.table.number))
     (λ r d. product-caused ctx items (rows ++ r ∷ []) (behind-caused rows r c d))
 
 items-told : (ctx : Context) (conjuncts results : List BoundExpr) (all : List (List ItemRow)) → EachCaused all → AreTold (flat_map (λ rows. items_at conjuncts results (environment_at ctx rows)) all)
@@ -375,7 +375,7 @@ tested-told env b rows r x =
     let lacks : Written → Effect = unless_broken (lacks_value b.columns r.values) (cause.Constraint constraint.NotNull b.name) in
     then-told (lacks x) (λ u y. checked b.name b.checks (at_row env r) y then λ v z. placed b rows r z) (unless_broken-told (lacks_value b.columns r.values) (cause.Constraint constraint.NotNull b.name) x)
     (λ u y. then-told (checked b.name b.checks (at_row env r) y) (λ v z. placed b rows r z) (checked-told b.name b.checks (at_row env r) y (row-caused r, tt))
-    (λ v z. then-told (taken z) (λ w z. Done r z) (unless_broken-told (is_taken rows r.rowid) (cause.Constraint constraint.Unique b.name) z) (λ w z. tt)))
+    (λ v z. then-told (taken z) (λ w z. Done (kept b r) z) (unless_broken-told (is_taken rows r.rowid) (cause.Constraint constraint.Unique b.name) z) (λ w z. tt)))
 
 fitted-told : (env : Environment) (b : BoundInsert) (rows : List StoredRow) (new : NewRow) (x : Written) → ToldStep (fitted env b rows new x)
 fitted-told env b rows new x =

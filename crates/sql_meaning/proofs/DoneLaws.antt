@@ -12,6 +12,7 @@ use Rattle.sql_meaning.specs.Runnables.{Runnable, Creates, Drops, Put, Puts, Que
 use Rattle.sql_meaning.specs.Declarations.{table_called, table_with}
 use Rattle.sql_meaning.specs.Effects.{AddsRows, AddsTable, AreAdded, DropsTable}
 use Rattle.sql_meaning.specs.Permits.{asked_by}
+use Rattle.sql_meaning.specs.Rows.{rowid_column}
 use Rattle.sql_meaning.specs.Statement.{Item, Outcome, Row, Failed, begun, bound_for, bound_outcome, causes_of, closed, given_of, outcome_of, put_outcome, put_source, rows_put, source_of, text_outcome, written}
 use Rattle.sql_meaning.specs.Steps.{Effect, Done, Left, Fails}
 use Rattle.sql_meaning.specs.Valid.{IsTable, IsValid}
@@ -33,11 +34,12 @@ given_each [] none = refl
 given_each (Row row ∷ items) none = ap suc (given_each items none)
 given_each (Failed causes ∷ items) none = absurd (cc)
 
-written-adds : (state : State) (env : Environment) (p : Put) (count : ℕ) (x : Written) → table_called (tables_in state) p.table.name ≡ Some p.table → IsTable state.world.tables p.table → PutsRows p.table env p.insert p.table.number (begun state) x count → AddsRows state env p count (written state x)
-written-adds state env p count x found held put =
+written-adds : (state : State) (env : Environment) (p : Put) (count : ℕ) (x : Written) → rowid_column p.insert.rowid ≡ p.table.rowid → table_called (tables_in state) p.table.name ≡ Some p.table → IsTable state.world.tables p.table → PutsRows p.table env p.insert p.table.number (begun state) x count → AddsRows state env p count (written state x)
+written-adds state env p count x column found held put =
     let number = p.table.number in
     record {
       found = found;
+      column = column;
       catalog = refl;
       others = λ other differs. ap (λ lists. rows_at lists other) put.world ∙ rows_at-set_other state.world.tables number other _ differs;
       new = put.new;
@@ -51,11 +53,11 @@ written-adds state env p count x found held put =
       last_rowid = put.last_rowid;
     }
 
-closed-adds : (state : State) (env : Environment) (p : Put) (count : ℕ) (s : Effect) → table_called (tables_in state) p.table.name ≡ Some p.table → IsTable state.world.tables p.table → Gives (λ u x. PutsRows p.table env p.insert p.table.number (begun state) x count) never anyhow s
+closed-adds : (state : State) (env : Environment) (p : Put) (count : ℕ) (s : Effect) → rowid_column p.insert.rowid ≡ p.table.rowid → table_called (tables_in state) p.table.name ≡ Some p.table → IsTable state.world.tables p.table → Gives (λ u x. PutsRows p.table env p.insert p.table.number (begun state) x count) never anyhow s
     → (closed state s).refusal ≡ None → AddsRows state env p count (closed state s)
-closed-adds state env p count (Done u x) found held put e = written-adds state env p count x found held put
-closed-adds state env p count (Left x) found held put e = absurd put
-closed-adds state env p count (Fails causes x) found held put e = absurd (let bad : Some (named causes) ≡ None = e in cc)
+closed-adds state env p count (Done u x) column found held put e = written-adds state env p count x column found held put
+closed-adds state env p count (Left x) column found held put e = absurd put
+closed-adds state env p count (Fails causes x) column found held put e = absurd (let bad : Some (named causes) ≡ None = e in cc)
 
 put_source-adds : (ctx : Context) (p : Put) (count : ℕ) (causes : Option CauseSet) (source : List (List Value)) → IsValid ctx.state → IsPut (tables_in ctx.state) p → (causes ≡ None → length source ≡ count)
     → (put_source ctx p causes source).refusal ≡ None → AddsRows ctx.state (environment_at ctx []) p count (put_source ctx p causes source)
@@ -64,7 +66,7 @@ put_source-adds ctx p count None source valid put many e =
     let env = environment_at ctx [] in
     let all = rows_put env p.insert source (begun ctx.state) in
     subst (λ n. AddsRows ctx.state env p n (closed ctx.state all)) (many refl)
-    (closed-adds ctx.state env p (length source) all put.found (found-rows ctx.state valid p.table put.found) (source_put ctx.state valid p env source put) e)
+    (closed-adds ctx.state env p (length source) all put.into.column put.found (found-rows ctx.state valid p.table put.found) (source_put ctx.state valid p env source put) e)
 
 put-adds : (ctx : Context) (p : Put) → IsValid ctx.state → IsPut (tables_in ctx.state) p → (put_outcome ctx p).refusal ≡ None → AddsRows ctx.state (environment_at ctx []) p (length p.insert.rows) (put_outcome ctx p)
 put-adds ctx p valid put e =

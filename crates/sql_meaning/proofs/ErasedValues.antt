@@ -1,23 +1,27 @@
--- An expression with NULL in place of what is ignored comes to what the expression itself comes to over rows that read NULL there.
-use Rattle.std.proofs.Common.{◌≡◌, ℕ, zero, suc, Bool, true, false, ◌||◌, List, [], ◌∷◌, Option, Some, None, map, refl, sym, ap, ◌∙◌}
+-- An expression as it reads rows that are stored, with NULL in place of what is ignored and the rowid in place of the column that is it, comes
+-- over them to what the expression itself comes to over the rows as they are seen.
+use Rattle.std.proofs.Common.{◌≡◌, ◌<◌, length, subst, ℕ, zero, suc, Bool, true, false, ◌||◌, List, [], ◌∷◌, Option, Some, None, map, refl, sym, ap, ◌∙◌}
 use Rattle.std.specs.List.{list_any}
 use Rattle.std.specs.Option.{option_map, option_to_list}
 use Rattle.std.specs.Prelude.{nat_eq, slice_index_or, slice_set}
 use Rattle.std.proofs.lemmas.Bool.{eq-eqb, eqb-true}
-use Rattle.std.proofs.lemmas.List.{get_or-set_other}
+use Rattle.std.proofs.lemmas.List.{get_or-set_other, get_or-set_same, length-map, map-set}
 use Rattle.bound_tree.specs.Exprs as e
 use Rattle.bound_tree.specs.Exprs.{BoundArms, BoundExpr, BoundExprs, BoundMatches, NoExprs, AnExpr, NoArms, AnArm, NoMatches, AMatch}
-use Rattle.bound_ignored.specs.Erased.{Marks, erased, erased_arms, erased_in, erased_matches, is_marked, or_null, same_place}
+use Rattle.bound_ignored.specs.Erased.{ItemMarks, Marks, column_or_rowid, erased, erased_arms, erased_in, erased_matches, is_marked, is_rowid, marks_at, no_marks, or_null, same_place}
 use Rattle.eng_value.specs.Applied.{binary_of, member_of, unary_of}
 use Rattle.eng_value.specs.Collations.{keys_of}
 use Rattle.eng_value.specs.Comparisons.{comparison_of, like_escaped_of}
-use Rattle.eng_value.specs.Environments.{Environment, ItemRow, carried, column_of, ignoring, null_row, row_at, without_column}
+use Rattle.eng_value.specs.Environments.{Environment, ItemRow, carried, column_of, ignoring, null_row, row_at, table_row, without_column}
+use Rattle.eng_value.specs.StoredRows.{StoredRow}
 use Rattle.eng_value.specs.Truths.{choice_of, truth_in, truth_of}
 use Rattle.eng_value.specs.declared.compare_op.CompareOp.TheVariants as compare
 use Rattle.eng_value.specs.declared.out.Out.{Out}
 use Rattle.eng_value.specs.declared.out.Out.TheVariants.{Good}
 use Rattle.eng_value.specs.declared.value.Value.TheVariants as value
 use Rattle.sql_meaning.specs.Expression.{arms_of, between_of, chosen_in, first_known, function_of, matched_in, matches_of, value_of, values_of}
+use Rattle.sql_meaning.specs.World.{seen}
+use Rattle.sql_meaning.proofs.RowidPlaces.{HasPlace}
 use Rattle.sql_meaning.specs.Statement.{Item, after_conjunct, if_some, item_of, items_at, shown, sifted}
 
 -- ---- what a row reads where columns are ignored
@@ -75,9 +79,50 @@ pub causes-ignoring : (places : List (Option ℕ)) (row : ItemRow) → (ignoring
 causes-ignoring [] row = refl
 causes-ignoring (place ∷ places) row = causes-ignoring places (without_column row place) ∙ causes-without row place
 
+-- ---- what a row reads as it is seen
+
+abbrev rowid_if : Bool → Out → Out → Out
+rowid_if true rowid o = rowid
+rowid_if false rowid o = o
+
+-- so a row that is stored reads as another, where these are the marks of its item
+pub record ReadsAs (k : ItemMarks) (row other : ItemRow) : Type 0 where
+  pub column : (place : ℕ) → column_of other place ≡ null_if (list_any (same_place (Some place)) k.ignored) (rowid_if (same_place (Some place) k.rowid) row.rowid (column_of row place))
+  pub rowid : other.rowid ≡ null_if (list_any (same_place None) k.ignored) row.rowid
+  pub causes : other.causes ≡ row.causes
+
+-- where there is no row
+pub null-reads : ReadsAs no_marks null_row null_row
+null-reads = record { column = λ place. refl; rowid = refl; causes = refl }
+
+set-read : (outs : List Out) (p k : ℕ) (o : Out) → p < length outs → slice_index_or (slice_set outs p o) k (Good value.Null) ≡ rowid_if (nat_eq k p) o (slice_index_or outs k (Good value.Null))
+set-read outs p k o within = by (nat_eq k p) refl
+  where
+    by : (b : Bool) → nat_eq k p ≡ b → slice_index_or (slice_set outs p o) k (Good value.Null) ≡ rowid_if b o (slice_index_or outs k (Good value.Null))
+    by true is = ap (λ n. slice_index_or (slice_set outs p o) n (Good value.Null)) (eqb-true k p is) ∙ get_or-set_same outs p o (Good value.Null) within
+    by false is = get_or-set_other outs p k o (Good value.Null) (λ same. let told : nat_eq k p ≡ true = eq-eqb k p same in let bad : true ≡ false = sym told ∙ is in absurd (cc))
+
+column-seen : (column : Option ℕ) (r : StoredRow) (k : ℕ) → HasPlace column r → column_of (table_row (seen column r)) k ≡ rowid_if (same_place (Some k) column) (Good (value.Integer r.rowid)) (column_of (table_row r) k)
+column-seen None r k place = refl
+column-seen (Some p) r k place =
+    let v = value.Integer r.rowid in
+    ap (λ outs. slice_index_or outs k (Good value.Null)) (map-set Good r.values p v) ∙ set-read (map Good r.values) p k (Good v) (subst (λ n. p < n) (sym (length-map r.values Good)) place)
+
+-- a row of a table reads as it is seen, but for what is ignored
+pub seen-reads : (ignored : List (Option ℕ)) (column : Option ℕ) (r : StoredRow) → HasPlace column r → ReadsAs (record { ignored = ignored; rowid = column }) (table_row r) (ignoring ignored (table_row (seen column r)))
+seen-reads ignored column r place = record {
+  column = λ k. column_of-ignoring ignored (table_row (seen column r)) k ∙ ap (null_if (list_any (same_place (Some k)) ignored)) (column-seen column r k place);
+  rowid = rowid-ignoring ignored (table_row (seen column r));
+  causes = causes-ignoring ignored (table_row (seen column r));
+}
+
 value_of-or_null : (b : Bool) (y : BoundExpr) (x : Environment) → value_of (or_null b y) x ≡ null_if b (value_of y x)
 value_of-or_null true y x = refl
 value_of-or_null false y x = refl
+
+value_of-column : (b : Bool) (item place : ℕ) (x : Environment) → value_of (column_or_rowid b item place) x ≡ rowid_if b (row_at x item).rowid (column_of (row_at x item) place)
+value_of-column true item place x = refl
+value_of-column false item place x = refl
 
 -- ---- expressions
 
@@ -92,7 +137,7 @@ listed-same : (kept : Option Out) (f g : Out → Item) → ((o : Out) → f o �
 listed-same None f g same = refl
 listed-same (Some o) f g same = ap (λ item. item ∷ []) (same o)
 
-module _ (m : Marks) (x : Environment) (rows : List ItemRow) (ignored : (item : ℕ) → slice_index_or rows item null_row ≡ ignoring (slice_index_or m item []) (row_at x item)) where
+module _ (m : Marks) (x : Environment) (rows : List ItemRow) (reads : (item : ℕ) → ReadsAs (marks_at m item) (row_at x item) (slice_index_or rows item null_row)) where
   abbrev other : Environment
   other = record x { rows = rows }
 
@@ -101,11 +146,10 @@ module _ (m : Marks) (x : Environment) (rows : List ItemRow) (ignored : (item : 
     value_of-erased (e.Literal l) = refl
     value_of-erased (e.Parameter number) = refl
     value_of-erased (e.Column item place) =
-        value_of-or_null (is_marked m item (Some place)) (e.Column item place) x
-        ∙ sym (ap (λ row. column_of row place) (ignored item) ∙ column_of-ignoring (slice_index_or m item []) (row_at x item) place)
+        value_of-or_null (is_marked m item (Some place)) (column_or_rowid (is_rowid m item place) item place) x
+        ∙ ap (null_if (is_marked m item (Some place))) (value_of-column (is_rowid m item place) item place x) ∙ sym ((reads item).column place)
     value_of-erased (e.Rowid item) =
-        value_of-or_null (is_marked m item None) (e.Rowid item) x
-        ∙ sym (ap (λ (row : ItemRow). row.rowid) (ignored item) ∙ rowid-ignoring (slice_index_or m item []) (row_at x item))
+        value_of-or_null (is_marked m item None) (e.Rowid item) x ∙ sym (reads item).rowid
     value_of-erased (e.Argument place) = refl
     value_of-erased (e.Aggregate slot) = refl
     value_of-erased (e.Unary op a) = ap (unary_of op) (value_of-erased a)
@@ -177,12 +221,12 @@ module _ (m : Marks) (x : Environment) (rows : List ItemRow) (ignored : (item : 
 
 -- ---- over the rows of one item
 
-ignored_one : (places : List (Option ℕ)) (row : ItemRow) (item : ℕ) → slice_index_or (ignoring places row ∷ []) item null_row ≡ ignoring (slice_index_or (places ∷ []) item []) (slice_index_or (row ∷ []) item null_row)
-ignored_one places row zero = refl
-ignored_one places row (suc item) = refl
+one-reads : (k : ItemMarks) (row another : ItemRow) (item : ℕ) → ReadsAs k row another → ReadsAs (marks_at (k ∷ []) item) (slice_index_or (row ∷ []) item null_row) (slice_index_or (another ∷ []) item null_row)
+one-reads k row another zero reads = reads
+one-reads k row another (suc item) reads = null-reads
 
-pub items_at-erased_one : (places : List (Option ℕ)) (row : ItemRow) (x : Environment) (conjuncts results : List BoundExpr)
-    → items_at (map (erased (places ∷ [])) conjuncts) (map (erased (places ∷ [])) results) (record x { rows = row ∷ [] }) ≡ items_at conjuncts results (record x { rows = ignoring places row ∷ [] })
-items_at-erased_one places row x conjuncts results =
-    items_at-erased (places ∷ []) (record x { rows = row ∷ [] }) (ignoring places row ∷ []) (ignored_one places row) conjuncts results
-    (ap (λ (causes : Out). carried (record row { causes = causes } ∷ [])) (causes-ignoring places row))
+pub items_at-erased_one : (k : ItemMarks) (row another : ItemRow) (x : Environment) (conjuncts results : List BoundExpr) → ReadsAs k row another
+    → items_at (map (erased (k ∷ [])) conjuncts) (map (erased (k ∷ [])) results) (record x { rows = row ∷ [] }) ≡ items_at conjuncts results (record x { rows = another ∷ [] })
+items_at-erased_one k row another x conjuncts results reads =
+    items_at-erased (k ∷ []) (record x { rows = row ∷ [] }) (another ∷ []) (λ item. one-reads k row another item reads) conjuncts results
+    (ap (λ (causes : Out). carried (record row { causes = causes } ∷ [])) reads.causes)

@@ -1,5 +1,7 @@
 -- the laws of the definitions
 pub mod LookUps
+pub mod BuiltPlain
+pub mod BodyLaws
 pub mod NameLaws
 pub mod CausedOperators
 pub mod CausedLaws
@@ -11,7 +13,10 @@ pub mod RowLaws
 pub mod EffectLaws
 pub mod TableLaws
 pub mod ValidLaws
+pub mod AsideLaws
+pub mod ConstraintLaws
 pub mod PermitLaws
+pub mod RowidPlaces
 pub mod ErasedValues
 pub mod DoneLaws
 pub mod TellingLaws

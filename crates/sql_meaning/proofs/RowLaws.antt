@@ -1,5 +1,5 @@
 -- The tests of a row change nothing, and a row that passes them comes into its table.
-use Rattle.std.proofs.Common.{◌≡◌, ◌⊎◌, inl, inr, ℕ, List, Bool, true, false, Option, Some, None, Result, Ok, Err, ℤ, if◌then◌else◌, All, refl, sym, subst, ◌∙◌, [], ◌∷◌}
+use Rattle.std.proofs.Common.{◌≡◌, ◌⊎◌, inl, inr, ℕ, List, Bool, true, false, Option, Some, None, Result, Ok, Err, ℤ, if◌then◌else◌, All, refl, sym, ap, subst, ◌∙◌, [], ◌∷◌}
 use Rattle.std.proofs.lemmas.List.Elements.{All-cons, All-nil}
 use Rattle.std.specs.List.{AllZip}
 use Rattle.eng_number.specs.Numbers.{fits_integer}
@@ -21,12 +21,12 @@ use Rattle.sql_meaning.specs.declared.bound.RowidFrom.TheVariants as rowid
 use Rattle.sql_meaning.specs.declared.column.TableEntry.{TableEntry}
 use Rattle.sql_meaning.specs.Effects.{IsFitting, KeepsWritten, Passes}
 use Rattle.sql_meaning.specs.Expression.{value_of}
-use Rattle.sql_meaning.specs.Rows.{NewRow, at_row, checked, drawn, fitted, fixed, is_taken, lacks_value, new_row, passed, row_changed, row_put, unless_broken, with_row, with_rowid_in}
+use Rattle.sql_meaning.specs.Rows.{NewRow, at_row, checked, drawn, fitted, fixed, is_taken, lacks_value, new_row, passed, row_changed, row_put, rowid_column, unless_broken, with_row}
 use Rattle.sql_meaning.specs.Steps.{Step, Done, Left, Fails, ◌then◌, done, settled}
 use Rattle.sql_meaning.specs.Valid.{AreRowsOf, IsHeldBy}
-use Rattle.sql_meaning.specs.World.{rows_at}
+use Rattle.sql_meaning.specs.World.{rows_at, seen, stored}
 use Rattle.sql_meaning.proofs.StepLaws.{Gives, anyhow, gives-weaker, gives-then, never}
-use Rattle.sql_meaning.proofs.StoringLaws.{IsInto, IsNew, new-at, new-held, new_row-is, next-drawn}
+use Rattle.sql_meaning.proofs.StoringLaws.{IsInto, IsNew, new-at, new-held, new_row-is, next-drawn, seen-stored}
 
 -- ---- the tests
 
@@ -38,21 +38,24 @@ IsFixed rows v n = ((v ≡ value.Null) × (next_rowid rows ≡ Some n)) ⊎ ((v 
 abbrev pub PassesCheck : Environment → StoredRow → BoundExpr → Type 0
 PassesCheck env r c = Passes (truth_in (truth_of (value_of c (at_row env r))))
 
+-- a row with its rowid, as it is seen, and as it is stored
+abbrev pub with_rowid : BoundInsert → NewRow → ℤ → StoredRow
+with_rowid b new n = seen (rowid_column b.rowid) (record { rowid = n; values = new.values })
+
+abbrev pub kept : BoundInsert → StoredRow → StoredRow
+kept b r = stored (rowid_column b.rowid) r
+
 -- a row that is fitted among those of its table
 pub record IsFitted (env : Environment) (b : BoundInsert) (rows : List StoredRow) (new : NewRow) (r : StoredRow) : Type 0 where
   pub fixed : IsFixed rows new.rowid r.rowid
-  pub values : r.values ≡ with_rowid_in b.rowid r.rowid new.values
+  pub is : r ≡ kept b (with_rowid b new r.rowid)
   pub free : is_taken rows r.rowid ≡ false
-  pub not_null : lacks_value b.columns r.values ≡ false
-  pub checks : All (PassesCheck env r) b.checks
-
--- a row with its rowid
-abbrev pub with_rowid : BoundInsert → NewRow → ℤ → StoredRow
-with_rowid b new n = record { rowid = n; values = with_rowid_in b.rowid n new.values }
+  pub not_null : lacks_value b.columns (with_rowid b new r.rowid).values ≡ false
+  pub checks : All (PassesCheck env (with_rowid b new r.rowid)) b.checks
 
 -- its tests behind that of its rowid
 abbrev pub placed : BoundInsert → List StoredRow → StoredRow → Written → Step StoredRow
-placed b rows r x = unless_broken (is_taken rows r.rowid) (cause.Constraint constraint.Unique b.name) x then λ u x. Done r x
+placed b rows r x = unless_broken (is_taken rows r.rowid) (cause.Constraint constraint.Unique b.name) x then λ u x. Done (kept b r) x
 
 abbrev pub tested : Environment → BoundInsert → List StoredRow → StoredRow → Written → Step StoredRow
 tested env b rows r x =
@@ -102,25 +105,25 @@ module _ (x : Written) where
       (λ u z one. gives-weaker (λ v w. Same w × All (PassesCheck env r) checks) (λ v w. Same w × All (PassesCheck env r) (c ∷ checks)) never fails fails (checked table checks (at_row env r) z)
       (λ v w rest. (rest.0, All-cons (PassesCheck env r) c checks one.1 rest.1)) (λ causes w h. h) (checked-gives table checks env r z one.0))
 
-  abbrev Free : List StoredRow → StoredRow → StoredRow → Written → Type 0
-  Free rows r s y = Same y × (s ≡ r) × (is_taken rows r.rowid ≡ false)
+  abbrev Free : BoundInsert → List StoredRow → StoredRow → StoredRow → Written → Type 0
+  Free b rows r s y = Same y × (s ≡ kept b r) × (is_taken rows r.rowid ≡ false)
 
-  placed-gives : (b : BoundInsert) (rows : List StoredRow) (r : StoredRow) (y : Written) → Same y → Gives (Free rows r) never fails (placed b rows r y)
+  placed-gives : (b : BoundInsert) (rows : List StoredRow) (r : StoredRow) (y : Written) → Same y → Gives (Free b rows r) never fails (placed b rows r y)
   placed-gives b rows r y same =
       let taken = is_taken rows r.rowid in
-      gives-then never fails (λ u z. Same z × (taken ≡ false)) (Free rows r) (unless_broken taken (cause.Constraint constraint.Unique b.name) y) (λ u z. Done r z)
+      gives-then never fails (λ u z. Same z × (taken ≡ false)) (Free b rows r) (unless_broken taken (cause.Constraint constraint.Unique b.name) y) (λ u z. Done (kept b r) z)
       (unless_broken-gives taken (cause.Constraint constraint.Unique b.name) y same) (λ u z free. (free.0, refl, free.1))
 
   -- behind the test for NULLs
   abbrev Checked : Environment → BoundInsert → List StoredRow → StoredRow → StoredRow → Written → Type 0
-  Checked env b rows r s y = Free rows r s y × All (PassesCheck env r) b.checks
+  Checked env b rows r s y = Free b rows r s y × All (PassesCheck env r) b.checks
 
   checks-give : (env : Environment) (b : BoundInsert) (rows : List StoredRow) (r : StoredRow) (y : Written) → Same y
       → Gives (Checked env b rows r) never fails (checked b.name b.checks (at_row env r) y then λ u z. placed b rows r z)
   checks-give env b rows r y same =
       gives-then never fails (λ u z. Same z × All (PassesCheck env r) b.checks) (Checked env b rows r) (checked b.name b.checks (at_row env r) y) (λ u z. placed b rows r z)
       (checked-gives b.name b.checks env r y same)
-      (λ u z passed. gives-weaker (Free rows r) (Checked env b rows r) never fails fails (placed b rows r z) (λ s w free. (free, passed.1)) (λ causes w h. h) (placed-gives b rows r z passed.0))
+      (λ u z passed. gives-weaker (Free b rows r) (Checked env b rows r) never fails fails (placed b rows r z) (λ s w free. (free, passed.1)) (λ causes w h. h) (placed-gives b rows r z passed.0))
 
   abbrev Tested : Environment → BoundInsert → List StoredRow → StoredRow → StoredRow → Written → Type 0
   Tested env b rows r s y = Checked env b rows r s y × (lacks_value b.columns r.values ≡ false)
@@ -138,7 +141,7 @@ module _ (x : Written) where
       gives-then never fails (λ n y. Same y × IsFixed rows new.rowid n) (λ r y. Same y × IsFitted env b rows new r) (fixed b.name rows new.rowid x) (λ n y. tested env b rows (with_rowid b new n) y)
       (fixed-gives b.name rows new.rowid)
       (λ n y one. gives-weaker (Tested env b rows (with_rowid b new n)) (λ r z. Same z × IsFitted env b rows new r) never fails fails (tested env b rows (with_rowid b new n) y)
-      (λ r z held. (held.0.0.0, subst (IsFitted env b rows new) (sym held.0.0.1) (record { fixed = one.1; values = refl; free = held.0.0.2; not_null = held.1; checks = held.0.1 })))
+      (λ r z held. (held.0.0.0, subst (IsFitted env b rows new) (sym held.0.0.1) (record { fixed = one.1; is = refl; free = held.0.0.2; not_null = held.1; checks = held.0.1 })))
       (λ causes z same. same) (tested-gives env b rows (with_rowid b new n) y one.0))
 
   keeps : {A : Type 0} (made : A → Type 0) (s : Step A) → Gives (λ a y. Same y × made a) never fails s → KeepsWritten x s
@@ -191,10 +194,17 @@ fitted-puts t env b new x r into is valid fitted = record {
   put = refl;
   free = fitted.free;
   fits = fixed-fits t (rows_at x.world b.table) new.rowid r.rowid valid fitted.fixed;
-  fitting = record { not_null = fitted.not_null; checks = fitted.checks; rowid = new-at t b new r into is fitted.values };
+  fitting = record {
+    not_null = subst (λ (s : StoredRow). lacks_value b.columns s.values ≡ false) (sym at) fitted.not_null;
+    checks = subst (λ (s : StoredRow). All (PassesCheck env s) b.checks) (sym at) fitted.checks;
+    rowid = new-at t b new r into is fitted.is;
+  };
   next = λ drawn. fixed-next (rows_at x.world b.table) new.rowid r.rowid fitted.fixed (is.drawn drawn);
-  held = subst (AllZip IsHeldBy t.columns) (sym fitted.values) (new-held t b new r.rowid into is);
+  held = subst (λ (s : StoredRow). AllZip IsHeldBy t.columns s.values) (sym fitted.is) (new-held t b new r.rowid into is);
 }
+  where
+    at : seen (rowid_column b.rowid) r ≡ with_rowid b new r.rowid
+    at = ap (seen (rowid_column b.rowid)) fitted.is ∙ seen-stored (rowid_column b.rowid) (record { rowid = r.rowid; values = new.values })
 
 abbrev Puts : TableEntry → Environment → BoundInsert → Written → Unit {0} → Written → Type 0
 Puts t env b x u y = PutsRow t env b x y

@@ -1,8 +1,9 @@
 -- What a column has stored it stores as it is, so that the values of a new row are held by the columns of its table; and the rowids that are drawn.
-use Rattle.std.proofs.Common.{◌≡◌, ℕ, fold, zero, suc, ◌-◌, List, [], ◌∷◌, ◌++◌, Bool, true, false, length, map, Some, None, Ok, Err, ℤ, pos, ◌+ℤ◌, ◌<ℤ◌, int_le, slice_get, slice_set, if◌then◌else◌, All, refl, sym, ap, ◌∙◌, subst, arith}
+use Rattle.std.proofs.Common.{◌≡◌, ℕ, fold, zero, suc, ◌-◌, List, [], ◌∷◌, ◌++◌, Bool, true, false, length, map, Some, None, Ok, Err, ℤ, pos, ◌+ℤ◌, ◌<ℤ◌, int_le, Option, slice_get, slice_set, if◌then◌else◌, All, refl, sym, ap, ◌∙◌, subst, arith}
 use Rattle.std.specs.Bool.{⊤}
 use Rattle.std.specs.List.{AllZip}
 use Rattle.std.proofs.lemmas.Int.{ints}
+use Rattle.std.proofs.lemmas.List.{set-set}
 use Rattle.std.proofs.lemmas.List.Elements.{All-cons, All-head, All-nil, All-tail}
 use Rattle.eng_number.specs.Numbers.{fits_integer, text_kind}
 use Rattle.eng_number.specs.declared.numbers.TextKind.{TextKind}
@@ -26,9 +27,10 @@ use Rattle.sql_meaning.specs.declared.bound.RowidFrom.TheVariants as rowid
 use Rattle.sql_meaning.specs.declared.column.Column.{Column}
 use Rattle.sql_meaning.specs.declared.column.TableEntry.{TableEntry}
 use Rattle.sql_meaning.specs.Effects.{HasRowid}
-use Rattle.sql_meaning.specs.Rows.{NewRow, given_rowid, good_or_null, new_by, new_row, rowid_beside, stored_for, value_for, with_rowid_in}
+use Rattle.sql_meaning.specs.Rows.{NewRow, given_rowid, good_or_null, new_by, new_row, rowid_beside, rowid_column, stored_for, value_for}
 use Rattle.sql_meaning.specs.Running.{stores_integers}
 use Rattle.sql_meaning.specs.Valid.{AreRowsOf, IsHeldBy, IsRowOf}
+use Rattle.sql_meaning.specs.World.{seen, stored, with_column}
 
 -- ---- a value
 
@@ -144,6 +146,7 @@ pub record IsInto (t : TableEntry) (b : BoundInsert) : Type 0 where
   pub number : b.table ≡ t.number
   pub columns : AllZip StoresAs t.columns b.columns
   pub rowid : RowidStored b.rowid b.columns
+  pub column : rowid_column b.rowid ≡ t.rowid
 
 held-by : (columns : List Column) (puts : List PutColumn) (values : List Value) → AllZip StoresAs columns puts → AllZip Stores puts values → AllZip IsHeldBy columns values
 held-by [] [] [] same held = tt
@@ -153,46 +156,69 @@ held-by (c ∷ columns) [] values same held = absurd same
 held-by (c ∷ columns) (p ∷ puts) [] same held = absurd held
 held-by (c ∷ columns) (p ∷ puts) (v ∷ values) same held = (subst (λ a. store_as a v ≡ Good v) same.0 held.0, held-by columns puts values same.1 held.1)
 
-integer-stored : (c : PutColumn) (n : ℤ) (a : Affinity) → c.affinity ≡ a → stores_integers (Some c) ≡ true → store_as a (value.Integer n) ≡ Good (value.Integer n)
+-- ---- the column that is the rowid
+
+-- of a value that was put there nothing is left where another is put
+with_column-again : (column : Option ℕ) (v w : Value) (values : List Value) → with_column column w (with_column column v values) ≡ with_column column w values
+with_column-again None v w values = refl
+with_column-again (Some place) v w values = set-set values place v w
+
+-- what is seen of a row that was stored is what was seen of it
+pub seen-stored : (column : Option ℕ) (r : StoredRow) → seen column (stored column (seen column r)) ≡ seen column r
+seen-stored column r =
+    let v = value.Integer r.rowid in
+    ap (λ vs. record r { values = vs }) (with_column-again column value.Null v (with_column column v r.values) ∙ with_column-again column v v r.values)
+
+null-stored : (c : PutColumn) (a : Affinity) → c.affinity ≡ a → stores_integers (Some c) ≡ true → store_as a value.Null ≡ Good value.Null
 unfolding store_as
-integer-stored c n affinity.Integer is stores = refl
-integer-stored c n affinity.Numeric is stores = refl
-integer-stored c n affinity.Real is stores = absurd (let bad : false ≡ true = subst (λ a. stores_integers (Some (record c { affinity = a })) ≡ true) is stores in cc)
-integer-stored c n affinity.Text is stores = absurd (let bad : false ≡ true = subst (λ a. stores_integers (Some (record c { affinity = a })) ≡ true) is stores in cc)
-integer-stored c n affinity.Blob is stores = refl
-integer-stored c n affinity.None is stores = refl
+null-stored c affinity.Integer is stores = refl
+null-stored c affinity.Numeric is stores = refl
+null-stored c affinity.Real is stores = absurd (let bad : false ≡ true = subst (λ a. stores_integers (Some (record c { affinity = a })) ≡ true) is stores in cc)
+null-stored c affinity.Text is stores = absurd (let bad : false ≡ true = subst (λ a. stores_integers (Some (record c { affinity = a })) ≡ true) is stores in cc)
+null-stored c affinity.Blob is stores = refl
+null-stored c affinity.None is stores = refl
 
-set-held : (columns : List PutColumn) (values : List Value) (place : ℕ) (n : ℤ) → stores_integers (slice_get columns place) ≡ true → AllZip Stores columns values → AllZip Stores columns (slice_set values place (value.Integer n))
-set-held [] values place n stores held = absurd (let bad : false ≡ true = stores in cc)
-set-held (c ∷ columns) [] place n stores held = absurd held
-set-held (c ∷ columns) (v ∷ values) zero n stores held = (integer-stored c n c.affinity refl stores, held.1)
-set-held (c ∷ columns) (v ∷ values) (suc place) n stores held = (held.0, set-held columns values place n stores held.1)
+set-held : (columns : List PutColumn) (values : List Value) (place : ℕ) → stores_integers (slice_get columns place) ≡ true → AllZip Stores columns values → AllZip Stores columns (slice_set values place value.Null)
+set-held [] values place stores held = absurd (let bad : false ≡ true = stores in cc)
+set-held (c ∷ columns) [] place stores held = absurd held
+set-held (c ∷ columns) (v ∷ values) zero stores held = (null-stored c c.affinity refl stores, held.1)
+set-held (c ∷ columns) (v ∷ values) (suc place) stores held = (held.0, set-held columns values place stores held.1)
 
-with_rowid-held : (from : RowidFrom) (columns : List PutColumn) (values : List Value) (n : ℤ) → RowidStored from columns → AllZip Stores columns values → AllZip Stores columns (with_rowid_in from n values)
-with_rowid-held rowid.Drawn columns values n stores held = held
-with_rowid-held (rowid.Given place) columns values n stores held = held
-with_rowid-held (rowid.Column place) columns values n stores held = set-held columns values place n stores held
+with_null-held : (from : RowidFrom) (columns : List PutColumn) (values : List Value) → RowidStored from columns → AllZip Stores columns values → AllZip Stores columns (with_column (rowid_column from) value.Null values)
+with_null-held rowid.Drawn columns values stores held = held
+with_null-held (rowid.Given place) columns values stores held = held
+with_null-held (rowid.Column place) columns values stores held = set-held columns values place stores held
+
+-- a new row, as it is stored
+abbrev pub new_stored : BoundInsert → NewRow → ℤ → StoredRow
+new_stored b new n = stored (rowid_column b.rowid) (seen (rowid_column b.rowid) (record { rowid = n; values = new.values }))
 
 -- what is stored is held by the columns of the table
-pub new-held : (t : TableEntry) (b : BoundInsert) (new : NewRow) (n : ℤ) → IsInto t b → IsNew b new → AllZip IsHeldBy t.columns (with_rowid_in b.rowid n new.values)
+pub new-held : (t : TableEntry) (b : BoundInsert) (new : NewRow) (n : ℤ) → IsInto t b → IsNew b new → AllZip IsHeldBy t.columns (new_stored b new n).values
 new-held t b new n into is =
-    held-by t.columns b.columns (with_rowid_in b.rowid n new.values) into.columns (with_rowid-held b.rowid b.columns new.values n into.rowid is.held)
+    let column = rowid_column b.rowid in
+    subst (AllZip IsHeldBy t.columns) (sym (with_column-again column (value.Integer n) value.Null new.values))
+    (held-by t.columns b.columns (with_column column value.Null new.values) into.columns (with_null-held b.rowid b.columns new.values into.rowid is.held))
 
 -- the column that is the rowid has it
-set-there : (columns : List PutColumn) (values : List Value) (place : ℕ) (n : ℤ) → stores_integers (slice_get columns place) ≡ true → AllZip Stores columns values → slice_get (slice_set values place (value.Integer n)) place ≡ Some (value.Integer n)
-set-there [] values place n stores held = absurd (let bad : false ≡ true = stores in cc)
-set-there (c ∷ columns) [] place n stores held = absurd held
-set-there (c ∷ columns) (v ∷ values) zero n stores held = refl
-set-there (c ∷ columns) (v ∷ values) (suc place) n stores held = set-there columns values place n stores held.1
+set-there : (columns : List PutColumn) (values : List Value) (place : ℕ) (w : Value) → stores_integers (slice_get columns place) ≡ true → AllZip Stores columns values → slice_get (slice_set values place w) place ≡ Some w
+set-there [] values place w stores held = absurd (let bad : false ≡ true = stores in cc)
+set-there (c ∷ columns) [] place w stores held = absurd held
+set-there (c ∷ columns) (v ∷ values) zero w stores held = refl
+set-there (c ∷ columns) (v ∷ values) (suc place) w stores held = set-there columns values place w stores held.1
 
-rowid-there : (from : RowidFrom) (columns : List PutColumn) (values : List Value) (n : ℤ) → RowidStored from columns → AllZip Stores columns values → HasRowid from (record { rowid = n; values = with_rowid_in from n values })
-rowid-there rowid.Drawn columns values n stores held = tt
-rowid-there (rowid.Given place) columns values n stores held = tt
-rowid-there (rowid.Column place) columns values n stores held = set-there columns values place n stores held
+rowid-there : (from : RowidFrom) (columns : List PutColumn) (r : StoredRow) → RowidStored from columns → AllZip Stores columns r.values → HasRowid from (stored (rowid_column from) (seen (rowid_column from) r))
+rowid-there rowid.Drawn columns r stores held = tt
+rowid-there (rowid.Given place) columns r stores held = tt
+rowid-there (rowid.Column place) columns r stores held =
+    let v = value.Integer r.rowid in (
+      ap (λ vs. slice_get vs place) (set-set r.values place v value.Null) ∙ set-there columns r.values place value.Null stores held,
+      ap (λ (s : StoredRow). slice_get s.values place) (seen-stored (Some place) r) ∙ set-there columns r.values place v stores held,
+    )
 
-pub new-at : (t : TableEntry) (b : BoundInsert) (new : NewRow) (r : StoredRow) → IsInto t b → IsNew b new → r.values ≡ with_rowid_in b.rowid r.rowid new.values → HasRowid b.rowid r
-new-at t b new r into is values =
-    subst (λ vs. HasRowid b.rowid (record { rowid = r.rowid; values = vs })) (sym values) (rowid-there b.rowid b.columns new.values r.rowid into.rowid is.held)
+pub new-at : (t : TableEntry) (b : BoundInsert) (new : NewRow) (r : StoredRow) → IsInto t b → IsNew b new → r ≡ new_stored b new r.rowid → HasRowid b.rowid r
+new-at t b new r into is same =
+    subst (HasRowid b.rowid) (sym same) (rowid-there b.rowid b.columns (record { rowid = r.rowid; values = new.values }) into.rowid is.held)
 
 -- ---- rowids
 

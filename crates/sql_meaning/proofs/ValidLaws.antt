@@ -1,9 +1,9 @@
 -- States stay valid.
-use Rattle.std.proofs.Common.{◌≡◌, ◌≢◌, flat_map, slice_get, nat_eq, ℕ, ◌+◌, List, [], ◌∷◌, ◌++◌, Bool, true, false, ◌&&◌, length, not, Option, Some, None, Result, Ok, Err, is_some, if◌then◌else◌, All, AllPairs, drop, refl, sym, ap, ◌∙◌, subst}
+use Rattle.std.proofs.Common.{◌≡◌, ◌≢◌, flat_map, slice_get, nat_eq, ℕ, ◌+◌, ◌≤◌, arith, List, [], ◌∷◌, ◌++◌, Bool, true, false, ◌&&◌, length, not, Option, Some, None, Result, Ok, Err, is_some, if◌then◌else◌, All, AllPairs, drop, refl, sym, ap, ◌∙◌, subst}
 use Rattle.std.specs.Bool.{⊤}
 use Rattle.std.specs.List.{AllZip}
 use Rattle.std.specs.Option.{option_map}
-use Rattle.std.proofs.lemmas.List.Elements.{All-filter, All-push}
+use Rattle.std.proofs.lemmas.List.Elements.{All-cons, All-filter, All-nil, All-push}
 use Rattle.std.proofs.lemmas.List.Kept.{AllPairs-filter}
 use Rattle.std.proofs.lemmas.List.Quantifiers.{all_pairs_push}
 use Rattle.eng_entry.specs.Entries.{Entries, entry_named}
@@ -20,6 +20,7 @@ use Rattle.eng_value.specs.declared.value.Value.{Value}
 use Rattle.sql_grammar.specs.Answers.{Answer, Tree, Syntax, TooMuch, place}
 use Rattle.sql_lex.specs.Cutting.{start_of}
 use Rattle.sql_lex.specs.Tokens.{tokens_of}
+use Rattle.sql_tree.specs.Sizes.{size_of_command, size_of_definition, size_of_statement, size_of_table}
 use Rattle.sql_tree.specs.declared.statement.Command.{Command}
 use Rattle.sql_tree.specs.declared.statement.Command.TheVariants as command
 use Rattle.sql_tree.specs.declared.statement.Create.{Create}
@@ -36,18 +37,21 @@ use Rattle.sql_meaning.specs.Runnables.{Runnable, Creates, DoesNothing, Drops, P
 use Rattle.sql_words.specs.Spelled.{name_at}
 use Rattle.sql_words.specs.Bodies.{answer_of, body_of}
 use Rattle.sql_meaning.specs.Steps.{Effect, Done, Left, Fails}
-use Rattle.sql_meaning.specs.Valid.{IsTable, IsValid, IsWorld}
+use Rattle.sql_meaning.specs.Valid.{IsTable, IsValid, IsWorld, IsWritten}
 use Rattle.sql_meaning.specs.World.{Context, State, World, environment_at, tables_in}
+use Rattle.bound_size.proofs.BoundLaws.{both_hold}
+use Rattle.sql_meaning.proofs.BodyLaws.{statement-sized}
 use Rattle.sql_meaning.proofs.EffectLaws.{PutsRows, rows_put-gives}
 use Rattle.sql_meaning.proofs.StepLaws.{Gives, anyhow, never}
 use Rattle.sql_meaning.proofs.StoringLaws.{IsInto, RowidStored, StoresAs}
 use Rattle.sql_meaning.proofs.TableLaws.{IsDeclared, among-others, among-push, found-all, found-own, is_other, none-called, none-named, numbers-more, tables-emptied, tables-more, tables-with, with_entry-names}
 use Rattle.sql_meaning.specs.Statement.{answer_bound, around, begun, bound_outcome, causes_of, closed, given_of, limit_kind, outcome_of, outcome_where, put_source, rows_put, source_of, statement_bound, text_bound, text_outcome, with_created, without_table, written}
-use Rattle.sql_meaning.specs.Built.{is_built}
+use Rattle.sql_meaning.specs.Built.{is_built, is_built_command, is_built_definition, is_built_table}
 use Rattle.sql_meaning.specs.Permits.{Asking, Denies, Ignores, Permit, asked_by, permitted}
 use Rattle.sql_meaning.specs.Declarations.{columns_created, columns_kept, columns_of, table_called, table_of, table_with, tables_among, tables_of}
 use Rattle.sql_meaning.specs.Running.{columns_put, command_of, creation_of, entry_with, first_part, found_table, from_of, if_built, is_plain_core, part_of, put_at, put_into, put_of, put_with, query_of, removal_of, rowid_from, rows_of_part, runnable_of, stores_integers, table_of_source}
 use Rattle.sql_meaning.specs.Runnables.{FromItem}
+use Rattle.sql_meaning.specs.Rows.{rowid_column}
 use Rattle.bound_tree.specs.Conditions.{conditions_of}
 use Rattle.sql_words.specs.Names.{is_reserved_name}
 use Rattle.sql_tree.specs.declared.statement.Definition.{Definition}
@@ -62,6 +66,7 @@ use Rattle.bound_tree.specs.declared.statements.ThingKind.{ThingKind}
 use Rattle.bound_tree.specs.declared.statements.ThingKind.TheVariants.{ATable}
 use Rattle.bound_tree.specs.declared.statements.ThingKind.TheVariants as thing
 use Rattle.bound_ignored.specs.Marked.{ignoring, marked_command}
+use Rattle.bound_tree.specs.declared.units.BoundItem.{BoundItem}
 use Rattle.bound_tree.specs.declared.units.BoundPart.{BoundPart}
 use Rattle.bound_tree.specs.declared.units.BoundPart.TheVariants as part
 use Rattle.bound_tree.specs.declared.units.BoundSource.{BoundSource}
@@ -73,7 +78,7 @@ use Rattle.bound_tree.specs.declared.writes.BoundTarget.{BoundTarget}
 use Rattle.bound_tree.specs.declared.writes.BoundWrite.{BoundWrite}
 use Rattle.sql_bound.specs.Creates.{Declaring, create_bound, create_there, created_by, creating, entries_beside, is_free, name_of_entry, named_kind, not_there, nothing_created, table_created, with_column, with_table_constraint}
 use Rattle.sql_bound.specs.Creates as creates
-use Rattle.sql_bound.specs.Declarations.{table_in}
+use Rattle.sql_bound.specs.Declarations.{definition_in, definition_of, table_in}
 use Rattle.sql_bound.specs.Scopes.{Around, Outer, in_statement}
 use Rattle.sql_bound.specs.Statements.{bound_of, command_bound, plain, statement_with}
 use Rattle.sql_bound.specs.Trees.{full_depth, outer_at}
@@ -93,17 +98,22 @@ pub record IsCreated (tables : List TableEntry) (next : ℕ) (e : Entry) : Type 
   pub columns : List Column
   pub declared : columns_created e.text e.def.command ≡ Some columns
   pub number : e.number ≡ next
+  pub written : IsWritten e
 
 -- what an INSERT that is bound is like: its table is found, and the rows are put into that
 pub record IsPut (tables : List TableEntry) (p : Put) : Type 0 where
   pub found : table_called tables p.table.name ≡ Some p.table
   pub into : IsInto p.table p.insert
 
+-- the table of an item of a FROM is found
+abbrev pub IsFound : List TableEntry → FromItem → Type 0
+IsFound tables i = table_called tables i.table.name ≡ Some i.table
+
 abbrev pub FitsIn : List TableEntry → ℕ → Runnable → Type 0
 FitsIn tables number (Creates e) = IsCreated tables number e
 FitsIn tables number (Drops t) = table_called tables t.name ≡ Some t
 FitsIn tables number (Puts p) = IsPut tables p
-FitsIn tables number (Queries q) = ⊤
+FitsIn tables number (Queries q) = All (IsFound tables) q.from
 FitsIn tables number (Shows rows) = ⊤
 FitsIn tables number DoesNothing = ⊤
 
@@ -133,12 +143,21 @@ source-own tables source.Queue t e = absurd (let bad : Err cause.NotYet ≡ Ok t
 
 -- ---- queries
 
+from-found : (tables : List TableEntry) (items : List BoundItem) (from : List FromItem) → from_of tables items ≡ Ok from → All (IsFound tables) from
+from-found tables [] from e = subst (All (IsFound tables)) (same-ok [] from e) (All-nil (IsFound tables))
+from-found tables (i ∷ []) from e =
+    let made : TableEntry → Result (List FromItem) Cause = λ t. Ok (record { table = t; width = length i.columns; ignored = i.ignored } ∷ []) in
+    let table = then-ok (table_of_source tables i.source) made from e in
+    let item : FromItem = record { table = table.0; width = length i.columns; ignored = i.ignored } in
+    subst (All (IsFound tables)) (same-ok (item ∷ []) from table.2) (All-cons (IsFound tables) item [] (source-own tables i.source table.0 table.1) (All-nil (IsFound tables)))
+from-found tables (i ∷ j ∷ items) from e = absurd (let bad : Err cause.NotYet ≡ Ok from = e in cc)
+
 part-fits : (tables : List TableEntry) (number : ℕ) (p : BoundPart) (r : Runnable) → part_of tables p ≡ Ok r → FitsIn tables number r
 part-fits tables number (part.Values rows) r e = subst (FitsIn tables number) (same-ok (Shows rows) r e) tt
 part-fits tables number (part.Select c) r e =
     let shown : List FromItem → Result Runnable Cause = λ from. Ok (Queries (record { from = from; conjuncts = flat_map conditions_of c.conjuncts; results = c.results })) in
     let made = then-ok (from_of tables c.items) shown r (if_built-ok (is_plain_core c) (from_of tables c.items >>= shown) r e).1 in
-    subst (FitsIn tables number) (same-ok _ r made.2) tt
+    subst (FitsIn tables number) (same-ok _ r made.2) (from-found tables c.items made.0 made.1)
 
 query-fits : (tables : List TableEntry) (number : ℕ) (units : List BoundUnit) (place : ℕ) (r : Runnable) → query_of tables units place ≡ Ok r → FitsIn tables number r
 query-fits tables number units place r e =
@@ -157,6 +176,13 @@ rowid-stored columns (Some column) given from e =
 rowid-stored columns None (Some place) from e = subst (λ f. RowidStored f columns) (same-ok (rowid.Given place) from e) tt
 rowid-stored columns None None from e = subst (λ f. RowidStored f columns) (same-ok rowid.Drawn from e) tt
 
+rowid-column : (columns : List PutColumn) (column given : Option ℕ) (from : RowidFrom) → rowid_from columns column given ≡ Ok from → rowid_column from ≡ column
+rowid-column columns (Some column) given from e =
+    let built = if_built-ok (stores_integers (slice_get columns column)) (Ok (rowid.Column column)) from e in
+    ap rowid_column (sym (same-ok (rowid.Column column) from built.1))
+rowid-column columns None (Some place) from e = ap rowid_column (sym (same-ok (rowid.Given place) from e))
+rowid-column columns None None from e = ap rowid_column (sym (same-ok rowid.Drawn from e))
+
 -- the table of the put, and the columns of its rows
 record Into (t : TableEntry) (p : Put) : Type 0 where
   table : p.table ≡ t
@@ -165,8 +191,11 @@ record Into (t : TableEntry) (p : Put) : Type 0 where
 put_with-into : (t : TableEntry) (target : BoundTarget) (columns : List PutColumn) (given : Option ℕ) (rows : List (List BoundExpr)) (p : Put) → AllZip StoresAs t.columns columns → put_with t target columns given rows ≡ Ok p → Into t p
 put_with-into t target columns given rows p same e =
     let made : RowidFrom → Result Put Cause = λ from. Ok (record { table = t; insert = record { table = t.number; name = t.name; columns = columns; rowid = from; checks = target.checks; rows = rows } }) in
-    let one = then-ok (rowid_from columns target.item.rowid given) made p e in
-    subst (Into t) (same-ok _ p one.2) (record { table = refl; rows = record { number = refl; columns = same; rowid = rowid-stored columns target.item.rowid given one.0 one.1 } })
+    let one = then-ok (rowid_from columns t.rowid given) made p e in
+    subst (Into t) (same-ok _ p one.2) (record {
+      table = refl;
+      rows = record { number = refl; columns = same; rowid = rowid-stored columns t.rowid given one.0 one.1; column = rowid-column columns t.rowid given one.0 one.1 };
+    })
 
 put_at-into : (t : TableEntry) (target : BoundTarget) (places : List (Option ℕ)) (given : Option ℕ) (rows : List (List BoundExpr)) (p : Put) → put_at t target places given rows ≡ Ok p → Into t p
 put_at-into t target places given rows p e =
@@ -285,17 +314,47 @@ some-columns : (o : Option (List Column)) → is_some o ≡ true → (columns : 
 some-columns (Some columns) there = (columns, refl)
 some-columns None there = absurd (let bad : false ≡ true = there in cc)
 
-creation-fits : (catalog : Entries) (number : ℕ) (text : List ℕ) (s : Statement) (c : BoundCreation) (r : Runnable) → (is_table_made s.command ≡ true → entry_named c.name catalog.names ≡ None) → creation_of number text s c ≡ Ok r → FitsIn (tables_of catalog) number r
-creation-fits catalog number text s c r free e =
+-- the text of a statement that is built, and that is no larger than its text but for a `;`
+pub record IsText (text : List ℕ) (s : Statement) : Type 0 where
+  pub built : is_built text s ≡ true
+  pub size : size_of_statement s ≤ 1 + length (tokens_of text)
+
+definition-written : (text : List ℕ) (e : Entry) (d : Definition) → e.text ≡ text → definition_of e ≡ Some d → creates_table d ≡ true → is_built_definition text d ≡ true → size_of_definition d ≤ 1 + length (tokens_of text) → IsWritten e
+definition-written text e (definition.Table t) is defines made built le =
+    record {
+      table = t;
+      creates = ap table_in defines;
+      built = subst (λ u. is_built_table u t ≡ true) (sym is) built;
+      size = subst (λ u. size_of_table t ≤ length (tokens_of u)) (sym is) (omega (arith, le));
+    }
+definition-written text e (definition.Index i) is defines made built le = absurd (let bad : false ≡ true = made in cc)
+definition-written text e (definition.View v) is defines made built le = absurd (let bad : false ≡ true = made in cc)
+definition-written text e (definition.Trigger t) is defines made built le = absurd (let bad : false ≡ true = made in cc)
+definition-written text e (definition.VirtualTable v) is defines made built le = absurd (let bad : false ≡ true = made in cc)
+
+entry-written : (number : ℕ) (text name : List ℕ) (s : Statement) → IsText text s → is_table_made s.command ≡ true → IsWritten (entry_with number text name s)
+entry-written number text name s held made = by s.command refl made (both_hold (not (is_some s.explain)) (is_built_command text s.command) held.built).1 held.size
+  where
+    by : (k : Command) → s.command ≡ k → is_table_made k ≡ true → is_built_command text k ≡ true → size_of_command k ≤ 1 + length (tokens_of text) → IsWritten (entry_with number text name s)
+    by (command.Create c) is made built le = definition-written text (entry_with number text name s) c.definition refl (ap definition_in is) made built le
+    by (command.Rows r) is made built le = absurd (let bad : false ≡ true = made in cc)
+    by (command.Remove r) is made built le = absurd (let bad : false ≡ true = made in cc)
+    by (command.Transaction t) is made built le = absurd (let bad : false ≡ true = made in cc)
+    by (command.Pragma p) is made built le = absurd (let bad : false ≡ true = made in cc)
+
+creation-fits : (catalog : Entries) (number : ℕ) (text : List ℕ) (s : Statement) (c : BoundCreation) (r : Runnable) → IsText text s → (is_table_made s.command ≡ true → entry_named c.name catalog.names ≡ None) → creation_of number text s c ≡ Ok r → FitsIn (tables_of catalog) number r
+creation-fits catalog number text s c r held free e =
     let entry = entry_with number text c.name s in
     let built = if_built-ok (is_some (columns_created text s.command)) (Ok (Creates entry)) r e in
     let columns = some-columns (columns_created text s.command) built.0 in
+    let made = made-table text s.command built.0 in
     subst (FitsIn (tables_of catalog) number) (same-ok (Creates entry) r built.1) (record {
       kind = refl;
-      free = none-called c.name catalog.names (free (made-table text s.command built.0));
+      free = none-called c.name catalog.names (free made);
       columns = columns.0;
       declared = columns.1;
       number = refl;
+      written = entry-written number text c.name s held made;
     })
 
 -- ---- DROP TABLE
@@ -312,15 +371,15 @@ removal-fits tables number thing.ATrigger name r e = absurd (let bad : Err cause
 
 -- ---- whatever runs
 
-command-fits : (catalog : Entries) (number : ℕ) (text : List ℕ) (s : Statement) (units : List BoundUnit) (k : BoundCommand) (r : Runnable) → ((c : BoundCreation) → k ≡ bound.Created c → is_table_made s.command ≡ true → entry_named c.name catalog.names ≡ None)
+command-fits : (catalog : Entries) (number : ℕ) (text : List ℕ) (s : Statement) (units : List BoundUnit) (k : BoundCommand) (r : Runnable) → IsText text s → ((c : BoundCreation) → k ≡ bound.Created c → is_table_made s.command ≡ true → entry_named c.name catalog.names ≡ None)
     → command_of (tables_of catalog) number text s units k ≡ Ok r → FitsIn (tables_of catalog) number r
-command-fits catalog number text s units (bound.Asked place) r free e = query-fits (tables_of catalog) number units place r e
-command-fits catalog number text s units (bound.Written w) r free e = put-fits (tables_of catalog) number units w r e
-command-fits catalog number text s units (bound.Created c) r free e = creation-fits catalog number text s c r (free c refl) e
-command-fits catalog number text s units (bound.Removed x) r free e = removal-fits (tables_of catalog) number x.kind x.name r e
-command-fits catalog number text s units (bound.Transacted t) r free e = absurd (let bad : Err cause.NotYet ≡ Ok r = e in cc)
-command-fits catalog number text s units (bound.Pragma name) r free e = subst (FitsIn (tables_of catalog) number) (same-ok DoesNothing r e) tt
-command-fits catalog number text s units (bound.Nothing kind name owner) r free e = subst (FitsIn (tables_of catalog) number) (same-ok DoesNothing r e) tt
+command-fits catalog number text s units (bound.Asked place) r held free e = query-fits (tables_of catalog) number units place r e
+command-fits catalog number text s units (bound.Written w) r held free e = put-fits (tables_of catalog) number units w r e
+command-fits catalog number text s units (bound.Created c) r held free e = creation-fits catalog number text s c r held (free c refl) e
+command-fits catalog number text s units (bound.Removed x) r held free e = removal-fits (tables_of catalog) number x.kind x.name r e
+command-fits catalog number text s units (bound.Transacted t) r held free e = absurd (let bad : Err cause.NotYet ≡ Ok r = e in cc)
+command-fits catalog number text s units (bound.Pragma name) r held free e = subst (FitsIn (tables_of catalog) number) (same-ok DoesNothing r e) tt
+command-fits catalog number text s units (bound.Nothing kind name owner) r held free e = subst (FitsIn (tables_of catalog) number) (same-ok DoesNothing r e) tt
 
 -- ---- what is permitted is the statement that was bound, but for what reads NULL
 
@@ -340,28 +399,28 @@ permitted-created b (Ignores (a ∷ ignored)) allowed c e is =
     marked-created (a ∷ ignored) b.command c (ap (λ (x : BoundStatement). x.command) (same-ok (ignoring (a ∷ ignored) b) allowed e) ∙ is)
 
 -- over any FROMs and depth, since these are never entered here
-bound-fits : (o : Outer) (number : ℕ) (text : List ℕ) (s : Statement) (b : BoundStatement) (p : Permit) (allowed : BoundStatement) (r : Runnable) → command_bound o s.command >>= (λ x. Ok (statement_with s.explain x)) ≡ Ok b → permitted b p ≡ Ok allowed
+bound-fits : (o : Outer) (number : ℕ) (text : List ℕ) (s : Statement) (b : BoundStatement) (p : Permit) (allowed : BoundStatement) (r : Runnable) → IsText text s → command_bound o s.command >>= (λ x. Ok (statement_with s.explain x)) ≡ Ok b → permitted b p ≡ Ok allowed
     → runnable_of (tables_of o.around.catalog) number text s allowed ≡ Ok r → FitsIn (tables_of o.around.catalog) number r
-bound-fits o number text s b p allowed r is may e =
-    command-fits o.around.catalog number text s allowed.units allowed.command r (λ c here made. command-free o s.command s.explain b c made is (permitted-created b p allowed c may here)) e
+bound-fits o number text s b p allowed r held is may e =
+    command-fits o.around.catalog number text s allowed.units allowed.command r held (λ c here made. command-free o s.command s.explain b c made is (permitted-created b p allowed c may here)) e
 
-pub statement-fits : (asked : Asking) (catalog : Entries) (number : ℕ) (text : List ℕ) (s : Statement) (r : Runnable) → statement_bound asked catalog number text s ≡ Ok r → FitsIn (tables_of catalog) number r
-statement-fits asked catalog number text s r e =
+pub statement-fits : (asked : Asking) (catalog : Entries) (number : ℕ) (text : List ℕ) (s : Statement) (r : Runnable) → size_of_statement s ≤ 1 + length (tokens_of text) → statement_bound asked catalog number text s ≡ Ok r → FitsIn (tables_of catalog) number r
+statement-fits asked catalog number text s r le e =
     let a = around catalog in
     let run : BoundStatement → Result Runnable Cause = runnable_of (tables_of catalog) number text s in
     let built = if_built-ok (is_built text s) (bound_of a text s >>= λ b. permitted b (asked b) >>= run) r e in
     let made = then-ok (bound_of a text s) (λ b. permitted b (asked b) >>= run) r built.1 in
     let may = then-ok (permitted made.0 (asked made.0)) run r made.2 in
-    bound-fits (outer_at a (full_depth a) text [] in_statement) number text s made.0 (asked made.0) may.0 r made.1 may.1 may.2
+    bound-fits (outer_at a (full_depth a) text [] in_statement) number text s made.0 (asked made.0) may.0 r (record { built = built.0; size = le }) made.1 may.1 may.2
 
-answer-fits : (asked : Asking) (w : World) (before : ℕ) (text : List ℕ) (x : Answer Statement) (b : Runnable) → answer_bound asked w before text x ≡ Ok b → FitsIn (tables_of w.catalog) (length w.tables) b
-answer-fits asked w before text (Tree s) b e = statement-fits asked w.catalog (length w.tables) (body_of text) s b e
-answer-fits asked w before text (Syntax rest) b e = absurd (let bad : Err (cause.Syntax (before + place (length text) rest)) ≡ Ok b = e in cc)
-answer-fits asked w before text (TooMuch l rest) b e = absurd (let bad : Err (cause.Limit (limit_kind l)) ≡ Ok b = e in cc)
+answer-fits : (asked : Asking) (w : World) (before : ℕ) (text : List ℕ) (x : Answer Statement) (b : Runnable) → answer_of text ≡ x → answer_bound asked w before text x ≡ Ok b → FitsIn (tables_of w.catalog) (length w.tables) b
+answer-fits asked w before text (Tree s) b is e = statement-fits asked w.catalog (length w.tables) (body_of text) s b (statement-sized text s is) e
+answer-fits asked w before text (Syntax rest) b is e = absurd (let bad : Err (cause.Syntax (before + place (length text) rest)) ≡ Ok b = e in cc)
+answer-fits asked w before text (TooMuch l rest) b is e = absurd (let bad : Err (cause.Limit (limit_kind l)) ≡ Ok b = e in cc)
 
 pub text-fits : (asked : Asking) (w : World) (text : List ℕ) (b : Runnable) → text_bound asked w text ≡ Ok b → FitsIn (tables_of w.catalog) (length w.tables) b
 text-fits asked w text b e =
-    let before = start_of (tokens_of text) 0 in answer-fits asked w before (drop before text) (answer_of (drop before text)) b e
+    let before = start_of (tokens_of text) 0 in answer-fits asked w before (drop before text) (answer_of (drop before text)) b refl e
 
 -- ---- states
 
@@ -387,6 +446,7 @@ module _ (state : State) (valid : IsValid state) where
         names = all_pairs_push (λ (a b : Entry). is_same_name a.name b.name ≡ false) names e valid.world.names (none-named names e.name valid.world.declared c.free);
         triggers = valid.world.triggers;
         declared = All-push IsDeclared names e valid.world.declared (ap is_some is);
+        written = All-push IsWritten names e valid.world.written c.written;
         numbers = subst (AllPairs (λ (a b : TableEntry). a.number ≢ b.number)) (sym tables_are) (numbers-more state.world.tables tables t valid.world.numbers valid.world.tables c.number);
         tables = subst (All (IsTable (state.world.tables ++ [] ∷ []))) (sym tables_are) (tables-more state.world.tables tables t valid.world.tables c.number);
       } in
@@ -405,6 +465,7 @@ module _ (state : State) (valid : IsValid state) where
           names = AllPairs-filter (λ (a b : Entry). is_same_name a.name b.name ≡ false) p names valid.world.names;
           triggers = valid.world.triggers;
           declared = All-filter p IsDeclared names valid.world.declared;
+          written = All-filter p IsWritten names valid.world.written;
           numbers = subst (AllPairs (λ (a b : TableEntry). a.number ≢ b.number)) (sym others) (AllPairs-filter (λ (a b : TableEntry). a.number ≢ b.number) (is_other t.name) tables valid.world.numbers);
           tables = subst (All (IsTable (without_table state t).world.tables)) (sym others)
               (All-filter (is_other t.name) (IsTable (without_table state t).world.tables) tables (tables-emptied state.world.tables tables t.number valid.world.tables));
@@ -430,6 +491,7 @@ module _ (state : State) (valid : IsValid state) where
           names = valid.world.names;
           triggers = valid.world.triggers;
           declared = valid.world.declared;
+          written = valid.world.written;
           numbers = valid.world.numbers;
           tables = subst (λ lists. All (IsTable lists) tables) (sym put.world) (tables-with state.world.tables tables t put.rows valid.world.numbers found put.valid valid.world.tables);
         };

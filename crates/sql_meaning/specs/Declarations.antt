@@ -10,7 +10,7 @@ use Rattle.sql_lex.specs.Tokens.{tokens_of}
 use Rattle.sql_tree.specs.declared.statement.ColumnDefinition.{ColumnDefinition}
 use Rattle.sql_tree.specs.declared.statement.TableDefinition.{TableDefinition}
 use Rattle.sql_tree.specs.declared.statement.Command.{Command}
-use Rattle.sql_bound.specs.Declarations.{definition_in, table_in}
+use Rattle.sql_bound.specs.Declarations.{definition_in, rowid_of, table_in}
 use Rattle.sql_meaning.specs.declared.column.Column.{Column}
 use Rattle.sql_meaning.specs.declared.column.TableEntry.{TableEntry}
 use Rattle.sql_words.specs.Spelled.{name_at}
@@ -24,11 +24,22 @@ column_of text d = record { name = name_at text d.name; affinity = type_affinity
 abbrev pub columns_of : List ℕ → TableDefinition → List Column
 columns_of text t = map (column_of text) t.columns
 
+-- ---- the column that is the rowid
+
+abbrev pub rowid_in : List ℕ → Option TableDefinition → Option ℕ
+rowid_in text None = None
+rowid_in text (Some t) = rowid_of text t
+
+-- of the table that a statement of this text creates, if one of its columns is the rowid
+abbrev pub rowid_created : List ℕ → Command → Option ℕ
+rowid_created text c = rowid_in text (table_in (definition_in c))
+
 -- ---- entries
 
 -- what is declared of a table of these columns
 abbrev pub table_with : Entry → List Column → TableEntry
-table_with e columns = record { name = e.name; columns = columns; number = e.number; tokens = length (tokens_of e.text) }
+table_with e columns =
+    record { name = e.name; columns = columns; rowid = rowid_created e.text e.def.command; number = e.number; tokens = length (tokens_of e.text) }
 
 -- no more than a table may have
 abbrev pub columns_kept : Option (List Column) → Option (List Column)

@@ -17,11 +17,11 @@ use Rattle.sql_meaning.specs.declared.bound.RowidFrom.TheVariants as rowid
 use Rattle.sql_meaning.specs.declared.column.TableEntry.{TableEntry}
 use Rattle.sql_meaning.specs.Declarations.{table_called, table_of}
 use Rattle.sql_meaning.specs.Expression.{value_of}
-use Rattle.sql_meaning.specs.Rows.{at_row, is_taken, lacks_value, with_row_in}
+use Rattle.sql_meaning.specs.Rows.{at_row, is_taken, lacks_value, rowid_column, with_row_in}
 use Rattle.sql_meaning.specs.Runnables.{Put}
 use Rattle.sql_meaning.specs.Statement.{Outcome}
 use Rattle.sql_meaning.specs.Steps.{Step, Done, Left, Fails}
-use Rattle.sql_meaning.specs.World.{State, rows_at, tables_in}
+use Rattle.sql_meaning.specs.World.{State, rows_at, seen, tables_in}
 
 -- the rowid is one more than the largest of these rows, and 1 where there is none
 abbrev pub IsOneMore : List StoredRow → ℤ → Type 0
@@ -59,15 +59,16 @@ Passes truth.Unknown = ⊤
 Passes truth.False = ⊥
 Passes (truth.Failed causes) = ⊥
 
--- where a column is the rowid, it has it
+-- where a column is the rowid, this is seen there, and NULL is stored
 abbrev pub HasRowid : RowidFrom → StoredRow → Type 0
-HasRowid (rowid.Column place) r = slice_get r.values place ≡ Some (value.Integer r.rowid)
+HasRowid (rowid.Column place) r =
+    (slice_get r.values place ≡ Some value.Null) × (slice_get (seen (Some place) r).values place ≡ Some (value.Integer r.rowid))
 HasRowid other r = ⊤
 
--- a row that breaks no constraint: no column is NULL that may not be, each CHECK passes, and the column that is the rowid has it
+-- a row that breaks no constraint: as it is seen no column is NULL that may not be, and each CHECK passes; and the column that is the rowid has it
 pub record IsFitting (env : Environment) (b : BoundInsert) (r : StoredRow) : Type 0 where
-  pub not_null : lacks_value b.columns r.values ≡ false
-  pub checks : All (λ c. Passes (truth_in (truth_of (value_of c (at_row env r))))) b.checks
+  pub not_null : lacks_value b.columns (seen (rowid_column b.rowid) r).values ≡ false
+  pub checks : All (λ c. Passes (truth_in (truth_of (value_of c (at_row env (seen (rowid_column b.rowid) r)))))) b.checks
   pub rowid : HasRowid b.rowid r
 
 -- Nothing else of a state is changed than the world and the counts.
@@ -81,9 +82,10 @@ pub record KeepsRest (old new : State) : Type 0 where
 abbrev pub KeepsOthers : Lists → Lists → ℕ → Type 0
 KeepsOthers old new number = (other : ℕ) → other ≢ number → rows_at new other ≡ rows_at old other
 
--- The table has so many rows more, by their rowids among the others, and none of them breaks a constraint; where no rowid is given, each is one more than the largest. No other table is changed.
+-- The table has so many rows more, by their rowids among the others, and none of them breaks a constraint; that column is the rowid which is it in the table; where no rowid is given, each is one more than the largest. No other table is changed.
 pub record AddsRows (state : State) (env : Environment) (p : Put) (given : ℕ) (o : Outcome) : Type 0 where
   pub found : table_called (tables_in state) p.table.name ≡ Some p.table
+  pub column : rowid_column p.insert.rowid ≡ p.table.rowid
   pub catalog : o.next.world.catalog ≡ state.world.catalog
   pub others : KeepsOthers state.world.tables o.next.world.tables p.table.number
   pub new : List StoredRow

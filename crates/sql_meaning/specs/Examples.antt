@@ -1,5 +1,5 @@
 -- Statements with what they come to, computed by the definitions.
-use Rattle.std.specs.Prelude.{◌≡◌, ℕ, true, false, List, [], ◌∷◌, map, pos, negsuc, Some, None, codes, refl}
+use Rattle.std.specs.Prelude.{◌≡◌, ℕ, true, false, Option, List, [], ◌∷◌, map, pos, negsuc, Some, None, codes, refl}
 use Rattle.std.proofs.Common.{◌∙◌, ap}
 use Rattle.std.specs.FinSet as set
 use Rattle.std.specs.Fmt.{digits}
@@ -30,8 +30,8 @@ use Rattle.sql_meaning.specs.declared.bound.PutColumn.{PutColumn}
 use Rattle.sql_meaning.specs.declared.bound.RowidFrom.TheVariants as rowid
 use Rattle.sql_meaning.specs.declared.column.Column.{Column}
 use Rattle.sql_meaning.specs.declared.column.TableEntry.{TableEntry}
-use Rattle.sql_meaning.specs.Statement.{Outcome, Row, Failed, begun, causes_of, closed, rows_put, text_outcome}
-use Rattle.sql_meaning.specs.World.{State, context, environment_at, new_state, tables_in}
+use Rattle.sql_meaning.specs.Statement.{Item, Outcome, Row, Failed, begun, causes_of, closed, items_of, rows_put, text_outcome}
+use Rattle.sql_meaning.specs.World.{State, context, environment_at, new_state, table_rows, tables_in}
 
 abbrev run : State → List ℕ → Outcome
 run state text = text_outcome (context no_hosts state []) text
@@ -46,7 +46,7 @@ abbrev three_columns : List Column
 three_columns = record { name = codes "a"; affinity = affinity.Integer } ∷ record { name = codes "b"; affinity = affinity.Text } ∷ record { name = codes "c"; affinity = affinity.Blob } ∷ []
 
 abbrev the_table : TableEntry
-the_table = record { name = codes "t"; columns = three_columns; number = 0; tokens = 15 }
+the_table = record { name = codes "t"; columns = three_columns; rowid = None; number = 0; tokens = 15 }
 
 the_entry : tables_in created ≡ the_table ∷ []
 unfolding all_statement_rules count tokens_of word_kind the_text_test
@@ -88,7 +88,7 @@ one = value.Integer (pos 1)
 abbrev rows_in : BoundInsert → List (List Value) → List (List StoredRow)
 rows_in b rows = (put_by b rows).next.world.tables
 
--- the first column is the rowid: it is stored as such, drawn where it is NULL, and rows stand by it
+-- the first column is the rowid: it is stored as such, and NULL in its place; it is drawn where it is NULL, and rows stand by it
 abbrev by_key : BoundInsert
 by_key = record put { rowid = rowid.Column 0 }
 
@@ -96,7 +96,7 @@ abbrev row : Value → Value → Value → List Value
 row a b c = a ∷ b ∷ c ∷ []
 
 keyed : rows_in by_key (row (value.Integer (pos 7)) value.Null one ∷ row value.Null value.Null one ∷ row (value.Text (codes "5")) value.Null one ∷ [])
-    ≡ (record { rowid = pos 5; values = row (value.Integer (pos 5)) value.Null one } ∷ record { rowid = pos 7; values = row (value.Integer (pos 7)) value.Null one } ∷ record { rowid = pos 8; values = row (value.Integer (pos 8)) value.Null one } ∷ []) ∷ []
+    ≡ (record { rowid = pos 5; values = row value.Null value.Null one } ∷ record { rowid = pos 7; values = row value.Null value.Null one } ∷ record { rowid = pos 8; values = row value.Null value.Null one } ∷ []) ∷ []
 unfolding all_statement_rules count tokens_of word_kind the_text_test store_as text_kind digits
 keyed = refl
 
@@ -122,7 +122,7 @@ defaults : (rows_in by_default ((one ∷ one ∷ []) ∷ []) ≡ (record { rowid
 unfolding all_statement_rules count tokens_of word_kind the_text_test store_as text_kind digits
 defaults = (refl, refl)
 
--- a CHECK sees the row as it is stored; it fails on false alone, and NOT NULL is tested before it
+-- a CHECK sees the row with the values that its columns store; it fails on false alone, and NOT NULL is tested before it
 abbrev by_check : BoundInsert
 by_check = record put { columns = plain affinity.Integer 0 ∷ plain affinity.Text 1 ∷ record (plain affinity.Blob 2) { not_null = true } ∷ []; checks = e.Column 0 0 ∷ e.Rowid 0 ∷ [] }
 
@@ -131,6 +131,39 @@ checks : ((put_by by_check (row one value.Null one ∷ row value.Null value.Null
     × ((put_by by_check (row (value.Integer (pos 0)) value.Null value.Null ∷ [])).refusal ≡ Some (named (only (cause.Constraint constraint.NotNull (codes "t")))))
 unfolding all_statement_rules count tokens_of word_kind the_text_test store_as text_kind digits truth_of
 checks = (refl, refl, refl)
+
+-- and the rowid in the column that is it, which is NULL for neither test
+abbrev by_key_check : BoundInsert
+by_key_check = record by_key { columns = record (plain affinity.Integer 0) { not_null = true } ∷ plain affinity.Text 1 ∷ plain affinity.Blob 2 ∷ []; checks = e.Column 0 0 ∷ [] }
+
+key_checks : ((put_by by_key_check (row value.Null value.Null one ∷ [])).refusal ≡ None)
+    × ((put_by by_key_check (row (value.Integer (pos 0)) value.Null one ∷ [])).refusal ≡ Some (named (only (cause.Constraint constraint.Check (codes "t")))))
+unfolding all_statement_rules count tokens_of word_kind the_text_test store_as text_kind digits truth_of
+key_checks = (refl, refl)
+
+-- ---- what is seen of a table whose second column is the rowid
+
+abbrev created_with_key : State
+created_with_key = (run new_state (codes "CREATE TABLE k(x, id INTEGER PRIMARY KEY)")).next
+
+abbrev table_with_key : TableEntry
+table_with_key = record { name = codes "k"; columns = record { name = codes "x"; affinity = affinity.Blob } ∷ record { name = codes "id"; affinity = affinity.Integer } ∷ []; rowid = Some 1; number = 0; tokens = 11 }
+
+-- it stores a row as this
+abbrev with_a_row : State
+with_a_row = record created_with_key { world = record created_with_key.world { tables = (record { rowid = pos 7; values = one ∷ value.Null ∷ [] } ∷ []) ∷ [] } }
+
+seen_rows : (tables_in created_with_key ≡ table_with_key ∷ []) × (table_rows with_a_row (codes "K") ≡ Some ((value.Integer (pos 7) ∷ one ∷ value.Integer (pos 7) ∷ []) ∷ []))
+unfolding all_statement_rules count tokens_of word_kind the_text_test
+seen_rows = (refl, refl)
+
+-- a query, also one where the column is ignored, which the rowid isn't by that
+abbrev shown_where : List (Option ℕ) → List Item
+shown_where places = items_of (context no_hosts with_a_row []) (record { from = record { table = table_with_key; width = 2; ignored = places } ∷ []; conjuncts = e.Column 0 0 ∷ []; results = e.Column 0 1 ∷ e.Rowid 0 ∷ [] })
+
+shown_rows_of_it : (shown_where [] ≡ Row (value.Integer (pos 7) ∷ value.Integer (pos 7) ∷ []) ∷ []) × (shown_where (Some 1 ∷ []) ≡ Row (value.Null ∷ value.Integer (pos 7) ∷ []) ∷ []) × (shown_where (None ∷ []) ≡ Row (value.Integer (pos 7) ∷ value.Null ∷ []) ∷ [])
+unfolding all_statement_rules count tokens_of word_kind the_text_test truth_of
+shown_rows_of_it = (refl, refl, refl)
 
 -- of several bad rows in a source any may be named
 bad_rows : causes_of (Failed (only cause.Real) ∷ Row [] ∷ Failed (only cause.TooBig) ∷ []) ≡ Some (set.union (only cause.Real) (only cause.TooBig))
@@ -150,7 +183,7 @@ no_statements = (refl, refl, refl)
 
 -- ---- DROP TABLE, IF [NOT] EXISTS and PRAGMA
 
-dropped_table : (tables_in (run created (codes "DROP TABLE T")).next ≡ []) × (tables_in (run (run created (codes "DROP TABLE t")).next (codes "CREATE TABLE u(a)")).next ≡ record { name = codes "u"; columns = record { name = codes "a"; affinity = affinity.Blob } ∷ []; number = 1; tokens = 6 } ∷ [])
+dropped_table : (tables_in (run created (codes "DROP TABLE T")).next ≡ []) × (tables_in (run (run created (codes "DROP TABLE t")).next (codes "CREATE TABLE u(a)")).next ≡ record { name = codes "u"; columns = record { name = codes "a"; affinity = affinity.Blob } ∷ []; rowid = None; number = 1; tokens = 6 } ∷ [])
 unfolding all_statement_rules count tokens_of word_kind the_text_test
 dropped_table = (refl, refl)
 

@@ -27,7 +27,7 @@ use Rattle.sql_meaning.specs.declared.bound.RowidFrom.{RowidFrom}
 use Rattle.sql_meaning.specs.declared.bound.RowidFrom.TheVariants as rowid
 use Rattle.sql_meaning.specs.Expression.{value_of}
 use Rattle.sql_meaning.specs.Steps.{Step, Done, Fails, Effect, ◌then◌, done, each, settled}
-use Rattle.sql_meaning.specs.World.{rows_at}
+use Rattle.sql_meaning.specs.World.{rows_at, seen, stored}
 
 abbrev pub good_or_null : Out → Value
 good_or_null (Good v) = v
@@ -64,6 +64,12 @@ abbrev pub given_rowid : RowidFrom → List Value → List Value → Value
 given_rowid rowid.Drawn beside values = value.Null
 given_rowid (rowid.Given place) beside values = slice_index_or beside 0 value.Null
 given_rowid (rowid.Column place) beside values = slice_index_or values place value.Null
+
+-- the column that is the rowid, if one is
+abbrev pub rowid_column : RowidFrom → Option ℕ
+rowid_column rowid.Drawn = None
+rowid_column (rowid.Given place) = None
+rowid_column (rowid.Column place) = Some place
 
 abbrev pub new_by : RowidFrom → List Out → List Out → Out → Result NewRow CauseSet
 new_by from outs beside (Good v) = Ok (record { rowid = given_rowid from (map good_or_null beside) (map good_or_null outs); values = map good_or_null outs })
@@ -109,11 +115,6 @@ fixed table rows value.Null x = drawn table (next_rowid rows) x
 fixed table rows (value.Integer n) x = if fits_integer n then Done n x else Fails (only cause.Mismatch) x
 fixed table rows other x = Fails (only cause.Mismatch) x
 
--- the column that is the rowid holds it
-abbrev pub with_rowid_in : RowidFrom → ℤ → List Value → List Value
-with_rowid_in (rowid.Column place) n values = slice_set values place (value.Integer n)
-with_rowid_in other n values = values
-
 -- some column is NULL that may not be
 abbrev pub lacks_value : List PutColumn → List Value → Bool
 lacks_value [] values = false
@@ -140,15 +141,16 @@ is_taken rows n = is_some (row_of_rowid rows n)
 abbrev pub at_row : Environment → StoredRow → Environment
 at_row env row = record env { rows = table_row row ∷ [] }
 
--- beside these rows of its table the rowid is fixed; no column is NULL that may not be; the CHECKs pass; and no row has the rowid
+-- beside these rows of its table the rowid is fixed; no column is NULL that may not be; the CHECKs pass; and no row has the rowid. The row is
+-- tested as it is seen
 abbrev pub fitted : Environment → BoundInsert → List StoredRow → NewRow → Written → Step StoredRow
 fitted env b rows new x =
     fixed b.name rows new.rowid x then λ n x.
-    let row : StoredRow = record { rowid = n; values = with_rowid_in b.rowid n new.values } in
+    let row : StoredRow = seen (rowid_column b.rowid) (record { rowid = n; values = new.values }) in
     unless_broken (lacks_value b.columns row.values) (cause.Constraint constraint.NotNull b.name) x then λ u x.
     checked b.name b.checks (at_row env row) x then λ u x.
     unless_broken (is_taken rows n) (cause.Constraint constraint.Unique b.name) x then λ u x.
-    Done row x
+    Done (stored (rowid_column b.rowid) row) x
 
 -- the row comes into its table, and counts
 abbrev pub with_row : Written → ℕ → StoredRow → Written

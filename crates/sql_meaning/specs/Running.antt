@@ -111,7 +111,7 @@ stores_integers (Some c) = is_integer c.affinity
     is_integer affinity.Integer = true
     is_integer other = false
 
--- such a column, else what is given for the rowid
+-- the column that is the rowid, else what is given for it
 abbrev pub rowid_from : List PutColumn → Option ℕ → Option ℕ → Result RowidFrom Cause
 rowid_from columns (Some column) given = if_built (stores_integers (slice_get columns column)) (Ok (rowid.Column column))
 rowid_from columns None (Some place) = Ok (rowid.Given place)
@@ -119,7 +119,7 @@ rowid_from columns None None = Ok rowid.Drawn
 
 abbrev pub put_with : TableEntry → BoundTarget → List PutColumn → Option ℕ → List (List BoundExpr) → Result Put Cause
 put_with t target columns given rows =
-    rowid_from columns target.item.rowid given >>= λ from.
+    rowid_from columns t.rowid given >>= λ from.
     Ok (record { table = t; insert = record { table = t.number; name = t.name; columns = columns; rowid = from; checks = target.checks; rows = rows } })
 
 abbrev pub put_at : TableEntry → BoundTarget → List (Option ℕ) → Option ℕ → List (List BoundExpr) → Result Put Cause

@@ -42,7 +42,7 @@ use Rattle.sql_meaning.specs.Expression.{value_of}
 pub use Rattle.sql_meaning.specs.Rows.{good_or_null}
 use Rattle.sql_meaning.specs.Rows.{row_put}
 use Rattle.sql_meaning.specs.Steps.{Effect, Done, Left, Fails, each, or_next}
-use Rattle.sql_meaning.specs.World.{Context, State, World, environment_at, rows_at}
+use Rattle.sql_meaning.specs.World.{Context, State, World, environment_at, rows_at, seen}
 
 -- what a statement means: the causes why it is refused, if it is, any of which may be named; the rows that it gives, unless these are those of its plan, which are no part of the meaning; what the update hook is told; how many rows it changes, and what the connection then holds
 pub record Outcome : Type 0 where
@@ -138,9 +138,9 @@ shown results env causes = item_of causes (map (λ r. value_of r env) results)
 abbrev pub items_at : List BoundExpr → List BoundExpr → Environment → List Item
 items_at conjuncts results env = option_to_list (option_map (shown results env) (sifted conjuncts env (carried env.rows)))
 
--- the rows of an item
+-- the rows of an item, as they are seen
 abbrev pub item_rows : Context → FromItem → List ItemRow
-item_rows ctx i = map (λ r. ignoring i.ignored (table_row r)) (rows_at ctx.state.world.tables i.table.number)
+item_rows ctx i = map (λ r. ignoring i.ignored (table_row (seen i.table.rowid r))) (rows_at ctx.state.world.tables i.table.number)
 
 -- the rows of a FROM, a row for each of its items, behind these: in nested order, leftmost item outermost
 abbrev pub product : Context → List FromItem → List ItemRow → List (List ItemRow)

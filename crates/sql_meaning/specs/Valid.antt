@@ -1,5 +1,5 @@
 -- What is true of each state that a connection holds between two statements.
-use Rattle.std.specs.Prelude.{◌≡◌, ◌≢◌, ◌<◌, List, true, false, length, is_some, All, AllPairs}
+use Rattle.std.specs.Prelude.{◌≡◌, ◌≢◌, ◌<◌, ◌≤◌, List, true, false, length, Some, is_some, All, AllPairs}
 use Rattle.std.specs.List.{AllZip}
 use Rattle.eng_entry.specs.Names.{is_same_name}
 use Rattle.eng_entry.specs.declared.entry.Entry.{Entry}
@@ -9,6 +9,11 @@ use Rattle.eng_value.specs.Environments.{Lists}
 use Rattle.eng_value.specs.StoredRows.{StoredRow, IsAscending}
 use Rattle.eng_value.specs.declared.out.Out.TheVariants.{Good}
 use Rattle.eng_value.specs.declared.value.Value.{Value}
+use Rattle.sql_bound.specs.Declarations.{definition_of, table_in}
+use Rattle.sql_lex.specs.Tokens.{tokens_of}
+use Rattle.sql_tree.specs.Sizes.{size_of_table}
+use Rattle.sql_tree.specs.declared.statement.TableDefinition.{TableDefinition}
+use Rattle.sql_meaning.specs.Built.{is_built_table}
 use Rattle.sql_meaning.specs.declared.column.Column.{Column}
 use Rattle.sql_meaning.specs.declared.column.TableEntry.{TableEntry}
 use Rattle.sql_meaning.specs.Declarations.{table_of, tables_of}
@@ -37,11 +42,20 @@ pub record IsTable (lists : Lists) (t : TableEntry) : Type 0 where
 abbrev pub HaveOtherNames : List Entry → Type 0
 HaveOtherNames entries = AllPairs (λ (a b : Entry). is_same_name a.name b.name ≡ false) entries
 
--- no two things of a kind of names have one name, each entry is that of a table, no two tables have one number, and each has its rows
+-- what an entry creates is a table of which everything is built, and its tree is no larger than its text has tokens
+pub record IsWritten (e : Entry) : Type 0 where
+  pub table : TableDefinition
+  pub creates : table_in (definition_of e) ≡ Some table
+  pub built : is_built_table e.text table ≡ true
+  pub size : size_of_table table ≤ length (tokens_of e.text)
+
+-- no two things of a kind of names have one name, each entry is that of a table and holds what was written, no two tables have one number,
+-- and each has its rows
 pub record IsWorld (w : World) : Type 0 where
   pub names : HaveOtherNames w.catalog.names
   pub triggers : HaveOtherNames w.catalog.triggers
   pub declared : All (λ (e : Entry). is_some (table_of e) ≡ true) w.catalog.names
+  pub written : All IsWritten w.catalog.names
   pub numbers : AllPairs (λ (a b : TableEntry). a.number ≢ b.number) (tables_of w.catalog)
   pub tables : All (IsTable w.tables) (tables_of w.catalog)
 

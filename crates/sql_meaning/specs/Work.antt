@@ -21,7 +21,7 @@ use Rattle.sql_meaning.specs.World.{Context}
 abbrev pub table_size : TableEntry → ℕ
 table_size t = t.tokens + length t.columns
 
--- what its defaults and CHECKs add to that of an INSERT: their nodes, which its CREATE TABLE spells out
+-- the nodes of its defaults and CHECKs add nothing to that of an INSERT, since the CREATE TABLE spells them out
 abbrev pub constraints_size : BoundInsert → ℕ
 constraints_size b = all_nodes (flat_map (λ (c : PutColumn). option_to_list c.default) b.columns) + all_nodes b.checks
 
@@ -32,7 +32,7 @@ from_size items = sum (map (λ (i : FromItem). i.table.tokens + i.width) items)
 abbrev pub opened_size : Runnable → ℕ
 opened_size (Creates e) = 0
 opened_size (Drops t) = 0
-opened_size (Puts p) = table_size p.table + constraints_size p.insert
+opened_size (Puts p) = table_size p.table
 opened_size (Queries q) = from_size q.from
 opened_size (Shows rows) = 0
 opened_size DoesNothing = 0

@@ -1,5 +1,5 @@
 -- Tables and what they hold.
-use Rattle.std.specs.Prelude.{ℕ, List, [], ◌∷◌, Bool, false, ℤ, pos, nat_lt, length, map, slice_index_or}
+use Rattle.std.specs.Prelude.{ℕ, List, [], ◌∷◌, Bool, false, ℤ, pos, nat_lt, length, map, slice_index_or, slice_set, Some, None}
 use Rattle.std.specs.Option.{option_map}
 use Rattle.std.specs.declared.option.Option.{Option}
 use Rattle.eng_entry.specs.Entries.{Entries, no_entries}
@@ -7,7 +7,7 @@ use Rattle.eng_value.specs.Environments.{Environment, ItemRow, Lists, Surroundin
 use Rattle.eng_value.specs.HostMeanings.{HostMeanings, Oracle, nobody}
 use Rattle.eng_value.specs.StoredRows.{StoredRow}
 use Rattle.eng_value.specs.declared.value.Value.{Value}
-use Rattle.eng_value.specs.declared.value.Value.TheVariants.{Integer}
+use Rattle.eng_value.specs.declared.value.Value.TheVariants.{Integer, Null}
 use Rattle.sql_meaning.specs.declared.column.TableEntry.{TableEntry}
 use Rattle.sql_meaning.specs.Runnables.{Query}
 use Rattle.sql_meaning.specs.Declarations.{table_called, tables_of}
@@ -64,6 +64,21 @@ rows_at lists table = slice_index_or lists table []
 abbrev pub tables_in : State → List TableEntry
 tables_in state = tables_of state.world.catalog
 
+-- ---- the column that is the rowid: the value is stored once, as the rowid of the row, and is seen in both places
+
+-- the values with this one in such a column, if there is one
+abbrev pub with_column : Option ℕ → Value → List Value → List Value
+with_column None v values = values
+with_column (Some place) v values = slice_set values place v
+
+-- what a table stores of a row
+abbrev pub stored : Option ℕ → StoredRow → StoredRow
+stored column r = record r { values = with_column column Null r.values }
+
+-- what is seen of a row that is stored
+abbrev pub seen : Option ℕ → StoredRow → StoredRow
+seen column r = record r { values = with_column column (Integer r.rowid) r.values }
+
 -- ---- what a connection shows of its tables
 
 -- a row with its rowid in front
@@ -72,7 +87,7 @@ with_rowid r = Integer r.rowid ∷ r.values
 
 -- the rows of the table of this name, each with its rowid in front; none where there is no such table
 abbrev pub table_rows : State → List ℕ → Option (List (List Value))
-table_rows state name = option_map (λ (t : TableEntry). map with_rowid (rows_at state.world.tables t.number)) (table_called (tables_in state) name)
+table_rows state name = option_map (λ (t : TableEntry). map (λ r. with_rowid (seen t.rowid r)) (rows_at state.world.tables t.number)) (table_called (tables_in state) name)
 
 abbrev pub no_transaction : Transaction
 no_transaction = record { marks = []; has_written = false }

@@ -9,12 +9,13 @@ pub struct Column {
     pub affinity: Affinity,
 }
 
-/// What an entry of the catalog declares of a table: its name and its columns, the number under which its rows stand, and how many
-/// tokens its CREATE TABLE has.
+/// What an entry of the catalog declares of a table: its name and its columns, which of them is the rowid, if one is, the number under
+/// which its rows stand, and how many tokens its CREATE TABLE has.
 #[derive(Drop)]
 pub struct TableEntry {
     pub name: Text,
     pub columns: Items<Column>,
+    pub rowid: Option<u32>,
     pub number: u32,
     pub tokens: usize,
 }

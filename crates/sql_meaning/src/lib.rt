@@ -21,6 +21,7 @@ pub use laws::{
 };
 pub use script::{Ending, Failure, Options};
 pub use states::{
-    a_false_conjunct_rejects, a_table_is_full_at_the_largest_rowid, statements_do_what_they_say,
+    a_false_conjunct_rejects, a_rowid_is_drawn_where_none_is_given,
+    a_table_is_full_at_the_largest_rowid, constraints_are_spelled_out, statements_do_what_they_say,
     states_stay_valid, tests_change_nothing,
 };

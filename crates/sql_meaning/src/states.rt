@@ -1,5 +1,5 @@
 // What the definitions promise of states and of what statements do to them. Nothing here runs: each contract is a law.
-ghost use Rattle.std.specs.Prelude.{◌≡◌, ◌↔◌, ◌⊎◌, ◌∷◌, ◌++◌, ℕ, ℤ, List, None, Ok, [], length};
+ghost use Rattle.std.specs.Prelude.{◌≡◌, ◌≤◌, ◌*◌, ◌↔◌, ◌⊎◌, ◌∷◌, ◌++◌, ℕ, ℤ, List, None, Ok, [], length};
 ghost use Rattle.eng_entry.specs.declared.entry.Entry.{Entry};
 ghost use Rattle.eng_value.specs.Causes.{only};
 ghost use Rattle.eng_value.specs.Environments.{Environment};
@@ -19,6 +19,7 @@ ghost use Rattle.sql_meaning.specs.Rows.{NewRow, fitted, fixed};
 ghost use Rattle.sql_meaning.specs.Statement.{bound_for, items_at, text_outcome};
 ghost use Rattle.sql_meaning.specs.Steps.{Done, Fails};
 ghost use Rattle.sql_meaning.specs.Valid.{AreRowsOf, IsValid};
+ghost use Rattle.sql_meaning.specs.Work.{constraints_size};
 ghost use Rattle.sql_meaning.specs.World.{Context, environment_at, new_state, rows_at};
 
 /// The state of a new connection is valid, and every statement leaves a valid state valid.
@@ -42,6 +43,13 @@ pub fn statements_do_what_they_say()
         → bound_for ctx text ≡ Ok (Queries q) → (text_outcome ctx text).next ≡ ctx.state }
     ensures shows { (ctx : Context) (text : List ℕ) (rows : List (List BoundExpr))
         → bound_for ctx text ≡ Ok (Shows rows) → (text_outcome ctx text).next ≡ ctx.state }
+{}
+
+/// What an INSERT puts by default and tests of a row, the CREATE TABLE of its table spells out: it has at most two nodes for each token of
+/// that text.
+pub fn constraints_are_spelled_out()
+    ensures { (ctx : Context) (text : List ℕ) (p : Put)
+        → IsValid ctx.state → bound_for ctx text ≡ Ok (Puts p) → constraints_size p.insert ≤ 2 * p.table.tokens }
 {}
 
 /// A row for which no rowid is given gets one, but where the largest rowid is taken: there it is refused, as one of a full table.

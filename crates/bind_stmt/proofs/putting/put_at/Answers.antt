@@ -16,7 +16,7 @@ returns c =
     let columns = columns_put t.columns places target.defaults target.not_nulls in
     let are : c.in_ok-columns.columns ≡ columns = c.in_ok-columns.ensures ∙ ap (λ cs. columns_put cs places c.replace-defaults.result c.as_slice-not_nulls.result.now) c.as_slice.ensures
     ∙ ap (λ ds. columns_put t.columns places ds c.as_slice-not_nulls.result.now) c.replace-defaults.ensures.value ∙ ap (λ ms. columns_put t.columns places target.defaults ms) c.as_slice-not_nulls.ensures in
-    let from : rowid_from columns target.item.rowid c.args.given ≡ Ok rowid = subst (λ cs. rowid_from cs target.item.rowid c.args.given ≡ Ok rowid) (c.as_slice-2.ensures ∙ are) c.in_ok-rowid.ensures in
+    let from : rowid_from columns t.rowid c.args.given ≡ Ok rowid = subst (λ cs. rowid_from cs t.rowid c.args.given ≡ Ok rowid) (c.as_slice-2.ensures ∙ are) c.in_ok-rowid.ensures in
     let made : List ℕ → List PutColumn → List BoundExpr → BoundInsert = λ name columns checks. record { table = t.number; name = name; columns = columns; rowid = rowid; checks = checks; rows = c.args.rows } in (
       put_from t columns target.checks c.args.rows rowid,
       put-at-is t target places c.args.given c.args.rows columns rowid refl from,

@@ -1,12 +1,10 @@
-use Rattle.std.proofs.Common.{◌≡◌, true, Ok, map, subst, arith, ap, sym, ◌∙◌, flat_map}
+use Rattle.std.proofs.Common.{◌≡◌, true, map, arith, ap, ◌∙◌, flat_map}
 use Rattle.bound_ignored.specs.Erased.{Marks, erased, marks_of}
 use Rattle.bound_ignored.proofs.ErasedLaws.{flat_map-conditions_of-erased}
 use Rattle.bound_tree.specs.Conditions.{conditions_of}
 use Rattle.std.proofs.lemmas.Grind.{common_steps}
-use Rattle.sql_meaning.specs.Running.{from_of, is_plain_core}
+use Rattle.sql_meaning.specs.Running.{is_plain_core}
 use Rattle.sql_meaning.specs.Runnables.{Queries}
-use Rattle.bind_stmt.specs.Binds.{marks_in}
-use Rattle.bind_stmt.proofs.IgnoredLaws.{marks-same}
 use Rattle.bind_stmt.proofs.Steps.{query_over, select-is}
 use Rattle.bind_stmt.proofs.querying.select.Goals as goal
 
@@ -15,15 +13,13 @@ returns c =
     let w = c.in_ok-table.ensures in
     let core = c.args.core.now in
     let plain : is_plain_core core ≡ true = grind (arith, common_steps) in
-    let from : from_of c.args.tables.now core.items ≡ Ok w.0 = subst (λ items. from_of c.args.tables.now items ≡ Ok w.0) c.as_slice.ensures w.1 in
-    let marks : marks_of core.items ≡ marks_in w.0 = sym (marks-same c.args.tables.now core.items w.0 from) in
     let conjuncts = c.replace.ensures.value ∙ c.in_ok-erase.ensures.conjuncts in
     let results = c.replace-2.ensures.value ∙ c.in_ok-erase.ensures.results in (
       Queries (query_over core w.0),
-      select-is c.args.tables.now core w.0 plain from,
+      select-is c.args.tables.now core w.0 plain w.1,
       record {
-        from = w.2;
-        conjuncts = ap (flat_map conditions_of) conjuncts ∙ flat_map-conditions_of-erased (marks_of core.items) core.conjuncts ∙ ap (λ (m : Marks). map (erased m) (flat_map conditions_of core.conjuncts)) marks;
-        results = results ∙ ap (λ (m : Marks). map (erased m) core.results) marks;
+        from = w.2.0;
+        conjuncts = ap (flat_map conditions_of) conjuncts ∙ flat_map-conditions_of-erased _ core.conjuncts ∙ ap (λ (m : Marks). map (erased m) (flat_map conditions_of core.conjuncts)) w.2.1;
+        results = results ∙ ap (λ (m : Marks). map (erased m) core.results) w.2.1;
       },
     )
