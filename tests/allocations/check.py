@@ -2,7 +2,7 @@
 
     python3 tests/allocations/check.py PROGRAM [TEST]
 
-PROGRAM holds the tests of crates/top_tests, as `rt test` builds it there (crates/top_tests/out). The test puts rows into tables, one with
+PROGRAM holds the tests of crates/top_tests, as `rt ci` leaves it (crates/top_tests/out/top_tests_tests). The test puts rows into tables, one with
 each constraint among them, and checks that a statement which finds no memory leaves the table as it was. For k = 1, 2 .. the k-th
 allocation of a run fails; each run must pass, or end because the test itself found no memory, until one comes to its end before its
 k-th allocation. Needs a C compiler, and a program that takes its memory from the C library.

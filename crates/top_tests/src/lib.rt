@@ -11,6 +11,8 @@ mod connections;
 #[cfg(test)]
 mod memory_rows;
 #[cfg(test)]
+mod queries;
+#[cfg(test)]
 mod script_tables;
 #[cfg(test)]
 mod scripts;
