@@ -23,8 +23,8 @@ use Rattle.bound_tree.specs.declared.writes.BoundWrite.{BoundWrite}
 use Rattle.bound_actions.specs.Froms.{table_of}
 use Rattle.bound_ignored.specs.Marked.{ignoring, marked, marked_as, marked_command, marked_compound, marked_core, marked_part, marked_unit, marked_write}
 use Rattle.sql_meaning.specs.declared.column.TableEntry.{TableEntry}
-use Rattle.sql_meaning.specs.Running.{command_of, first_part, from_of, if_built, is_plain_core, is_plain_query, part_of, put_at, put_into, put_of, query_of, rows_of_part, runnable_of, select_of, table_of_source}
-use Rattle.sql_meaning.specs.Runnables.{Creates, DoesNothing, Drops, FromItem, Puts, Queries, Runnable, Shows}
+use Rattle.sql_meaning.specs.Running.{command_of, first_part, from_of, has_own_keys, if_built, is_plain_core, is_plain_query, item_of_table, part_of, put_at, put_into, put_of, query_of, rows_of_part, runnable_of, select_of, table_of_source}
+use Rattle.sql_meaning.specs.Runnables.{Creates, DoesNothing, Drops, FromItem, Indexes, Puts, Queries, Runnable, Shows, Unindexes}
 use Rattle.sql_meaning.proofs.ValidLaws.{same-ok}
 use Rattle.sql_words.specs.Refusals.{◌>>=◌}
 use Rattle.bind_stmt.specs.Small.{IsSmall, columns_in, from_size}
@@ -41,6 +41,8 @@ abbrev bare : Runnable → Runnable
 bare (Queries q) = Queries (record q { from = bare_from q.from })
 bare (Creates e) = Creates e
 bare (Drops t) = Drops t
+bare (Indexes i) = Indexes i
+bare (Unindexes name) = Unindexes name
 bare (Puts p) = Puts p
 bare (Shows rows) = Shows rows
 bare DoesNothing = DoesNothing
@@ -53,7 +55,7 @@ bared f (Err why) = Err why
 
 module _ (tables : List TableEntry) (ignored : List Action) (within : Option (List ℕ)) where
   item-bare : (i : BoundItem) (r : Result TableEntry Cause) (p q : List (Option ℕ))
-      → bared bare_from (r >>= λ t. Ok (record { table = t; width = length i.columns; ignored = p } ∷ [])) ≡ bared bare_from (r >>= λ t. Ok (record { table = t; width = length i.columns; ignored = q } ∷ []))
+      → bared bare_from (r >>= λ t. Ok (item_of_table (record i { ignored = p }) t ∷ [])) ≡ bared bare_from (r >>= λ t. Ok (item_of_table (record i { ignored = q }) t ∷ []))
   item-bare i (Ok t) p q = refl
   item-bare i (Err why) p q = refl
 
@@ -158,8 +160,8 @@ module _ (tables : List TableEntry) (ignored : List Action) where
       over table (Err why) = refl
 
       by : (table : Option (List ℕ)) → put_of tables (units_marked units) (record w { target = ignored_in table w.target }) ≡ put_of tables units w
-      by None = ap (if_built (nat_eq (length w.target.item.indexes) 0)) (over None (table_of_source tables w.target.item.source))
-      by (Some table) = ap (if_built (nat_eq (length w.target.item.indexes) 0)) (over (Some table) (table_of_source tables w.target.item.source))
+      by None = ap (if_built (has_own_keys w.target.item.indexes)) (over None (table_of_source tables w.target.item.source))
+      by (Some table) = ap (if_built (has_own_keys w.target.item.indexes)) (over (Some table) (table_of_source tables w.target.item.source))
 
   -- ---- any statement
 
@@ -195,6 +197,8 @@ bare-small size (Queries q) small =
     }
 bare-small size (Creates e) small = small
 bare-small size (Drops t) small = small
+bare-small size (Indexes i) small = small
+bare-small size (Unindexes name) small = small
 bare-small size (Puts p) small = small
 bare-small size (Shows rows) small = small
 bare-small size DoesNothing small = small
@@ -212,6 +216,8 @@ small-bare size (Queries q) small =
     }
 small-bare size (Creates e) small = small
 small-bare size (Drops t) small = small
+small-bare size (Indexes i) small = small
+small-bare size (Unindexes name) small = small
 small-bare size (Puts p) small = small
 small-bare size (Shows rows) small = small
 small-bare size DoesNothing small = small

@@ -5,6 +5,7 @@ use Rattle.eng_entry.specs.Entries.{Entries}
 use Rattle.eng_entry.specs.declared.entry.EntryKind.TheVariants as entry_kind
 use Rattle.eng_entry.specs.declared.entry.EntryKind.{EntryKind}
 use Rattle.eng_value.specs.declared.limits.TheConstants.{MAX_COLUMNS}
+use Rattle.eng_index.specs.declared.key_term.KeyTerm.{KeyTerm}
 use Rattle.sql_tree.specs.Layers.{PartLayer, of_part, of_query}
 use Rattle.sql_tree.specs.declared.expr.Expr.TheOpen.{QueryPart-F}
 use Rattle.sql_tree.specs.declared.expr.Expr.{Expr}
@@ -117,14 +118,15 @@ read-definition (Some t) width e =
 
 -- ---- the whole
 
-insert-is : (b : BoundInsert) (t : TableEntry) → b.table ≡ t.number → b.name ≡ t.name → b.columns ≡ placed_from 0 t.columns → b.rowid ≡ rowid.Drawn → b.checks ≡ [] → b ≡ (put_as t b.rows).insert
-insert-is b t number name columns from checks =
-    let made : ℕ → List ℕ → List PutColumn → RowidFrom → List BoundExpr → BoundInsert = λ n name columns from checks. record { table = n; name = name; columns = columns; rowid = from; checks = checks; rows = b.rows } in
-    ap (λ n. made n b.name b.columns b.rowid b.checks) number
-    ∙ ap (λ n. made t.number n b.columns b.rowid b.checks) name
-    ∙ ap (λ cs. made t.number t.name cs b.rowid b.checks) columns
-    ∙ ap (λ r. made t.number t.name (placed_from 0 t.columns) r b.checks) from
-    ∙ ap (λ cs. made t.number t.name (placed_from 0 t.columns) rowid.Drawn cs) checks
+insert-is : (b : BoundInsert) (t : TableEntry) → b.table ≡ t.number → b.name ≡ t.name → b.columns ≡ placed_from 0 t.columns → b.rowid ≡ rowid.Drawn → b.checks ≡ [] → b.keys ≡ [] → b ≡ (put_as t b.rows).insert
+insert-is b t number name columns from checks keys =
+    let made : ℕ → List ℕ → List PutColumn → RowidFrom → List BoundExpr → List (List KeyTerm) → BoundInsert = λ n name columns from checks keys. record { table = n; name = name; columns = columns; rowid = from; checks = checks; keys = keys; rows = b.rows } in
+    ap (λ n. made n b.name b.columns b.rowid b.checks b.keys) number
+    ∙ ap (λ n. made t.number n b.columns b.rowid b.checks b.keys) name
+    ∙ ap (λ cs. made t.number t.name cs b.rowid b.checks b.keys) columns
+    ∙ ap (λ r. made t.number t.name (placed_from 0 t.columns) r b.checks b.keys) from
+    ∙ ap (λ cs. made t.number t.name (placed_from 0 t.columns) rowid.Drawn cs b.keys) checks
+    ∙ ap (made t.number t.name (placed_from 0 t.columns) rowid.Drawn []) keys
 
 pub plain-binds : (catalog : Entries) (number : ℕ) (text : List ℕ) (s : Statement) (i : Insert) (rows : List (List Expr)) (b : BoundInsert) → insert_of s ≡ Some i → rows_of i ≡ Some rows → PutsPlain catalog (tables_of catalog) text i.table rows b
     → is_built text s ≡ true → catalog.triggers ≡ [] → Binds (asked_by None) catalog number text s (Ok (bound.Insert b))
@@ -142,7 +144,7 @@ plain-binds catalog number text s i rows b at puts p built untriggered =
     bound_so (asked_by None) catalog number text s runs.statement runs.statement (Ok (bound.Insert b)) untriggered built runs.bound (permitted-all runs.statement) (
       Puts (put_as put b.rows),
       runs.runs number,
-      insert-is b put p.number p.called p.columns p.rowid p.checks,
+      insert-is b put p.number p.called p.columns p.rowid p.checks p.keys,
     )
 
 -- what is found of a statement's INSERT and rows

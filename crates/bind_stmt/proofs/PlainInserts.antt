@@ -1,5 +1,5 @@
 -- An INSERT of rows of values that name nothing into a table without constraints: what it is bound to, and what runs of that.
-use Rattle.std.proofs.Common.{◌≡◌, ◌≤◌, ℕ, suc, nat_eq, true, if◌then◌else◌, List, [], ◌∷◌, length, map, position, Option, Some, None, Result, Ok, Err, slice_get, refl, sym, ap, ◌∙◌}
+use Rattle.std.proofs.Common.{◌≡◌, ◌≤◌, ℕ, suc, true, if◌then◌else◌, List, [], ◌∷◌, length, map, position, Option, Some, None, Result, Ok, Err, slice_get, refl, sym, ap, ◌∙◌}
 use Rattle.std.specs.List.{range_with_len}
 use Rattle.std.proofs.lemmas.Bool.{eq-eqb}
 use Rattle.eng_entry.specs.Entries.{Entries}
@@ -48,7 +48,7 @@ use Rattle.sql_bound.specs.Writes.{Begun, Opened, Opening, fired_all, insert_beg
 use Rattle.sql_bound.specs.declared.scopes.Asked.{Asked}
 use Rattle.sql_bound.specs.declared.scopes.Work.{Work}
 use Rattle.sql_meaning.specs.Built.{stands_alone}
-use Rattle.sql_meaning.specs.Running.{columns_put, command_of, first_part, found_table, if_built, put_at, put_into, rowid_from, rows_of_part, runnable_of, table_of_source}
+use Rattle.sql_meaning.specs.Running.{columns_put, command_of, first_part, found_table, has_own_keys, if_built, keys_of, put_at, put_into, rowid_from, rows_of_part, runnable_of, table_of_source}
 use Rattle.sql_meaning.specs.Declarations.{table_called}
 use Rattle.sql_meaning.specs.Runnables.{Put, Puts, Runnable}
 use Rattle.sql_meaning.specs.Statement.{around}
@@ -190,13 +190,14 @@ command-is o s name first rows made entry t deep inserts named table defines pla
 
 -- what runs of it
 abbrev pub put_as : TableEntry → List (List BoundExpr) → Put
-put_as t made = put_from t (placed_from 0 t.columns) [] made rowid.Drawn
+put_as t made = put_from t (placed_from 0 t.columns) [] [] made rowid.Drawn
 
 plain-put : (entry : Entry) (t : TableEntry) (d : BoundTarget) (width : ℕ) (made : List (List BoundExpr)) → IsBare entry d → width ≡ length t.columns → t.rowid ≡ None → put_at t d (places_from 0 width) None made ≡ Ok (put_as t made)
 plain-put entry t d width made bare wide none =
     let are = ap (λ n. columns_put t.columns (places_from 0 n) d.defaults d.not_nulls) wide ∙ all_put 0 t.columns d.defaults d.not_nulls bare.defaults bare.not_nulls in
     put-at-is t d (places_from 0 width) None made (placed_from 0 t.columns) rowid.Drawn are (ap (λ r. rowid_from (placed_from 0 t.columns) r None) none)
-    ∙ ap (λ cs. Ok (put_from t (placed_from 0 t.columns) cs made rowid.Drawn)) bare.checks
+    ∙ ap (λ cs. Ok (put_from t (placed_from 0 t.columns) cs (keys_of t.rowid d.item.indexes) made rowid.Drawn)) bare.checks
+    ∙ ap (λ (is : List BoundIndex). Ok (put_from t (placed_from 0 t.columns) [] (keys_of t.rowid is) made rowid.Drawn)) bare.indexes
 
 runs : (tables : List TableEntry) (number : ℕ) (text : List ℕ) (s : Statement) (entry : Entry) (width : ℕ) (made : List (List BoundExpr)) (b : BoundCommand × Opened) (t : TableEntry) → Writes entry width made b → table_called tables entry.name ≡ Some t
     → width ≡ length t.columns → t.rowid ≡ None → runnable_of tables number text s (statement_with s.explain b) ≡ Ok (Puts (put_as t made))
@@ -206,7 +207,7 @@ runs tables number text s entry width made b t w called wide none =
     let put : Result Put Cause → Result Runnable Cause = λ r. r >>= λ p. Ok (Puts p) in
     let into : TableEntry → Result Runnable Cause = λ t. put (put_into t d units w.write.change) in
     ap (command_of tables number text s units) w.command
-    ∙ ap (λ (is : List BoundIndex). if_built (nat_eq (length is) 0) (table_of_source tables d.item.source >>= into)) w.target.indexes
+    ∙ ap (λ (is : List BoundIndex). if_built (has_own_keys is) (table_of_source tables d.item.source >>= into)) w.target.indexes
     ∙ ap (λ x. table_of_source tables x >>= into) w.target.source
     ∙ ap (λ x. found_table x >>= into) called
     ∙ ap (λ c. put (put_into t d units c)) w.change.is

@@ -1,5 +1,5 @@
 -- What runs is small beside its tree.
-use Rattle.std.proofs.Common.{◌≡◌, ℕ, ◌+◌, ◌*◌, ◌≤◌, List, [], ◌∷◌, length, map, Option, Some, None, Result, Ok, Err, slice_get, refl, ap, subst, arith}
+use Rattle.std.proofs.Common.{◌≡◌, ℕ, ◌+◌, ◌*◌, ◌≤◌, List, [], ◌∷◌, map, Option, Some, None, Result, Ok, Err, slice_get, refl, ap, subst, arith}
 use Rattle.eng_value.specs.declared.cause.Cause.{Cause}
 use Rattle.eng_value.specs.declared.cause.Cause.TheVariants as cause
 use Rattle.sql_tree.specs.Layers.{PartLayer, SelectLayer, of_part, of_query, of_select}
@@ -21,7 +21,7 @@ use Rattle.bound_size.specs.Small as small
 use Rattle.bound_size.specs.Small.{IsSmallCore, IsSmallPart, MakesSmall}
 use Rattle.sql_meaning.specs.declared.bound.RowidFrom.{RowidFrom}
 use Rattle.sql_meaning.specs.declared.column.TableEntry.{TableEntry}
-use Rattle.sql_meaning.specs.Running.{columns_put, first_part, from_of, is_plain_core, is_plain_query, part_of, put_at, put_into, query_of, rowid_from, rows_of_part, select_of, table_of_source}
+use Rattle.sql_meaning.specs.Running.{columns_put, first_part, from_of, is_plain_core, is_plain_query, item_of_table, keys_of, part_of, put_at, put_into, query_of, rowid_from, rows_of_part, select_of, table_of_source}
 use Rattle.sql_meaning.specs.Runnables.{FromItem, Put, Queries, Runnable, Shows}
 use Rattle.sql_meaning.proofs.ValidLaws.{if_built-ok, same-ok, then-ok}
 use Rattle.sql_words.specs.Refusals.{◌>>=◌}
@@ -41,9 +41,9 @@ record Widths (items : List BoundItem) (from : List FromItem) : Type 0 where
 widths : (tables : List TableEntry) (items : List BoundItem) (from : List FromItem) → from_of tables items ≡ Ok from → Widths items from
 widths tables [] from e = subst (Widths []) (same-ok [] from e) (record { columns = refl; size = refl })
 widths tables (i ∷ []) from e =
-    let item : TableEntry → Result (List FromItem) Cause = λ t. Ok (record { table = t; width = length i.columns; ignored = i.ignored } ∷ []) in
+    let item : TableEntry → Result (List FromItem) Cause = λ t. Ok (item_of_table i t ∷ []) in
     let t = then-ok (table_of_source tables i.source) item from e in
-    subst (Widths (i ∷ [])) (same-ok (record { table = t.0; width = length i.columns; ignored = i.ignored } ∷ []) from t.2) (record { columns = refl; size = refl })
+    subst (Widths (i ∷ [])) (same-ok (item_of_table i t.0 ∷ []) from t.2) (record { columns = refl; size = refl })
 widths tables (i ∷ j ∷ items) from e = absurd (let bad : Err cause.NotYet ≡ Ok from = e in cc)
 
 query-few : (size : ℕ) (s : SelectLayer) (c : BoundCore) (from : List FromItem) → select_size s ≤ size → IsSmallCore s c → Widths c.items from → IsSmallQuery size (query_over c from)
@@ -94,7 +94,7 @@ rows-small size (QueryPart-F.Values written) (part.Select c) rows le few e = abs
 rows-put : (t : TableEntry) (target : BoundTarget) (places : List (Option ℕ)) (given : Option ℕ) (rows : List (List BoundExpr)) (p : Put) → put_at t target places given rows ≡ Ok p → rows ≡ p.insert.rows
 rows-put t target places given rows p e =
     let columns = columns_put t.columns places target.defaults target.not_nulls in
-    let put : RowidFrom → Put = put_from t columns target.checks rows in
+    let put : RowidFrom → Put = put_from t columns target.checks (keys_of t.rowid target.item.indexes) rows in
     let from = then-ok (rowid_from columns t.rowid given) (λ f. Ok (put f)) p e in
     ap (λ (y : Put). y.insert.rows) (same-ok (put from.0) p from.2)
 

@@ -16,12 +16,16 @@ use Rattle.sql_meaning.specs.declared.bound.PutColumn.{PutColumn}
 use Rattle.sql_meaning.specs.declared.bound.RowidFrom.{RowidFrom}
 use Rattle.sql_words.specs.Refusals.{◌>>=◌}
 use Rattle.sql_meaning.specs.declared.column.TableEntry.{TableEntry}
-use Rattle.sql_meaning.specs.Running.{columns_put, first_part, from_of, is_plain_core, part_of, put_at, put_into, put_of, put_with, query_of, rowid_from, select_of, table_of_source}
+use Rattle.sql_meaning.specs.Running.{columns_put, first_part, from_of, is_plain_core, item_of_table, part_of, put_at, put_into, put_of, put_with, query_of, rowid_from, select_of, table_of_source}
 use Rattle.sql_meaning.specs.Runnables.{FromItem, Put, Puts, Queries, Query, Runnable}
 use Rattle.bound_tree.specs.Conditions.{conditions_of}
 use Rattle.bound_tree.specs.declared.statements.BoundCreation.{BoundCreation}
 use Rattle.sql_meaning.specs.Declarations.{column_of, columns_created, columns_of, rowid_created}
-use Rattle.sql_meaning.specs.Running.{creation_of, entry_with, if_built}
+use Rattle.eng_index.specs.declared.key_term.KeyTerm.{KeyTerm}
+use Rattle.sql_tree.specs.declared.statement.IndexDefinition.{IndexDefinition}
+use Rattle.sql_bound.specs.Declarations.{definition_in}
+use Rattle.bind_stmt.specs.Steps.{index_meant}
+use Rattle.sql_meaning.specs.Running.{creation_by, creation_of, entry_with, has_own_keys, if_built, keys_of}
 use Rattle.sql_meaning.specs.Runnables.{Creates}
 use Rattle.sql_bound.specs.Declarations.{rowid_of}
 use Rattle.sql_tree.specs.declared.statement.Command.TheVariants as command
@@ -31,7 +35,7 @@ use Rattle.sql_tree.specs.declared.statement.Statement.{Statement}
 use Rattle.sql_tree.specs.declared.statement.TableDefinition.{TableDefinition}
 use Rattle.bind_stmt.specs.Binds.{IsRefusal}
 
-pub item-is : (tables : List TableEntry) (i : BoundItem) (t : TableEntry) → table_of_source tables i.source ≡ Ok t → from_of tables (i ∷ []) ≡ Ok (record { table = t; width = length i.columns; ignored = i.ignored } ∷ [])
+pub item-is : (tables : List TableEntry) (i : BoundItem) (t : TableEntry) → table_of_source tables i.source ≡ Ok t → from_of tables (i ∷ []) ≡ Ok (item_of_table i t ∷ [])
 item-is tables i t is = rw is refl
 
 abbrev pub query_over : BoundCore → List FromItem → Query
@@ -43,20 +47,20 @@ select-is tables c from plain is = rw (plain, is) refl
 pub query-is : (tables : List TableEntry) (units : List BoundUnit) (place : ℕ) (p : BoundPart) (r : Result Runnable Cause) → first_part (slice_get units place) ≡ Ok p → part_of tables p ≡ r → query_of tables units place ≡ r
 query-is tables units place p r is e = rw is e
 
-pub put-is : (tables : List TableEntry) (units : List BoundUnit) (w : BoundWrite) (t : TableEntry) (p : Put) → w.target.item.indexes ≡ [] → table_of_source tables w.target.item.source ≡ Ok t → put_into t w.target units w.change ≡ Ok p → put_of tables units w ≡ Ok (Puts p)
-put-is tables units w t p bare is e = rw (bare, is, e) refl
+pub put-is : (tables : List TableEntry) (units : List BoundUnit) (w : BoundWrite) (t : TableEntry) (p : Put) → has_own_keys w.target.item.indexes ≡ true → table_of_source tables w.target.item.source ≡ Ok t → put_into t w.target units w.change ≡ Ok p → put_of tables units w ≡ Ok (Puts p)
+put-is tables units w t p own is e = rw (own, is, e) refl
 
-pub put-refused : (tables : List TableEntry) (units : List BoundUnit) (w : BoundWrite) (t : TableEntry) (why : Cause) → w.target.item.indexes ≡ [] → table_of_source tables w.target.item.source ≡ Ok t → IsRefusal (put_into t w.target units w.change) why → IsRefusal (put_of tables units w) why
-put-refused tables units w t why bare is (inl mem) = inl mem
-put-refused tables units w t why bare is (inr e) = inr (rw (bare, is, e) refl)
+pub put-refused : (tables : List TableEntry) (units : List BoundUnit) (w : BoundWrite) (t : TableEntry) (why : Cause) → has_own_keys w.target.item.indexes ≡ true → table_of_source tables w.target.item.source ≡ Ok t → IsRefusal (put_into t w.target units w.change) why → IsRefusal (put_of tables units w) why
+put-refused tables units w t why own is (inl mem) = inl mem
+put-refused tables units w t why own is (inr e) = inr (rw (own, is, e) refl)
 
 -- what is put, where its columns take this and its rowids come from there
-abbrev pub put_from : TableEntry → List PutColumn → List BoundExpr → List (List BoundExpr) → RowidFrom → Put
-put_from t columns checks rows from = record { table = t; insert = record { table = t.number; name = t.name; columns = columns; rowid = from; checks = checks; rows = rows } }
+abbrev pub put_from : TableEntry → List PutColumn → List BoundExpr → List (List KeyTerm) → List (List BoundExpr) → RowidFrom → Put
+put_from t columns checks keys rows from = record { table = t; insert = record { table = t.number; name = t.name; columns = columns; rowid = from; checks = checks; keys = keys; rows = rows } }
 
 pub put-at-is : (t : TableEntry) (target : BoundTarget) (places : List (Option ℕ)) (given : Option ℕ) (rows : List (List BoundExpr)) (columns : List PutColumn) (from : RowidFrom) → columns_put t.columns places target.defaults target.not_nulls ≡ columns
-    → rowid_from columns t.rowid given ≡ Ok from → put_at t target places given rows ≡ Ok (put_from t columns target.checks rows from)
-put-at-is t target places given rows columns from are is = ap (λ cs. put_with t target cs given rows) are ∙ ap (λ r. r >>= λ f. Ok (put_from t columns target.checks rows f)) is
+    → rowid_from columns t.rowid given ≡ Ok from → put_at t target places given rows ≡ Ok (put_from t columns target.checks (keys_of t.rowid target.item.indexes) rows from)
+put-at-is t target places given rows columns from are is = ap (λ cs. put_with t target cs given rows) are ∙ ap (λ r. r >>= λ f. Ok (put_from t columns target.checks (keys_of t.rowid target.item.indexes) rows f)) is
 
 pub columns-are : (text : List ℕ) (s : Statement) (k : Create) (t : TableDefinition) → s.command ≡ command.Create k → k.definition ≡ definition.Table t → length t.columns ≤ MAX_COLUMNS → columns_created text s.command ≡ Some (columns_of text t)
 columns-are text s k t is at few =
@@ -72,6 +76,11 @@ from-more tables [] i more = absurd (let bad : true ≡ false = more in cc)
 from-more tables (j ∷ []) i more = refl
 from-more tables (j ∷ k ∷ others) i more = refl
 
-pub created-is : (number : ℕ) (text : List ℕ) (s : Statement) (b : BoundCreation) (k : Create) (t : TableDefinition) → s.command ≡ command.Create k → k.definition ≡ definition.Table t → length t.columns ≤ MAX_COLUMNS
-    → creation_of number text s b ≡ Ok (Creates (entry_with number text b.name s))
-created-is number text s b k t is at few = ap (λ o. if_built (is_some o) (Ok (Creates (entry_with number text b.name s)))) (columns-are text s k t is at few)
+pub created-is : (tables : List TableEntry) (number : ℕ) (text : List ℕ) (s : Statement) (b : BoundCreation) (k : Create) (t : TableDefinition) → s.command ≡ command.Create k → k.definition ≡ definition.Table t → length t.columns ≤ MAX_COLUMNS
+    → creation_of tables number text s b ≡ Ok (Creates (entry_with number text b.name s))
+created-is tables number text s b k t is at few =
+    ap (creation_by tables number text s b) (ap definition_in is ∙ ap Some at) ∙ ap (λ o. if_built (is_some o) (Ok (Creates (entry_with number text b.name s)))) (columns-are text s k t is at few)
+
+pub indexed-is : (tables : List TableEntry) (number : ℕ) (text : List ℕ) (s : Statement) (b : BoundCreation) (k : Create) (i : IndexDefinition) → s.command ≡ command.Create k → k.definition ≡ definition.Index i
+    → creation_of tables number text s b ≡ index_meant tables text s b
+indexed-is tables number text s b k i is at = ap (creation_by tables number text s b) (ap definition_in is ∙ ap Some at)

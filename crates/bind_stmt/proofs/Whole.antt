@@ -1,5 +1,5 @@
 -- The whole statement.
-use Rattle.std.proofs.Common.{◌≡◌, ◌⊎◌, codes, ℕ, ◌+◌, ◌≤◌, nat_eq, length, Bool, true, false, not, is_some, List, [], ◌∷◌, map, None, Result, Ok, Err, inl, inr, refl, sym, ap, subst, ◌∙◌, arith}
+use Rattle.std.proofs.Common.{◌≡◌, ◌⊎◌, codes, ℕ, ◌+◌, ◌≤◌, Bool, true, false, not, is_some, List, [], ◌∷◌, map, None, Result, Ok, Err, inl, inr, refl, sym, ap, subst, ◌∙◌, arith}
 use Rattle.eng_entry.specs.Entries.{Entries, entry_named}
 use Rattle.eng_value.specs.declared.cause.Cause.{Cause}
 use Rattle.eng_value.specs.declared.cause.Cause.TheVariants as cause
@@ -37,8 +37,8 @@ use Rattle.sql_bound.specs.Writes.{Begun, Opened, fired_all, insert_begun, inser
 use Rattle.sql_bound.specs.declared.scopes.Work.{Work}
 use Rattle.sql_meaning.specs.Built.{is_abort, is_built, is_built_command, is_built_rows, is_built_rows_source, is_built_values}
 use Rattle.sql_meaning.specs.Declarations.{tables_of}
-use Rattle.sql_meaning.specs.Running.{command_of, if_built, put_into, put_of, runnable_of, table_of_source}
-use Rattle.sql_meaning.specs.Runnables.{Creates, DoesNothing, Drops, Put, Puts, Queries, Runnable, Shows}
+use Rattle.sql_meaning.specs.Running.{command_of, has_own_keys, if_built, put_into, put_of, runnable_of, table_of_source}
+use Rattle.sql_meaning.specs.Runnables.{Creates, DoesNothing, Drops, Indexes, Put, Puts, Queries, Runnable, Shows, Unindexes}
 use Rattle.sql_meaning.specs.Statement.{around}
 use Rattle.sql_meaning.specs.declared.column.TableEntry.{TableEntry}
 use Rattle.sql_meaning.proofs.AsideLaws.{IsAside, IsAsideCommand, command-aside, create-aside, pragma-aside, removed-aside}
@@ -58,6 +58,8 @@ use Rattle.bind_stmt.proofs.Sizing.{defaulted-small, inserted-small, query-small
 
 aside-small : (size : ℕ) (x : Runnable) → 1 ≤ size → IsAside x → IsSmall size x
 aside-small size (Creates e) le a = le
+aside-small size (Indexes i) le a = le
+aside-small size (Unindexes name) le a = le
 aside-small size (Drops t) le a = le
 aside-small size DoesNothing le a = le
 aside-small size (Puts p) le a = absurd a
@@ -99,7 +101,7 @@ put-small : (size : ℕ) (tables : List TableEntry) (units : List BoundUnit) (w 
 put-small size tables units w x few e =
     let puts : Put → Result Runnable Cause = λ put. Ok (Puts put) in
     let into : TableEntry → Result Runnable Cause = λ t. put_into t w.target units w.change >>= puts in
-    let bare = if_built-ok (nat_eq (length w.target.item.indexes) 0) (table_of_source tables w.target.item.source >>= into) x e in
+    let bare = if_built-ok (has_own_keys w.target.item.indexes) (table_of_source tables w.target.item.source >>= into) x e in
     let table = then-ok (table_of_source tables w.target.item.source) into x bare.1 in
     let put = then-ok (put_into table.0 w.target units w.change) puts x table.2 in
     subst (IsSmall size) (same-ok (Puts put.0) x put.2) (few table.0 put.0 put.1)

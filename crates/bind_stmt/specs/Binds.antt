@@ -7,14 +7,17 @@ use Rattle.sql_tree.specs.Sizes.{size_of_statement}
 use Rattle.sql_tree.specs.declared.statement.Statement.{Statement}
 use Rattle.sql_meaning.specs.declared.bound.BoundInsert.{BoundInsert}
 use Rattle.sql_meaning.specs.declared.bound.BoundSelect.{BoundSelect}
-use Rattle.sql_meaning.specs.Runnables.{Runnable, Creates, DoesNothing, Drops, FromItem, Put, Puts, Queries, Query, Shows}
+use Rattle.sql_meaning.specs.declared.bound.FromTable.{FromTable}
+use Rattle.sql_meaning.specs.Runnables.{Runnable, Creates, DoesNothing, Drops, FromItem, Indexes, NewIndex, Put, Puts, Queries, Query, Shows, Unindexes}
 use Rattle.sql_meaning.specs.Declarations.{columns_created, rowid_created}
 use Rattle.eng_entry.specs.Entries.{Entries}
 use Rattle.bound_tree.specs.Conditions.{conditions_of}
-use Rattle.bound_ignored.specs.Erased.{Marks, erased}
+use Rattle.bound_ignored.specs.Erased.{erased}
 use Rattle.sql_meaning.specs.Permits.{Asking}
+use Rattle.sql_meaning.specs.Searches.{marks_in}
 use Rattle.sql_meaning.specs.Statement.{statement_bound}
 use Rattle.bind_stmt.specs.Small.{IsSmall}
+use Rattle.bind_stmt.specs.declared.creating.NewIndex as bound_index
 use Rattle.bind_stmt.specs.declared.statement.Bound.{Bound}
 use Rattle.bind_stmt.specs.declared.statement.Bound.TheVariants as bound
 
@@ -36,19 +39,15 @@ AnswersBy R meant (Err why) = IsRefusal meant why
 
 -- ---- what stands for what
 
--- no item, or one by the number of its table
-abbrev pub IsFrom : List FromItem → Option ℕ → Type 0
+-- no item, or one by the number of its table, with the terms of its indexes
+abbrev pub IsFrom : List FromItem → Option FromTable → Type 0
 IsFrom [] None = ⊤
-IsFrom (i ∷ []) (Some number) = number ≡ i.table.number
+IsFrom (i ∷ []) (Some from) = (from.table ≡ i.table.number) × (from.indexes ≡ i.indexes)
 IsFrom _ _ = ⊥
-
--- which columns of the items are ignored, and which is the rowid
-abbrev pub marks_in : List FromItem → Marks
-marks_in from = map (λ (i : FromItem). record { ignored = i.ignored; rowid = i.table.rowid }) from
 
 -- NULL stands in place of what is ignored, and the rowid in place of the column that is it
 pub record IsQueryAs (q : Query) (b : BoundSelect) : Type 0 where
-  pub from : IsFrom q.from b.table
+  pub from : IsFrom q.from b.from
   pub conjuncts : flat_map conditions_of b.conjuncts ≡ map (erased (marks_in q.from)) q.conjuncts
   pub results : b.results ≡ map (erased (marks_in q.from)) q.results
 
@@ -56,12 +55,22 @@ pub record IsQueryAs (q : Query) (b : BoundSelect) : Type 0 where
 abbrev pub IsPut : Put → BoundInsert → Type 0
 IsPut p b = b ≡ p.insert
 
+-- an index by the name and the number of its table
+pub record IsIndexAs (i : NewIndex) (x : bound_index.NewIndex) : Type 0 where
+  pub name : x.name ≡ i.entry.name
+  pub table_name : x.table_name ≡ i.table.name
+  pub table : x.table ≡ i.table.number
+  pub terms : x.terms ≡ i.terms
+  pub unique : x.unique ≡ i.unique
+
 -- ---- statements
 
 abbrev pub IsBound : Runnable → Bound → Type 0
 IsBound (Creates e) (bound.CreateTable t) =
     (t.name ≡ e.name) × (columns_created e.text e.def.command ≡ Some t.columns) × (t.rowid ≡ rowid_created e.text e.def.command)
 IsBound (Drops t) (bound.DropTable d) = (d.name ≡ t.name) × (d.table ≡ t.number)
+IsBound (Indexes i) (bound.CreateIndex x) = IsIndexAs i x
+IsBound (Unindexes name) (bound.DropIndex n) = n ≡ name
 IsBound (Puts p) (bound.Insert b) = IsPut p b
 IsBound (Queries q) (bound.Select b) = IsQueryAs q b
 IsBound (Shows rows) (bound.Values b) = b ≡ rows

@@ -133,3 +133,4 @@ pub record PutsPlain (catalog : Entries) (tables : List TableEntry) (text : List
   pub called : b.name ≡ put.name
   pub rowid : b.rowid ≡ rowid.Drawn
   pub checks : b.checks ≡ []
+  pub keys : b.keys ≡ []

@@ -1,42 +1,33 @@
 // Which statements are built.
-ghost use Rattle.std.specs.Prelude.{◌≡◌, IfOk};
+ghost use Rattle.std.specs.Prelude.{◌≡◌};
 ghost use Rattle.std.specs.List.{list_all};
-ghost use Rattle.sql_bound.specs.Answers.{OnlyMem};
-ghost use Rattle.sql_meaning.specs.Built.{are_built_rows, is_built, is_built_behind, is_built_column, is_built_command, is_built_constraint, is_built_definition, is_built_filter, is_built_from, is_built_insert, is_built_item, is_built_part, is_built_query, is_built_result, is_built_rows, is_built_rows_source, is_built_select, is_built_source, is_built_table, is_built_values, is_built_row, is_plain_select, is_table, stands_alone};
+ghost use Rattle.sql_meaning.specs.Built.{are_built_rows, is_built, is_built_behind, is_built_column, is_built_command, is_built_constraint, is_built_definition, is_built_filter, is_built_from, is_built_insert, is_built_item, is_built_part, is_built_query, is_built_result, is_built_rows, is_built_rows_source, is_built_select, is_built_source, is_built_table, is_built_values, is_built_row, is_plain_select, is_removed, stands_alone};
 ghost use Rattle.sql_tree.specs.Layers.{of_item, of_part, of_query, of_result, of_select, of_source};
 
 use crate::built_expressions::is_built as is_built_expr;
-use bind_entry::rowid_of;
-use eng_value::Cause;
 use sql_tree::{
     ColumnConstraint, ColumnDefinition, Command, ConflictChoice, Definition, Expr, FromItem,
     Insert, InsertSource, ObjectKind, Query, QueryPart, ResultColumn, RowCommand, SelectCore,
     Source, Statement, TableConstraint, TableDefinition,
 };
 use sqlite_items::Items;
-use std::alloc::Global;
 
-/// Whether all of a statement is built. Only memory can fail.
-pub(crate) fn is_built(alloc: Global, text: &str, statement: &Statement) -> Result<bool, Cause>
-    ensures ok { IfOk result (λ b. b ≡ is_built text.now statement.now) }
-    ensures mem { OnlyMem result }
+/// Whether all of a statement is built.
+pub(crate) fn is_built(text: &str, statement: &Statement) -> bool
+    ensures { result ≡ is_built text.now statement.now }
 {
-    if statement.explain.is_some() {
-        return Ok(false);
-    }
-    is_built_command(alloc, text, &statement.command)
+    statement.explain.is_none() && is_built_command(text, &statement.command)
 }
 
-fn is_built_command(alloc: Global, text: &str, command: &Command) -> Result<bool, Cause>
-    ensures ok { IfOk result (λ b. b ≡ is_built_command text.now command.now) }
-    ensures mem { OnlyMem result }
+fn is_built_command(text: &str, command: &Command) -> bool
+    ensures { result ≡ is_built_command text.now command.now }
 {
     match command {
-        Command::Rows(rows) => Ok(is_built_rows(text, rows)),
-        Command::Create(create) => is_built_definition(alloc, text, &create.definition),
-        Command::Remove(remove) => Ok(is_table(remove.kind)),
-        Command::Pragma(_) => Ok(true),
-        Command::Transaction(_) => Ok(false),
+        Command::Rows(rows) => is_built_rows(text, rows),
+        Command::Create(create) => is_built_definition(text, &create.definition),
+        Command::Remove(remove) => is_removed(remove.kind),
+        Command::Pragma(_) => true,
+        Command::Transaction(_) => false,
     }
 }
 
@@ -52,84 +43,77 @@ fn is_built_rows(text: &str, command: &RowCommand) -> bool
 
 // ---- CREATE
 
-fn is_built_definition(alloc: Global, text: &str, definition: &Definition) -> Result<bool, Cause>
-    ensures ok { IfOk result (λ b. b ≡ is_built_definition text.now definition.now) }
-    ensures mem { OnlyMem result }
+fn is_built_definition(text: &str, definition: &Definition) -> bool
+    ensures { result ≡ is_built_definition text.now definition.now }
 {
     match definition {
-        Definition::Table(table) => is_built_table(alloc, text, table),
-        _ => Ok(false),
+        Definition::Table(table) => is_built_table(text, table),
+        Definition::Index(_) => true,
+        _ => false,
     }
 }
 
-/// Whether a table has no key but that which is the rowid, and constraints whose expressions are built.
-fn is_built_table(alloc: Global, text: &str, table: &TableDefinition) -> Result<bool, Cause>
-    ensures ok { IfOk result (λ b. b ≡ is_built_table text.now table.now) }
-    ensures mem { OnlyMem result }
+/// Whether the expressions of a table's constraints are built.
+fn is_built_table(text: &str, table: &TableDefinition) -> bool
+    ensures { result ≡ is_built_table text.now table.now }
 {
-    let has_rowid = rowid_of(alloc, text, table)?.is_some();
-    Ok(
-        are_built_columns(text, has_rowid, table.columns.as_slice())
-            && are_built_behind(text, has_rowid, table.constraints.as_slice()),
-    )
+    are_built_columns(text, table.columns.as_slice())
+        && are_built_behind(text, table.constraints.as_slice())
 }
 
-fn are_built_columns(text: &str, has_rowid: bool, columns: &[ColumnDefinition]) -> bool
-    ensures { result ≡ list_all (is_built_column text.now has_rowid) columns.now }
+fn are_built_columns(text: &str, columns: &[ColumnDefinition]) -> bool
+    ensures { result ≡ list_all (is_built_column text.now) columns.now }
 {
-    columns
-        .iter()
-        .all(|column| is_built_column(text, has_rowid, column))
+    columns.iter().all(|column| is_built_column(text, column))
 }
 
-fn is_built_column(text: &str, has_rowid: bool, column: &ColumnDefinition) -> bool
-    ensures { result ≡ is_built_column text.now has_rowid column.now }
+fn is_built_column(text: &str, column: &ColumnDefinition) -> bool
+    ensures { result ≡ is_built_column text.now column.now }
 {
-    are_built_constraints(text, has_rowid, column.constraints.as_slice())
+    are_built_constraints(text, column.constraints.as_slice())
 }
 
-fn are_built_constraints(text: &str, has_rowid: bool, constraints: &[ColumnConstraint]) -> bool
-    ensures { result ≡ list_all (is_built_constraint text.now has_rowid) constraints.now }
-{
-    constraints.iter().all(|constraint| is_built_constraint(text, has_rowid, constraint))
-}
-
-fn is_built_constraint(text: &str, has_rowid: bool, constraint: &ColumnConstraint) -> bool
-    ensures { result ≡ is_built_constraint text.now has_rowid constraint.now }
-{
-    match constraint {
-        ColumnConstraint::PrimaryKey => has_rowid,
-        ColumnConstraint::Unique => false,
-        ColumnConstraint::Check(x) | ColumnConstraint::Default(x) => is_built_expr(text, x),
-        ColumnConstraint::NotNull | ColumnConstraint::Null | ColumnConstraint::Collate(_) => true,
-    }
-}
-
-fn are_built_behind(text: &str, has_rowid: bool, constraints: &[TableConstraint]) -> bool
-    ensures { result ≡ list_all (is_built_behind text.now has_rowid) constraints.now }
+fn are_built_constraints(text: &str, constraints: &[ColumnConstraint]) -> bool
+    ensures { result ≡ list_all (is_built_constraint text.now) constraints.now }
 {
     constraints
         .iter()
-        .all(|constraint| is_built_behind(text, has_rowid, constraint))
+        .all(|constraint| is_built_constraint(text, constraint))
 }
 
-fn is_built_behind(text: &str, has_rowid: bool, constraint: &TableConstraint) -> bool
-    ensures { result ≡ is_built_behind text.now has_rowid constraint.now }
+fn is_built_constraint(text: &str, constraint: &ColumnConstraint) -> bool
+    ensures { result ≡ is_built_constraint text.now constraint.now }
 {
     match constraint {
-        TableConstraint::PrimaryKey(_) => has_rowid,
-        TableConstraint::Unique(_) => false,
-        TableConstraint::Check(x) => is_built_expr(text, x),
+        ColumnConstraint::Check(x) | ColumnConstraint::Default(x) => is_built_expr(text, x),
+        _ => true,
     }
 }
 
-/// Whether it is a table.
-pub(crate) fn is_table(kind: ObjectKind) -> bool
-    ensures { result ≡ is_table kind }
+fn are_built_behind(text: &str, constraints: &[TableConstraint]) -> bool
+    ensures { result ≡ list_all (is_built_behind text.now) constraints.now }
+{
+    constraints
+        .iter()
+        .all(|constraint| is_built_behind(text, constraint))
+}
+
+fn is_built_behind(text: &str, constraint: &TableConstraint) -> bool
+    ensures { result ≡ is_built_behind text.now constraint.now }
+{
+    match constraint {
+        TableConstraint::Check(x) => is_built_expr(text, x),
+        _ => true,
+    }
+}
+
+/// Whether things of this kind can be dropped: tables and indexes.
+fn is_removed(kind: ObjectKind) -> bool
+    ensures { result ≡ is_removed kind }
 {
     match kind {
-        ObjectKind::Table => true,
-        ObjectKind::Index | ObjectKind::View | ObjectKind::Trigger => false,
+        ObjectKind::Table | ObjectKind::Index => true,
+        ObjectKind::View | ObjectKind::Trigger => false,
     }
 }
 

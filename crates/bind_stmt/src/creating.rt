@@ -1,16 +1,20 @@
-// CREATE TABLE.
+// CREATE TABLE and CREATE INDEX.
 ghost use Rattle.std.specs.Prelude.{◌≡◌, ℕ, map, IfOk};
 ghost use Rattle.bind_stmt.specs.Binds.{AnswersBy, IsBound};
+ghost use Rattle.bind_stmt.specs.Steps.{index_meant};
 ghost use Rattle.sql_meaning.specs.Declarations.{column_of};
 ghost use Rattle.sql_meaning.specs.Running.{creation_of};
 ghost use Rattle.sql_words.specs.Types.{type_affinity};
 
+use crate::keys::{are_own, terms_of};
 use crate::statement::Bound;
+use crate::tables::found_table;
 use bind_entry::rowid_of;
 use bind_name::{affinity_of_type, name};
 use bound_tree::BoundCreation;
+use eng_index::KeyTerm;
 use eng_value::{Affinity, Cause, MAX_COLUMNS, Text};
-use sql_meaning::Column;
+use sql_meaning::{Column, TableEntry};
 use sql_tree::{ColumnDefinition, Command, Definition, Statement, TypeName};
 use sqlite_items::Items;
 use std::alloc::{AllocError, Global};
@@ -23,14 +27,25 @@ pub struct NewTable {
     pub rowid: Option<u32>,
 }
 
-/// The table that a statement creates; what else CREATE makes is not built.
+/// An index that is created: its name, the name and the number of its table, the terms of its key, and whether no two rows may share that.
+#[derive(Drop)]
+pub struct NewIndex {
+    pub name: Text,
+    pub table_name: Text,
+    pub table: u32,
+    pub terms: Items<KeyTerm>,
+    pub unique: bool,
+}
+
+/// The table or index that a statement creates; what else CREATE makes is not built.
 pub(crate) fn created(
     alloc: Global,
+    tables: &[TableEntry],
     text: &str,
     statement: &Statement,
     creation: &BoundCreation,
 ) -> Result<Bound, Cause>
-    ensures { (number : ℕ) → AnswersBy IsBound (creation_of number text.now statement.now creation.now) result }
+    ensures { (number : ℕ) → AnswersBy IsBound (creation_of tables.now number text.now statement.now creation.now) result }
 {
     match &statement.command {
         Command::Create(create) => match &create.definition {
@@ -41,10 +56,35 @@ pub(crate) fn created(
                     rowid: rowid_of(alloc, text, table)?,
                 }),
             ),
+            Definition::Index(_) => indexed(alloc, tables, text, statement, creation),
             _ => Err(Cause::NotYet),
         },
         _ => Err(Cause::NotYet),
     }
+}
+
+/// An index on a table, without a collation of a host.
+fn indexed(
+    alloc: Global,
+    tables: &[TableEntry],
+    text: &str,
+    statement: &Statement,
+    creation: &BoundCreation,
+) -> Result<Bound, Cause>
+    ensures { AnswersBy IsBound (index_meant tables.now text.now statement.now creation.now) result }
+{
+    let parts = creation.parts.as_slice();
+    if !are_own(parts) {
+        return Err(Cause::NotYet);
+    }
+    let table = found_table(tables, creation.owner.as_bytes())?;
+    Ok(Bound::CreateIndex(NewIndex {
+        name: creation.name.clone()?,
+        table_name: table.name.clone()?,
+        table: table.number,
+        terms: terms_of(alloc, table.rowid, parts)?,
+        unique: creation.unique,
+    }))
 }
 
 fn declared_columns(

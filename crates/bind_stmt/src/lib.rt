@@ -9,11 +9,12 @@
 mod built;
 mod built_expressions;
 mod creating;
+mod keys;
 mod plain_rows;
 mod putting;
 mod querying;
 mod statement;
 mod tables;
 
-pub use creating::NewTable;
+pub use creating::{NewIndex, NewTable};
 pub use statement::{Bound, DroppedTable, bind, bind_names, runnable};

@@ -296,6 +296,7 @@ fn rows_put(
         columns: placed(alloc, table.columns.as_slice())?,
         rowid: RowidFrom::Drawn,
         checks: Items::new(alloc),
+        keys: Items::new(alloc),
         rows,
     }))
 }

@@ -4,6 +4,7 @@ ghost use Rattle.bind_stmt.specs.Binds.{Answers, AnswersBy, IsBound, IsPut};
 ghost use Rattle.bind_stmt.specs.Steps.{rows_at};
 ghost use Rattle.sql_meaning.specs.Running.{columns_put, first_or, put_at, put_into, put_of, rowid_from, stores_integers};
 
+use crate::keys::{has_own_keys, keys_of};
 use crate::querying::first_part;
 use crate::statement::Bound;
 use crate::tables::table_of_source;
@@ -14,7 +15,7 @@ use sqlite_items::{Items, at};
 use std::alloc::{AllocError, Global};
 use std::mem;
 
-/// Rows of values for a table without an index.
+/// Rows of values for a table whose keys have no collation of a host.
 pub(crate) fn put(
     alloc: Global,
     tables: &[TableEntry],
@@ -24,7 +25,7 @@ pub(crate) fn put(
     ensures { AnswersBy IsBound (put_of tables.now units write) result }
 {
     let mut write = write;
-    if !write.target.item.indexes.is_empty() {
+    if !has_own_keys(write.target.item.indexes.as_slice()) {
         return Err(Cause::NotYet);
     }
     let table = table_of_source(tables, &write.target.item.source)?;
@@ -91,12 +92,14 @@ fn put_at(
     let not_nulls = target.not_nulls.as_slice();
     let columns = columns_put(alloc, table.columns.as_slice(), places, defaults, not_nulls)?;
     let rowid = rowid_from(columns.as_slice(), table.rowid, given)?;
+    let keys = keys_of(alloc, table.rowid, target.item.indexes.as_slice())?;
     Ok(BoundInsert {
         table: table.number,
         name: table.name.clone()?,
         columns,
         rowid,
         checks: mem::replace(&mut target.checks, Items::new(alloc)),
+        keys,
         rows,
     })
 }

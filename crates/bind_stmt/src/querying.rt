@@ -1,5 +1,5 @@
 // Queries that run.
-ghost use Rattle.std.specs.Prelude.{◌≡◌, ◌∷◌, ◌++◌, [], map, slice_get, OnOk};
+ghost use Rattle.std.specs.Prelude.{◌≡◌, ◌∷◌, ◌++◌, [], map, slice_get, OnOk, Some};
 ghost use Rattle.bind_stmt.specs.Binds.{Answers, AnswersBy, IsBound};
 ghost use Rattle.bind_stmt.specs.Ignored.{are_marked, is_marked};
 ghost use Rattle.bind_stmt.specs.Steps.{IsFromAs};
@@ -7,12 +7,13 @@ ghost use Rattle.bind_stmt.specs.declared.statement.Bound.TheVariants as bound;
 ghost use Rattle.bound_ignored.specs.Erased.{erased, marks_of};
 ghost use Rattle.sql_meaning.specs.Running.{first_part, from_of, is_plain_query, query_of, select_of};
 
+use crate::keys::index_terms;
 use crate::statement::Bound;
 use crate::tables::table_of_source;
 use bound_ignored::erased_all;
 use bound_tree::{BoundCore, BoundItem, BoundPart, BoundQuery, BoundUnit};
 use eng_value::Cause;
-use sql_meaning::{BoundSelect, TableEntry};
+use sql_meaning::{BoundSelect, FromTable, TableEntry};
 use sqlite_items::Items;
 use std::alloc::{AllocError, Global};
 use std::mem;
@@ -71,41 +72,50 @@ fn select(alloc: Global, tables: &[TableEntry], core: &mut BoundCore) -> Result<
     if core.groups.is_some() || core.distinct {
         return Err(Cause::NotYet);
     }
-    let table = from_table(tables, &mut core.items)?;
+    let from = from_table(alloc, tables, &mut core.items)?;
     erase(alloc, core)?;
     Ok(BoundSelect {
-        table,
+        from,
         conjuncts: mem::replace(&mut core.conjuncts, Items::new(alloc)),
         results: mem::replace(&mut core.results, Items::new(alloc)),
     })
 }
 
-/// The number of the table of a FROM, where it has an item, which then has the rowid of that table.
-fn from_table(tables: &[TableEntry], items: &mut Items<BoundItem>) -> Result<Option<u32>, Cause>
+/// The table of a FROM, where it has an item, which then has the rowid of that table.
+fn from_table(
+    alloc: Global,
+    tables: &[TableEntry],
+    items: &mut Items<BoundItem>,
+) -> Result<Option<FromTable>, Cause>
     ensures { AnswersBy (IsFromAs items.new) (from_of tables.now items.old) result }
 {
     match items.pop() {
         None => Ok(None),
-        Some(item) => item_table(tables, items, item),
+        Some(item) => Ok(Some(item_table(alloc, tables, items, item)?)),
     }
 }
 
-/// The same for the last item, which is put back where it is the only one.
+/// The table of the last item, which is put back where it is the only one.
 fn item_table(
+    alloc: Global,
     tables: &[TableEntry],
     others: &mut Items<BoundItem>,
     item: BoundItem,
-) -> Result<Option<u32>, Cause>
-    ensures { AnswersBy (IsFromAs others.new) (from_of tables.now (others.old ++ item ∷ [])) result }
+) -> Result<FromTable, Cause>
+    ensures { AnswersBy (λ from table. IsFromAs others.new from (Some table)) (from_of tables.now (others.old ++ item ∷ [])) result }
 {
     if !others.is_empty() {
         return Err(Cause::NotYet);
     }
     let mut item = item;
     let table = table_of_source(tables, &item.source)?;
+    let indexes = index_terms(alloc, table.rowid, item.indexes.as_slice())?;
     item.rowid = table.rowid;
     others.push(item)?;
-    Ok(Some(table.number))
+    Ok(FromTable {
+        table: table.number,
+        indexes,
+    })
 }
 
 // ---- columns that are ignored, and those that are rowids

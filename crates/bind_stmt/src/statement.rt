@@ -1,28 +1,29 @@
 // Any statement.
 ghost use Rattle.std.specs.Prelude.{◌≡◌, ℕ, [], None};
 ghost use Rattle.bind_stmt.specs.Binds.{AnswersBy, Binds, IsBound};
-ghost use Rattle.bound_tree.specs.declared.statements.ThingKind.TheVariants as thing;
+ghost use Rattle.std.specs.Prelude.{Some};
+ghost use Rattle.sql_tree.specs.declared.statement.ObjectKind.TheVariants as object;
 ghost use Rattle.sql_bound.specs.Answers.{Answers};
 ghost use Rattle.sql_bound.specs.HostFacts.{facts_of};
 ghost use Rattle.sql_bound.specs.Statements.{bound_of};
 ghost use Rattle.sql_meaning.specs.Built.{is_built};
 ghost use Rattle.sql_meaning.specs.Declarations.{tables_of};
 ghost use Rattle.sql_meaning.specs.Permits.{asked_by};
-ghost use Rattle.sql_meaning.specs.Running.{if_built, removal_of, runnable_of};
+ghost use Rattle.sql_meaning.specs.Running.{if_built, kind_removed, removal_of, runnable_of};
 ghost use Rattle.sql_meaning.specs.Statement.{around, nobody_tells};
 
 use crate::built::is_built;
-use crate::creating::{NewTable, created};
+use crate::creating::{NewIndex, NewTable, created};
 use crate::plain_rows::plain_rows;
 use crate::putting::put;
 use crate::querying::query;
 use crate::tables::found_table;
-use bound_tree::{BoundCommand, BoundExpr, BoundRemoval, BoundStatement, ThingKind};
+use bound_tree::{BoundCommand, BoundExpr, BoundRemoval, BoundStatement};
 use eng_catalog::Catalog;
 use eng_value::{Cause, Text};
 use sql_bound::HostFacts;
 use sql_meaning::{BoundInsert, BoundSelect, TableEntry};
-use sql_tree::Statement;
+use sql_tree::{Command, ObjectKind, Statement};
 use sqlite_items::Items;
 use std::alloc::Global;
 
@@ -38,6 +39,9 @@ pub struct DroppedTable {
 pub enum Bound {
     CreateTable(NewTable),
     DropTable(DroppedTable),
+    CreateIndex(NewIndex),
+    /// The index of this name.
+    DropIndex(Text),
     /// The rows, and the table that takes them.
     Insert(BoundInsert),
     Select(BoundSelect),
@@ -64,8 +68,7 @@ pub fn bind(
     requires untriggered { catalog.now.triggers ≡ [] }
     ensures { (number : ℕ) → Binds (asked_by None) catalog.now number text.now statement.now result }
 {
-    let built = is_built(alloc, text, statement)?;
-    if !built {
+    if !is_built(text, statement) {
         return Err(Cause::NotYet);
     }
     if let Some(insert) = plain_rows(alloc, catalog, tables, text, statement)? {
@@ -86,8 +89,7 @@ pub fn bind_names(
 ) -> Result<BoundStatement, Cause>
     ensures { Answers (if_built (is_built body.now statement.now) (bound_of (around catalog.now) body.now statement.now)) result }
 {
-    let built = is_built(alloc, body, statement)?;
-    if !built {
+    if !is_built(body, statement) {
         return Err(Cause::NotYet);
     }
     named(alloc, catalog, body, statement)
@@ -141,26 +143,30 @@ pub fn runnable(
     match command {
         BoundCommand::Asked(place) => query(alloc, tables, units, place),
         BoundCommand::Written(write) => put(alloc, tables, units, write),
-        BoundCommand::Created(creation) => created(alloc, text, statement, &creation),
-        BoundCommand::Removed(removal) => removed(tables, &removal),
+        BoundCommand::Created(creation) => created(alloc, tables, text, statement, &creation),
+        BoundCommand::Removed(removal) => removed(tables, &statement.command, &removal),
         BoundCommand::Transacted(_) => Err(Cause::NotYet),
-        BoundCommand::Pragma(_) | BoundCommand::Nothing(_, _, _) => Ok(Bound::Nothing),
+        BoundCommand::Pragma(_) => Ok(Bound::Nothing),
+        BoundCommand::Nothing(_, _, _) => Ok(Bound::Nothing),
     }
 }
 
-/// A table that is dropped; nothing else can be dropped yet.
-fn removed(tables: &[TableEntry], removal: &BoundRemoval) -> Result<Bound, Cause>
-    ensures { AnswersBy IsBound (removal_of tables.now removal.now.kind removal.now.name) result }
+/// A table or an index that is dropped; nothing else can be dropped yet.
+fn removed(tables: &[TableEntry], command: &Command, removal: &BoundRemoval) -> Result<Bound, Cause>
+    ensures { AnswersBy IsBound (removal_of tables.now (kind_removed command.now) removal.now.name) result }
 {
-    match removal.kind {
-        ThingKind::ATable => dropped(tables, removal.name.as_bytes()),
-        ThingKind::AModuleTable | ThingKind::AnIndex | ThingKind::AView | ThingKind::ATrigger =>
-            Err(Cause::NotYet),
+    match command {
+        Command::Remove(remove) => match remove.kind {
+            ObjectKind::Table => dropped(tables, removal.name.as_bytes()),
+            ObjectKind::Index => Ok(Bound::DropIndex(removal.name.clone()?)),
+            ObjectKind::View | ObjectKind::Trigger => Err(Cause::NotYet),
+        },
+        _ => Err(Cause::NotYet),
     }
 }
 
 fn dropped(tables: &[TableEntry], name: &[u8]) -> Result<Bound, Cause>
-    ensures { AnswersBy IsBound (removal_of tables.now thing.ATable name.now) result }
+    ensures { AnswersBy IsBound (removal_of tables.now (Some object.Table) name.now) result }
 {
     let table = found_table(tables, name)?;
     Ok(Bound::DropTable(DroppedTable {

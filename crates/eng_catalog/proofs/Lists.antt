@@ -1,10 +1,11 @@
 -- What the place of the first element that passes a test tells of a list.
-use Rattle.std.proofs.Common.{◌≡◌, ℕ, suc, ◌+◌, ◌≤◌, Bool, true, false, cond, not, nat_lt, List, [], ◌∷◌, ◌++◌, length, map, remove, slice_get, position, Option, None, Some, IfNone, refl, sym, ap, ◌∙◌, arith}
+use Rattle.std.proofs.Common.{◌≡◌, ℕ, suc, ◌+◌, ◌≤◌, zero, Bool, true, false, cond, not, nat_lt, List, [], ◌∷◌, ◌++◌, length, map, get_or, remove, slice_get, position, Option, None, Some, IfNone, refl, sym, ap, ◌∙◌, arith}
 use Rattle.std.specs.List.{AllByRecursion, IsDistinct, filter, find, position_or_len}
 use Rattle.std.proofs.lemmas.List.{append-nil, drop_all, length-map, take_all}
 use Rattle.std.proofs.lemmas.List.Folds.{find_at}
 use Rattle.std.proofs.lemmas.Map.Keys.{IsDistinct-head, IsDistinct-tail}
-use Rattle.std.proofs.lemmas.Option.{slice_get_past}
+use Rattle.std.proofs.lemmas.List.Quantifiers.{position-Some}
+use Rattle.std.proofs.lemmas.Option.{slice_get-get_or, slice_get_past}
 use borrow.Author.Tests.{ltb-false}
 
 -- the element at a place, and the list without it
@@ -63,6 +64,26 @@ module _ {X : Type 0} (p : X → Bool) where
       by : (b : Bool) → (find p xs ≡ None → filter (λ y. not (p y)) xs ≡ xs) → cond b (Some x) (find p xs) ≡ None → cond (not b) (x ∷ filter (λ y. not (p y)) xs) (filter (λ y. not (p y)) xs) ≡ x ∷ xs
       by true rest e = cc
       by false rest e = ap (λ l. x ∷ l) (rest e)
+
+  -- without one that passes
+  filter_not-drop : (xs : List X) (i : ℕ) (x : X) → slice_get xs i ≡ Some x → p x ≡ true → filter (λ y. not (p y)) (remove xs i) ≡ filter (λ y. not (p y)) xs
+  filter_not-drop [] i x at is = absurd (cc)
+  filter_not-drop (y ∷ xs) zero x at is =
+      let same : y ≡ x = cc in
+      let passes : p y ≡ true = ap p same ∙ is in
+      rw passes refl
+  filter_not-drop (y ∷ xs) (suc i) x at is = ap (λ l. cond (not (p y)) (y ∷ l) l) (filter_not-drop xs i x at is)
+
+  -- without the first that passes
+  pub filter_not-place : (xs : List X) (i : ℕ) → position p xs ≡ Some i → filter (λ y. not (p y)) (remove xs i) ≡ filter (λ y. not (p y)) xs
+  filter_not-place [] i is = absurd (cc)
+  filter_not-place (x ∷ xs) i is =
+      let h = position-Some p (x ∷ xs) i x is in
+      filter_not-drop (x ∷ xs) i (get_or (x ∷ xs) i x) (slice_get-get_or (x ∷ xs) i x h.0) h.1
+
+  -- where there is none
+  pub filter_not-none : (xs : List X) → position p xs ≡ None → filter (λ y. not (p y)) xs ≡ xs
+  filter_not-none xs none = filter_not-all xs (find_by_place xs ∙ ap (at_place xs) none)
 
   -- where at most one element passes, since those that pass are the same and no two are
   module _ (same : X → X → Bool) (one : (x y : X) → p x ≡ true → p y ≡ same x y) where

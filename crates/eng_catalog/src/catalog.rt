@@ -1,7 +1,7 @@
 // The catalog.
 ghost use Rattle.std.specs.Prelude.{◌≡◌, None, IfNone, OnErr, OnOk};
 ghost use Rattle.std.specs.Option.{option_copied};
-ghost use Rattle.eng_entry.specs.Entries.{HaveDistinctNames, entries_in, entry_named, no_entries, with_entry, without_name};
+ghost use Rattle.eng_entry.specs.Entries.{HaveDistinctNames, entries_in, entry_named, no_entries, with_entry, without_indexes, without_name};
 ghost use Rattle.eng_entry.specs.Spaces.{space_of};
 
 use crate::entry_map::EntryMap;
@@ -80,6 +80,13 @@ impl Catalog {
             Space::Names => self.names.add(entry),
             Space::Triggers => self.triggers.add(entry),
         }
+    }
+
+    /// Takes the entries of the indexes on the table of this name out; the others stay in their order. Takes no memory.
+    pub fn drop_indexes(&mut self, table: &str)
+        ensures { self.new ≡ without_indexes table.now self.old }
+    {
+        self.names.drop_indexes(table);
     }
 
     /// Takes the entry of this name out of a space; the others stay in their order. Where none has the name nothing changes. Takes no

@@ -1,7 +1,7 @@
 // The entries of one space.
 ghost use Rattle.std.specs.Prelude.{◌≡◌, ◌≤◌, [], ◌∷◌, ◌++◌, None, IfNone, OnErr, OnOk, length, position, slice_get};
 ghost use Rattle.std.specs.Option.{option_copied};
-ghost use Rattle.eng_entry.specs.Entries.{HaveDistinctNames, entries_not_named, entry_named, is_named};
+ghost use Rattle.eng_entry.specs.Entries.{HaveDistinctNames, entries_not_named, entries_not_on, entry_named, is_index_on, is_named};
 
 use eng_entry::{Entry, is_same_name};
 use indexmap::IndexMap;
@@ -94,6 +94,24 @@ impl EntryMap {
             },
             None => None,
         }
+    }
+
+    /// Takes the entries of the indexes on the table of this name out; the others stay in their order. Takes no memory.
+    pub(crate) fn drop_indexes(&mut self, table: &str)
+        ensures { self.new ≡ entries_not_on table.now self.old }
+    {
+        while let Some(place) = self.index_place(table) {
+            self.entries.shift_remove_index(place);
+        }
+    }
+
+    /// The place of the oldest index on the table of this name.
+    fn index_place(&self, table: &str) -> Option<usize>
+        ensures { result ≡ position (is_index_on table.now) self.now }
+    {
+        self.entries
+            .values()
+            .position(|e| e.is_index_on(table.as_bytes()))
     }
 
     /// The place of the entry of this name.

@@ -1,7 +1,9 @@
 -- A catalog as lists of entries.
-use Rattle.std.specs.Prelude.{ℕ, Bool, not, List, [], ◌∷◌, ◌++◌, filter, Option}
+use Rattle.std.specs.Prelude.{ℕ, Bool, true, false, not, ◌&&◌, List, [], ◌∷◌, ◌++◌, filter, Option}
 use Rattle.std.specs.List.{IsDistinct, find}
 use Rattle.eng_entry.specs.declared.entry.Entry.{Entry}
+use Rattle.eng_entry.specs.declared.entry.EntryKind.{EntryKind}
+use Rattle.eng_entry.specs.declared.entry.EntryKind.TheVariants as entry_kind
 use Rattle.eng_entry.specs.declared.entry.Space.{Space}
 use Rattle.eng_entry.specs.declared.entry.Space.TheVariants as space
 use Rattle.eng_entry.specs.Names.{is_same_name}
@@ -50,3 +52,20 @@ with_entry e c = with_entries (space_of e.kind) (entries_in (space_of e.kind) c 
 -- the others stay in their order
 abbrev pub without_name : Space → List ℕ → Entries → Entries
 without_name s name c = with_entries s (entries_not_named name (entries_in s c)) c
+
+-- ---- the indexes of a table
+
+abbrev pub is_index : EntryKind → Bool
+is_index entry_kind.Index = true
+is_index other = false
+
+-- the entry is that of an index on the table of this name
+abbrev pub is_index_on : List ℕ → Entry → Bool
+is_index_on table e = is_index e.kind && is_same_name e.owner table
+
+abbrev pub entries_not_on : List ℕ → List Entry → List Entry
+entries_not_on table entries = filter (λ e. not (is_index_on table e)) entries
+
+-- the others stay in their order
+abbrev pub without_indexes : List ℕ → Entries → Entries
+without_indexes table c = with_entries space.Names (entries_not_on table c.names) c

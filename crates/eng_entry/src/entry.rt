@@ -1,7 +1,9 @@
 // Entries of a catalog.
 ghost use Rattle.std.specs.Prelude.{◌≡◌};
+ghost use Rattle.eng_entry.specs.Entries.{is_index, is_index_on};
 ghost use Rattle.eng_entry.specs.Spaces.{space_of};
 
+use crate::is_same_name;
 use eng_value::Text;
 use sql_tree::Statement;
 
@@ -35,6 +37,15 @@ impl EntryKind {
             EntryKind::Trigger => Space::Triggers,
         }
     }
+
+    fn is_index(self) -> bool
+        ensures { result ≡ is_index self }
+    {
+        match self {
+            EntryKind::Index => true,
+            _ => false,
+        }
+    }
 }
 
 /// What is kept of a thing that was created.
@@ -51,6 +62,15 @@ pub struct Entry {
     pub text: Text,
     /// What the text is parsed into. Its tokens tell names and literals by their places in the text.
     pub def: Statement,
+}
+
+impl Entry {
+    /// Whether it is that of an index on the table of this name. Takes no memory.
+    pub fn is_index_on(&self, table: &[u8]) -> bool
+        ensures { result ≡ is_index_on table.now self.now }
+    {
+        self.kind.is_index() && is_same_name(self.owner.as_bytes(), table)
+    }
 }
 
 impl Drop for Entry {

@@ -17,19 +17,22 @@ use Rattle.bound_tree.specs.Exprs.{BoundExpr}
 use Rattle.sql_meaning.specs.declared.bound.BoundInsert.{BoundInsert}
 use Rattle.sql_meaning.specs.declared.bound.BoundSelect.{BoundSelect}
 use Rattle.sql_meaning.specs.declared.column.TableEntry.{TableEntry}
-use Rattle.sql_meaning.specs.Runnables.{FromItem, Put, Query}
-use Rattle.sql_meaning.specs.Statement.{Item, Row, Failed as Bad, IsNamed, causes_of, with_others, closed, drop_outcome, Outcome, query_outcome, items_of, items_at, product, put_outcome, put_source, source_of as source_meant, refusal_of, given_of, rows_put}
+use Rattle.sql_meaning.specs.Runnables.{FromItem, NewIndex, Put, Query}
+use Rattle.sql_meaning.specs.Statement.{Item, Row, Failed as Bad, IsNamed, causes_of, with_others, closed, drop_outcome, Outcome, query_outcome, items_of, items_at, product, index_outcome, put_outcome, put_source, source_of as source_meant, refusal_of, given_of, rows_put}
 use Rattle.sql_meaning.specs.Steps.{Effect, Done, Left, Fails}
 use Rattle.sql_meaning.specs.World.{Context, State, context, environment_at, rows_at, seen}
 use Rattle.vm_code.specs.Machine.{ending_by, World as Lists, IsSound, Shared}
-use Rattle.bind_stmt.specs.Binds.{IsFrom, IsQueryAs, marks_in}
+use Rattle.bind_stmt.specs.Binds.{IsFrom, IsIndexAs, IsQueryAs}
+use Rattle.sql_meaning.specs.Searches.{marks_in}
+use Rattle.sql_meaning.specs.declared.bound.FromTable.{FromTable}
 use Rattle.bound_ignored.specs.Erased.{ItemMarks, erased}
 use Rattle.sql_meaning.proofs.ErasedValues.{items_at-erased, items_at-erased_one, null-reads, seen-reads}
 use Rattle.sql_meaning.proofs.RowidPlaces.{HasPlace}
 use Rattle.bind_stmt.specs.declared.statement.DroppedTable.{DroppedTable}
 use Rattle.eng_entry.specs.Entries.{Entries}
 use Rattle.engine.specs.Held.{state_of}
-use Rattle.engine.specs.Outcomes.{drop_outcome_in, query_outcome_in, put_outcome_in, left_by, surroundings_in}
+use Rattle.engine.specs.declared.preparing.NewIndexEntry.{NewIndexEntry}
+use Rattle.engine.specs.Outcomes.{drop_outcome_in, index_outcome_in, query_outcome_in, put_outcome_in, left_by, surroundings_in}
 use Rattle.engine.proofs.CarryingOut.{StandsFor, ended_by, stands_same}
 use Rattle.engine.proofs.Puts.{Puts, puts_rows}
 
@@ -86,24 +89,24 @@ module _ (hosts : HostMeanings) (entries : Entries) (lists : Lists) (changes : �
   HavePlaces i = All (HasPlace i.table.rowid) (rows_at lists i.table.number)
 
   -- the items of a FROM are those of the rows of its table, with NULL in place of what is ignored and the rowid in place of the column that is it
-  from_same : (conjuncts results : List BoundExpr) (from : List FromItem) (number : Option ℕ) → IsFrom from number → All HavePlaces from
+  from_same : (conjuncts results : List BoundExpr) (from : List FromItem) (read : Option FromTable) → IsFrom from read → All HavePlaces from
       → flat_map (λ rows. items_at conjuncts results (environment_at ctx rows)) (product ctx from [])
-      ≡ flat_map (λ rows. items_at (map (erased (marks_in from)) conjuncts) (map (erased (marks_in from)) results) (environment around [] [] rows)) (rows_in number lists)
+      ≡ flat_map (λ rows. items_at (map (erased (marks_in from)) conjuncts) (map (erased (marks_in from)) results) (environment around [] [] rows)) (rows_in read lists)
   from_same conjuncts results [] None at places =
       ap (λ items. items ++ []) (sym (items_at-erased [] (environment around [] [] []) [] (λ item. null-reads) conjuncts results refl))
-  from_same conjuncts results (i ∷ []) (Some number) at places =
+  from_same conjuncts results (i ∷ []) (Some f) at places =
       let k : ItemMarks = record { ignored = i.ignored; rowid = i.table.rowid } in
       let as_seen : StoredRow → ItemRow = λ r. ignoring i.ignored (table_row (seen i.table.rowid r)) in
-      rw at (one_item (λ rows. items_at conjuncts results (environment_at ctx rows))
+      rw at.0 (one_item (λ rows. items_at conjuncts results (environment_at ctx rows))
       (λ rows. items_at (map (erased (k ∷ [])) conjuncts) (map (erased (k ∷ [])) results) (environment around [] [] rows)) as_seen (HasPlace i.table.rowid)
       (λ r place. sym (items_at-erased_one k (table_row r) (as_seen r) (environment around [] [] []) conjuncts results (seen-reads i.ignored i.table.rowid r place))) (rows_at lists i.table.number) (All-head HavePlaces i [] places))
-  from_same conjuncts results [] (Some number) at places = absurd at
+  from_same conjuncts results [] (Some f) at places = absurd at
   from_same conjuncts results (i ∷ []) None at places = absurd at
   from_same conjuncts results (i ∷ j ∷ from) None at places = absurd at
-  from_same conjuncts results (i ∷ j ∷ from) (Some number) at places = absurd at
+  from_same conjuncts results (i ∷ j ∷ from) (Some f) at places = absurd at
 
   pub query_same : (q : Query) (b : BoundSelect) → IsQueryAs q b → All HavePlaces q.from → query_outcome state (items_of ctx q) ≡ query_outcome_in hosts entries lists changes last params b
-  query_same q b at places = rw (at.conjuncts, at.results) (ap (query_outcome state) (from_same q.conjuncts q.results q.from b.table at.from places))
+  query_same q b at places = rw (at.conjuncts, at.results) (ap (query_outcome state) (from_same q.conjuncts q.results q.from b.from at.from places))
 
   -- ---- INSERT
 
@@ -148,7 +151,10 @@ module _ (hosts : HostMeanings) (entries : Entries) (lists : Lists) (changes : �
   pub put_same : (p : Put) (b : BoundInsert) → b ≡ p.insert → p.insert.table < length lists → IsSound lists → StandsFor (put_outcome ctx p) (put_outcome_in hosts entries lists changes last params b)
   put_same p b at lt sound = rw at (put_stands p.table p.insert lt sound)
 
-  -- ---- DROP TABLE
+  -- ---- CREATE INDEX and DROP TABLE
+
+  pub index_same : (i : NewIndex) (n : NewIndexEntry) → IsIndexAs i n.index → n.entry ≡ i.entry → index_outcome state i ≡ index_outcome_in entries lists changes last n
+  index_same i n at entry = rw (at.unique, at.terms, at.table, at.table_name, entry) refl
 
   pub drop_same : (t : TableEntry) (d : DroppedTable) → d.name ≡ t.name → d.table ≡ t.number → drop_outcome state t ≡ drop_outcome_in entries lists changes last d
   drop_same t d named number = rw (named, number) refl

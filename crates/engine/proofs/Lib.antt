@@ -18,3 +18,4 @@ pub mod Places
 pub mod InstructionBounds
 pub mod Saying
 pub mod PlainCauses
+pub mod Programs

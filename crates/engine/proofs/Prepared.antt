@@ -15,7 +15,7 @@ use Rattle.sql_grammar.specs.Answers.{Answer, Tree, Syntax, TooMuch}
 use Rattle.sql_grammar.specs.StatementTexts.{AnswersAs}
 use Rattle.sql_lex.specs.Cutting.{start_of}
 use Rattle.sql_lex.specs.Tokens.{tokens_of}
-use Rattle.sql_meaning.specs.Runnables.{Runnable, Creates, DoesNothing, Drops, Puts, Queries, Shows as ShowsRows}
+use Rattle.sql_meaning.specs.Runnables.{Runnable, Creates, DoesNothing, Drops, Indexes, Puts, Queries, Shows as ShowsRows, Unindexes}
 use Rattle.sql_words.specs.Bodies.{answer_of, body_of}
 use Rattle.sql_meaning.specs.Permits.{Asking}
 use Rattle.sql_meaning.specs.Statement.{answer_bound, limit_kind, statement_bound, text_bound, text_bound_from}
@@ -32,6 +32,8 @@ use Rattle.engine.proofs.Bodies.{tokens_kept}
 small_more : (size more : ℕ) (x : Runnable) → size ≤ more → IsSmall size x → IsSmall more x
 small_more size more (Creates e) le small = omega (arith, small)
 small_more size more (Drops t) le small = omega (arith, small)
+small_more size more (Indexes i) le small = omega (arith, small)
+small_more size more (Unindexes name) le small = omega (arith, small)
 small_more size more (Puts p) le small = record { nodes = omega (arith, small.nodes); count = omega (arith, small.count) }
 small_more size more (Queries q) le small = record {
   filter = small.filter;

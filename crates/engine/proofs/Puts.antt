@@ -1,5 +1,5 @@
 -- The rows of an INSERT come to their places, one after another, as the definition puts them.
-use Rattle.std.proofs.Common.{◌≡◌, ℕ, ◌<◌, ◌+◌, List, [], ◌∷◌, Bool, true, false, ◌&&◌, not, length, Some, None, Result, Ok, Err, int_lt, if◌then◌else◌, slice_set, refl, sym, ap, ◌∙◌, subst, lt-ltb}
+use Rattle.std.proofs.Common.{◌≡◌, ℕ, ◌<◌, ◌+◌, List, [], ◌∷◌, Bool, true, false, ◌&&◌, not, length, is_some, Option, Some, None, Result, Ok, Err, int_lt, if◌then◌else◌, slice_set, refl, sym, ap, ◌∙◌, subst, lt-ltb}
 use Rattle.std.proofs.lemmas.List.{length-set}
 use Rattle.eng_value.specs.Causes.{CauseSet}
 use Rattle.eng_value.specs.Environments.{Environment}
@@ -9,26 +9,32 @@ use Rattle.eng_value.specs.declared.value.Value.{Value}
 use Rattle.gen_write.specs.Writes.{Course, and_on, course_of, row_effect, rows_run}
 use Rattle.sql_meaning.proofs.RowLaws.{IsFitted, fails, fitted-gives}
 use Rattle.sql_meaning.proofs.StepLaws.{Gives, anyhow, gives-then, gives-weaker, never}
-use Rattle.sql_meaning.specs.Rows.{NewRow, fitted, is_taken, new_row, row_changed, row_put, with_row as with_row_meant, with_row_in}
+use Rattle.sql_meaning.specs.Rows.{NewRow, fitted, is_met, new_row, row_changed, row_put, with_row as with_row_meant}
+use Rattle.eng_index.specs.Keys.{row_in_way}
+use Rattle.eng_index.specs.declared.key_term.KeyTerm.{KeyTerm}
 use Rattle.sql_meaning.specs.Statement.{rows_put}
 use Rattle.sql_meaning.specs.Steps.{Step, Done, Left, Fails, Effect, ◌then◌, done, or_next, settled}
 use Rattle.sql_meaning.specs.World.{rows_at}
 use Rattle.sql_meaning.specs.declared.bound.BoundInsert.{BoundInsert}
 use Rattle.vm_code.specs.Machine.{IsSound, Shared, is_free, is_missing, put_row, rows_of, with_row, world_of}
 use Rattle.vm_code.proofs.Kept.{sound_with_row}
+use Rattle.vm_code.proofs.NewRows.{missing_unless_met}
 
 -- ---- the place of a row
 
-put_row-in : (rows : List StoredRow) (r : StoredRow) → put_row rows r ≡ with_row_in rows r
-put_row-in [] r = refl
-put_row-in (x ∷ rows) r = ap (λ others. if int_lt r.rowid x.rowid then r ∷ x ∷ rows else x ∷ others) (put_row-in rows r)
+-- where no row is in the way of a row, its rowid is free
+free-if : (keys : List (List KeyTerm)) (rows : List StoredRow) (r : StoredRow) → is_met keys rows r ≡ false → is_missing rows r.rowid ≡ true
+free-if keys rows r free = ap (λ o. not (is_some o)) (missing_unless_met keys rows r (none (row_in_way keys rows r) free))
+  where
+    none : (o : Option StoredRow) → is_some o ≡ false → o ≡ None
+    none None f = refl
+    none (Some x) f = absurd (cc)
 
 -- the machine puts a row whose rowid is free where the definition does
-with_row-same : (x : Written) (table : ℕ) (r : StoredRow) → table < length x.world → is_taken (rows_at x.world table) r.rowid ≡ false → with_row x table r ≡ with_row_meant x table r
+with_row-same : (x : Written) (table : ℕ) (r : StoredRow) → table < length x.world → is_missing (rows_at x.world table) r.rowid ≡ true → with_row x table r ≡ with_row_meant x table r
 with_row-same x table r lt free =
-    let missing : is_free x.world table r.rowid ≡ true = ap (λ b. b && is_missing (rows_of x.world table) r.rowid) (lt-ltb table (length x.world) lt) ∙ ap not free in
+    let missing : is_free x.world table r.rowid ≡ true = ap (λ b. b && is_missing (rows_of x.world table) r.rowid) (lt-ltb table (length x.world) lt) ∙ free in
     ap (λ b. if b then record x { world = slice_set x.world table (put_row (rows_of x.world table) r); changes = x.changes + 1; last_rowid = r.rowid } else x) missing
-    ∙ ap (λ rows. record x { world = slice_set x.world table rows; changes = x.changes + 1; last_rowid = r.rowid }) (put_row-in (rows_of x.world table) r)
 
 -- no table more or less, and nothing is returned
 with_row-long : (x : Written) (table : ℕ) (r : StoredRow) → (length (with_row x table r).world ≡ length x.world) × ((with_row x table r).returned ≡ x.returned)
@@ -55,12 +61,12 @@ then-same made (Fails causes y) f g gives same = refl
 module _ (env : Environment) (b : BoundInsert) where
   -- a row that is fitted changes nothing, and its rowid is free
   abbrev Fits : Written → StoredRow → Written → Type 0
-  Fits w r y = (y ≡ w) × (is_taken (rows_at w.world b.table) r.rowid ≡ false)
+  Fits w r y = (y ≡ w) × (is_missing (rows_at w.world b.table) r.rowid ≡ true)
 
   fits : (new : NewRow) (w : Written) → Gives (Fits w) never anyhow (fitted env b (rows_at w.world b.table) new w)
   fits new w =
       gives-weaker (λ r y. (y ≡ w) × IsFitted env b (rows_at w.world b.table) new r) (Fits w) never (fails w) anyhow (fitted env b (rows_at w.world b.table) new w)
-      (λ r y is. (is.0, is.1.free)) (λ causes y is. tt) (fitted-gives w env b (rows_at w.world b.table) new)
+      (λ r y is. (is.0, free-if b.keys (rows_at w.world b.table) r is.1.free)) (λ causes y is. tt) (fitted-gives w env b (rows_at w.world b.table) new)
 
   -- the machine does with a row of the source what the definition does
   row-same : (row : List Value) (w : Written) → b.table < length w.world → row_effect env b row w ≡ row_put env b row w

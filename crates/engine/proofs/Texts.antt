@@ -1,38 +1,32 @@
 -- What a text means whose statement is ready to run: the outcome of what is ready, where tables go by their numbers.
-use Rattle.std.proofs.Common.{◌≡◌, ◌<◌, ◌-◌, inl, inr, ℕ, cond, List, [], ◌∷◌, ℤ, length, Option, Some, None, Ok, Err, All, slice_index_or, refl, subst, sym, ap, ◌∙◌}
+use Rattle.std.proofs.Common.{◌≡◌, ◌<◌, ◌-◌, inl, inr, ℕ, not, List, ℤ, length, Option, Some, None, Ok, Err, All, slice_index_or, refl, subst, sym, ap, ◌∙◌}
 use Rattle.bind_stmt.specs.Binds.{IsBound, IsRefusal}
-use Rattle.eng_entry.specs.Entries.{Entries, entry_named}
+use Rattle.eng_entry.specs.Entries.{Entries, entry_named, is_index_on}
 use Rattle.eng_entry.specs.declared.entry.Entry.{Entry}
 use Rattle.eng_value.specs.HostMeanings.{HostMeanings}
 use Rattle.eng_value.specs.declared.cause.Cause.{Cause}
 use Rattle.eng_value.specs.declared.value.Value.{Value}
-use Rattle.sql_meaning.proofs.TableLaws.{IsElse, found-all, none-named}
+use Rattle.sql_meaning.proofs.TableLaws.{entries-by, found-all, index-no_table}
 use Rattle.sql_meaning.proofs.RowidPlaces.{found-places}
-use Rattle.sql_meaning.proofs.ValidLaws.{FitsIn, text-fits}
-use Rattle.sql_meaning.specs.Runnables.{Runnable, Creates, DoesNothing, Drops, Puts, Queries, Shows}
+use Rattle.sql_meaning.proofs.ValidLaws.{FitsIn, index-else, text-fits}
+use Rattle.sql_meaning.specs.Runnables.{Runnable, Creates, DoesNothing, Drops, Indexes, NewIndex, Puts, Queries, Shows, Unindexes}
 use Rattle.sql_meaning.specs.Declarations.{table_of, tables_of}
 use Rattle.sql_meaning.specs.Permits.{Asking}
-use Rattle.sql_meaning.specs.Statement.{Outcome, bound_outcome, create_outcome, outcome_of, outcome_where, text_bound}
-use Rattle.sql_meaning.specs.Valid.{IsTable, IsWorld}
+use Rattle.sql_meaning.specs.Statement.{Outcome, bound_outcome, create_outcome, outcome_of, outcome_where, text_bound, unindex_outcome}
+use Rattle.sql_meaning.specs.Valid.{IsEntry, IsTable, IsWorld}
 use Rattle.sql_meaning.specs.World.{Context, State, context}
 use Rattle.vm_code.specs.Machine.{World as Lists, IsSound}
-use Rattle.vm_code.proofs.Rows.{All-head, All-tail}
 use Rattle.engine.specs.declared.preparing.NewEntry.{NewEntry}
+use Rattle.engine.specs.declared.preparing.NewIndexEntry.{NewIndexEntry}
 use Rattle.engine.specs.declared.preparing.Ready.{Ready}
 use Rattle.engine.specs.declared.preparing.Ready.TheVariants as ready
 use Rattle.engine.specs.Held.{state_of, world_in}
 use Rattle.engine.specs.Outcomes.{outcome_in}
 use Rattle.engine.specs.Connected.{CarriesOut}
-use Rattle.engine.specs.Prepared.{HasEntry, IsNew, MayRun, bound_in}
+use Rattle.engine.specs.Prepared.{HasEntry, IsNew, IsNewIndex, LeavesNoTable, MayRun, bound_in}
 use Rattle.engine.specs.Taking.{Rows}
 use Rattle.engine.proofs.CarryingOut.{StandsFor, stands_same, carries_Mem, carries_refused}
-use Rattle.engine.proofs.Bridges.{drop_same, put_same, query_same}
-
--- no entry has a name where each has another
-none_found : (name : List ℕ) (entries : List Entry) → All (IsElse name) entries → entry_named name entries ≡ None
-none_found name [] others = refl
-none_found name (e ∷ entries) others =
-    ap (λ b. cond b (Some e) (entry_named name entries)) (All-head (IsElse name) e entries others) ∙ none_found name entries (All-tail (IsElse name) e entries others)
+use Rattle.engine.proofs.Bridges.{drop_same, index_same, put_same, query_same}
 
 module _ (asked : Asking) (hosts : HostMeanings) (entries : Entries) (lists : Lists) (changes : ℕ) (last : ℤ) (params : List Value) (text : List ℕ) (valid : IsWorld (world_in entries lists)) where
   abbrev state : State
@@ -42,25 +36,47 @@ module _ (asked : Asking) (hosts : HostMeanings) (entries : Entries) (lists : Li
   ctx = context hosts state params
 
   abbrev Fits : Runnable → Type 0
-  Fits x = FitsIn (tables_of entries) (length lists) x
+  Fits x = FitsIn entries (length lists) x
 
   -- ---- what was bound
 
   is_new : (e : Entry) (n : NewEntry) → Fits (Creates e) → HasEntry (Creates e) (ready.Create n) → IsNew entries n
   is_new e n fits has = record {
-    kind = ap (λ (x : Entry). x.kind) has.0 ∙ fits.kind;
-    free = ap (λ (x : Entry). entry_named x.name entries.names) has.0 ∙ none_found e.name entries.names (none-named entries.names e.name valid.declared fits.free);
+    kind = ap (λ (x : Entry). x.kind) has.0 ∙ fits.entry.kind;
+    free = ap (λ (x : Entry). entry_named x.name entries.names) has.0 ∙ fits.free;
     declared = ap table_of has.0 ∙ has.1;
   }
+
+  is_new_index : (i : NewIndex) (n : NewIndexEntry) → Fits (Indexes i) → HasEntry (Indexes i) (ready.CreateIndex n) → IsNewIndex entries n
+  is_new_index i n fits has = record {
+    kind = ap (λ (x : Entry). x.kind) has ∙ fits.entry.kind;
+    free = ap (λ (x : Entry). entry_named x.name entries.names) has ∙ fits.free;
+    undeclared = ap table_of has ∙ index-no_table i.entry fits.entry.index fits.entry.creates;
+  }
+
+  -- the entries of a table's indexes are those of no table
+  indexes_else : (table : List ℕ) → All (LeavesNoTable (λ e. not (is_index_on table e))) entries.names
+  indexes_else table = entries-by (IsEntry (tables_of entries)) (LeavesNoTable (λ e. not (is_index_on table e))) entries.names (index-else table (tables_of entries)) valid.entries
 
   by_ready : (x : Runnable) (r : Ready) → Fits x → IsBound x (bound_in r) → HasEntry x r → MayRun entries r
   by_ready (Creates e) (ready.Create n) fits at has = is_new e n fits has
   by_ready (Drops t) (ready.Create n) fits at has = absurd at
+  by_ready (Indexes i) (ready.Create n) fits at has = absurd at
+  by_ready (Unindexes name) (ready.Create n) fits at has = absurd at
   by_ready (Puts p) (ready.Create n) fits at has = absurd at
   by_ready (Queries q) (ready.Create n) fits at has = absurd at
   by_ready (Shows rows) (ready.Create n) fits at has = absurd at
   by_ready DoesNothing (ready.Create n) fits at has = absurd at
-  by_ready x (ready.Drop d) fits at has = tt
+  by_ready (Creates e) (ready.CreateIndex n) fits at has = absurd at
+  by_ready (Drops t) (ready.CreateIndex n) fits at has = absurd at
+  by_ready (Indexes i) (ready.CreateIndex n) fits at has = is_new_index i n fits has
+  by_ready (Unindexes name) (ready.CreateIndex n) fits at has = absurd at
+  by_ready (Puts p) (ready.CreateIndex n) fits at has = absurd at
+  by_ready (Queries q) (ready.CreateIndex n) fits at has = absurd at
+  by_ready (Shows rows) (ready.CreateIndex n) fits at has = absurd at
+  by_ready DoesNothing (ready.CreateIndex n) fits at has = absurd at
+  by_ready x (ready.Drop d) fits at has = indexes_else d.name
+  by_ready x (ready.DropIndex n) fits at has = tt
   by_ready x (ready.Insert b) fits at has = tt
   by_ready x (ready.Select b) fits at has = tt
   by_ready x (ready.Values b) fits at has = tt
@@ -72,36 +88,64 @@ module _ (asked : Asking) (hosts : HostMeanings) (entries : Entries) (lists : Li
   bound_stands : (x : Runnable) (r : Ready) → IsSound lists → Fits x → IsBound x (bound_in r) → HasEntry x r → StandsFor (outcome_of ctx x) (outcome_in hosts entries lists changes last params r)
   bound_stands (Creates e) (ready.Create n) sound fits at has = stands_same _ _ (ap (create_outcome state) (sym has.0))
   bound_stands (Creates e) (ready.Drop d) sound fits at has = absurd at
+  bound_stands (Creates e) (ready.CreateIndex n) sound fits at has = absurd at
+  bound_stands (Creates e) (ready.DropIndex n) sound fits at has = absurd at
   bound_stands (Creates e) (ready.Insert b) sound fits at has = absurd at
   bound_stands (Creates e) (ready.Select b) sound fits at has = absurd at
   bound_stands (Creates e) (ready.Values b) sound fits at has = absurd at
   bound_stands (Creates e) ready.Nothing sound fits at has = absurd at
   bound_stands (Drops t) (ready.Create n) sound fits at has = absurd at
   bound_stands (Drops t) (ready.Drop d) sound fits at has = stands_same _ _ (drop_same hosts entries lists changes last params t d at.0 at.1)
+  bound_stands (Drops t) (ready.CreateIndex n) sound fits at has = absurd at
+  bound_stands (Drops t) (ready.DropIndex n) sound fits at has = absurd at
   bound_stands (Drops t) (ready.Insert b) sound fits at has = absurd at
   bound_stands (Drops t) (ready.Select b) sound fits at has = absurd at
   bound_stands (Drops t) (ready.Values b) sound fits at has = absurd at
   bound_stands (Drops t) ready.Nothing sound fits at has = absurd at
+  bound_stands (Indexes i) (ready.Create n) sound fits at has = absurd at
+  bound_stands (Indexes i) (ready.Drop d) sound fits at has = absurd at
+  bound_stands (Indexes i) (ready.CreateIndex n) sound fits at has = stands_same _ _ (index_same hosts entries lists changes last params i n at has)
+  bound_stands (Indexes i) (ready.DropIndex n) sound fits at has = absurd at
+  bound_stands (Indexes i) (ready.Insert b) sound fits at has = absurd at
+  bound_stands (Indexes i) (ready.Select b) sound fits at has = absurd at
+  bound_stands (Indexes i) (ready.Values b) sound fits at has = absurd at
+  bound_stands (Indexes i) ready.Nothing sound fits at has = absurd at
+  bound_stands (Unindexes name) (ready.Create n) sound fits at has = absurd at
+  bound_stands (Unindexes name) (ready.Drop d) sound fits at has = absurd at
+  bound_stands (Unindexes name) (ready.CreateIndex n) sound fits at has = absurd at
+  bound_stands (Unindexes name) (ready.DropIndex n) sound fits at has = stands_same _ _ (ap (unindex_outcome state) (sym at))
+  bound_stands (Unindexes name) (ready.Insert b) sound fits at has = absurd at
+  bound_stands (Unindexes name) (ready.Select b) sound fits at has = absurd at
+  bound_stands (Unindexes name) (ready.Values b) sound fits at has = absurd at
+  bound_stands (Unindexes name) ready.Nothing sound fits at has = absurd at
   bound_stands (Puts p) (ready.Create n) sound fits at has = absurd at
   bound_stands (Puts p) (ready.Drop d) sound fits at has = absurd at
+  bound_stands (Puts p) (ready.CreateIndex n) sound fits at has = absurd at
+  bound_stands (Puts p) (ready.DropIndex n) sound fits at has = absurd at
   bound_stands (Puts p) (ready.Insert b) sound fits at has = put_same hosts entries lists changes last params p b at (subst (λ n. n < length lists) (sym fits.into.number) (found-all (IsTable lists) (tables_of entries) p.table.name p.table valid.tables fits.found).there) sound
   bound_stands (Puts p) (ready.Select b) sound fits at has = absurd at
   bound_stands (Puts p) (ready.Values b) sound fits at has = absurd at
   bound_stands (Puts p) ready.Nothing sound fits at has = absurd at
   bound_stands (Queries q) (ready.Create n) sound fits at has = absurd at
   bound_stands (Queries q) (ready.Drop d) sound fits at has = absurd at
+  bound_stands (Queries q) (ready.CreateIndex n) sound fits at has = absurd at
+  bound_stands (Queries q) (ready.DropIndex n) sound fits at has = absurd at
   bound_stands (Queries q) (ready.Insert b) sound fits at has = absurd at
   bound_stands (Queries q) (ready.Select b) sound fits at has = stands_same _ _ (query_same hosts entries lists changes last params q b at (λ k d within. found-places (world_in entries lists) (slice_index_or q.from k d).table valid (fits k d within)))
   bound_stands (Queries q) (ready.Values b) sound fits at has = absurd at
   bound_stands (Queries q) ready.Nothing sound fits at has = absurd at
   bound_stands (Shows rows) (ready.Create n) sound fits at has = absurd at
   bound_stands (Shows rows) (ready.Drop d) sound fits at has = absurd at
+  bound_stands (Shows rows) (ready.CreateIndex n) sound fits at has = absurd at
+  bound_stands (Shows rows) (ready.DropIndex n) sound fits at has = absurd at
   bound_stands (Shows rows) (ready.Insert b) sound fits at has = absurd at
   bound_stands (Shows rows) (ready.Select b) sound fits at has = absurd at
   bound_stands (Shows rows) (ready.Values b) sound fits at has = rw at (stands_same _ _ refl)
   bound_stands (Shows rows) ready.Nothing sound fits at has = absurd at
   bound_stands DoesNothing (ready.Create n) sound fits at has = absurd at
   bound_stands DoesNothing (ready.Drop d) sound fits at has = absurd at
+  bound_stands DoesNothing (ready.CreateIndex n) sound fits at has = absurd at
+  bound_stands DoesNothing (ready.DropIndex n) sound fits at has = absurd at
   bound_stands DoesNothing (ready.Insert b) sound fits at has = absurd at
   bound_stands DoesNothing (ready.Select b) sound fits at has = absurd at
   bound_stands DoesNothing (ready.Values b) sound fits at has = absurd at

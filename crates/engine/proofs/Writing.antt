@@ -2,7 +2,7 @@
 use Rattle.std.proofs.Common.{◌≡◌, ◌++◌, ℕ, Bool, true, false, cond, not, List, [], ◌∷◌, ℤ, Some, None, refl, ap, ◌∙◌}
 use Rattle.eng_entry.specs.Entries.{Entries, entries_not_named, entry_named, is_named, with_entry, without_name}
 use Rattle.eng_entry.specs.declared.entry.Entry.{Entry}
-use Rattle.eng_entry.specs.declared.entry.EntryKind.TheVariants as entry_kind
+use Rattle.eng_entry.specs.Spaces.{space_of}
 use Rattle.eng_entry.specs.declared.entry.Space.TheVariants as space
 use Rattle.sql_meaning.proofs.NameLaws.{is_same_name-refl}
 use Rattle.sql_meaning.proofs.TableLaws.{with_entry-names}
@@ -36,7 +36,7 @@ others_stay name (x ∷ entries) e none is = by (is_named name x) (others_stay n
     by true rest f = absurd (cc)
     by false rest f = ap (λ es. x ∷ es) (rest f is)
 
-pub taken_back : (e : Entry) (entries : Entries) → e.kind ≡ entry_kind.Table → entry_named e.name entries.names ≡ None → without_name space.Names e.name (with_entry e entries) ≡ entries
+pub taken_back : (e : Entry) (entries : Entries) → space_of e.kind ≡ space.Names → entry_named e.name entries.names ≡ None → without_name space.Names e.name (with_entry e entries) ≡ entries
 taken_back e entries kind free =
     ap (without_name space.Names e.name) (with_entry-names e entries kind)
     ∙ ap (λ names. record { names = names; triggers = entries.triggers }) (others_stay e.name entries.names e free (is_same_name-refl e.name))

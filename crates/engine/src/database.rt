@@ -6,21 +6,23 @@ ghost use Rattle.eng_entry.specs.Entries.{no_entries};
 ghost use Rattle.engine.specs.Held.{state_of, world_in};
 ghost use Rattle.sql_meaning.specs.Statement.{create_outcome};
 ghost use Rattle.sql_meaning.specs.Valid.{IsWorld};
-ghost use Rattle.engine.specs.Outcomes.{IsOther, changed_by, outcome_in, run_in, state_after, steps_in, surroundings_in};
-ghost use Rattle.engine.specs.Prepared.{IsNew, MayRun};
-ghost use Rattle.gen_write.specs.Writes.{create_steps};
+ghost use Rattle.engine.specs.Outcomes.{IsOther, changed_by, index_outcome_in, outcome_in, run_in, state_after, steps_in, surroundings_in};
+ghost use Rattle.engine.specs.Prepared.{IsNew, IsNewIndex, MayRun};
+ghost use Rattle.gen_write.specs.Writes.{create_steps, index_run, index_steps};
 ghost use Rattle.host_traits.specs.Faults.{Rose};
-ghost use Rattle.vm_code.specs.Machine.{IsSound, Performs};
+ghost use Rattle.vm_code.specs.Machine.{IsSound, Performs, PerformsWith};
 ghost use Rattle.vm_core.specs.Meant.{meant};
 
 use crate::answers::Done;
 use crate::executing::execute;
-use crate::preparing::{NewEntry, Ready, prepare};
+use crate::planning::compiled_query;
+use crate::preparing::{NewEntry, NewIndexEntry, Ready, prepare};
 use crate::row_sink::RowSink;
 use crate::running::Completed;
 use crate::schema::Schema;
+use bind_stmt::NewIndex;
 use eng_value::{Cause, Meanings, Steps, Value};
-use gen_write::{compile_create, compile_drop, compile_insert, compile_nothing};
+use gen_write::{compile_create, compile_drop, compile_index, compile_insert, compile_nothing};
 use sqlite_items::Boxed;
 use std::alloc::{AllocError, Global};
 use std::marker::Brand;
@@ -54,9 +56,10 @@ impl Database {
         }
     }
 
-    /// Keeps what a statement leaves whose program ran to its end: a table that is dropped loses its entry, and an INSERT tells how many
-    /// rows it put and under which rowid the last one.
+    /// Keeps what a statement leaves whose program ran to its end: a table that is dropped loses its entry and its indexes theirs, an index
+    /// that is dropped its own, and an INSERT tells how many rows it put and under which rowid the last one.
     fn finish(&mut self, ready: &Ready, completed: &Completed) -> Done
+        requires runs { MayRun self.old.schema ready.now }
         ensures state { state_of self.new.schema self.new.tables.world self.new.changes self.new.last_rowid
             ≡ state_after ready.now self.old.schema self.old.tables.world self.old.changes self.old.last_rowid completed.now.changed completed.now.last_rowid }
         ensures marks { self.new.tables.marks ≡ self.old.tables.marks }
@@ -65,7 +68,11 @@ impl Database {
     {
         match ready {
             Ready::Drop(dropped) => {
-                self.schema.remove(dropped.name.as_str());
+                self.schema.remove_table(dropped.name.as_str());
+                done(completed, 0)
+            }
+            Ready::DropIndex(name) => {
+                self.schema.remove(name.as_str());
                 done(completed, 0)
             }
             Ready::Insert(_) => {
@@ -156,6 +163,9 @@ fn run_ready<M: Meanings, R: RowSink, L: Ledger>(
         Ready::Create(new) => {
             run_create::<M, R, L>(alloc, database, hosts, budget, new, rows, steps)
         }
+        Ready::CreateIndex(new) => {
+            run_index::<M, R, L>(alloc, database, hosts, budget, new, rows, steps)
+        }
         other => {
             run_other::<M, R, L>(alloc, database, hosts, budget, &other, params, rows, steps)
         }
@@ -217,6 +227,61 @@ fn run_create<M: Meanings, R: RowSink, L: Ledger>(
     }
 }
 
+/// Runs a CREATE INDEX: its entry comes into the catalog, where it isn't unique or no two rows share the key.
+fn run_index<M: Meanings, R: RowSink, L: Ledger>(
+    alloc: Global,
+    database: &mut Database,
+    hosts: &mut Hosts,
+    budget: u64,
+    new: Boxed<NewIndexEntry>,
+    rows: &mut R,
+    steps: &mut Steps<L>,
+) -> Result<Done, Cause>
+    requires new { IsNewIndex database.old.schema new }
+    requires sound { IsSound database.old.tables.world }
+    requires told { meant (λ b. verdicts (b.vtable, b.value)) hosts.old ≡ M.hosts }
+    ensures marks { database.new.tables.marks ≡ database.old.tables.marks }
+    ensures carried { CarriesOut
+        (index_outcome_in database.old.schema database.old.tables.world database.old.changes database.old.last_rowid new)
+        (state_of database.old.schema database.old.tables.world database.old.changes database.old.last_rowid)
+        (state_of database.new.schema database.new.tables.world database.new.changes database.new.last_rowid)
+        budget (index_steps (surroundings_in M.hosts [] database.old.tables.world)) (steps.new - steps.old) (R.taken rows.old) (R.taken rows.new)
+        (Rose (R.fault_count rows.old) (R.fault_count rows.new)) result }
+    ensures kept { OnErr result
+        (state_of database.new.schema database.new.tables.world database.new.changes database.new.last_rowid
+        ≡ state_of database.old.schema database.old.tables.world database.old.changes database.old.last_rowid) }
+    ensures ticks { steps.old ≤ steps.new }
+    ensures within { steps.new ≤ steps.old + budget }
+    ensures faults { R.fault_count rows.old ≤ R.fault_count rows.new }
+    ensures told { meant (λ b. verdicts (b.vtable, b.value)) hosts.new ≡ M.hosts }
+{
+    let Ok(program) = compiled_index(alloc, &new.get().index) else {
+        return Err(Cause::Mem);
+    };
+    let NewIndexEntry { entry, index: _ } = new.into_inner();
+    let name = entry.name.clone()?;
+    let Ok(()) = database.schema.add_index(entry) else {
+        return Err(Cause::Mem);
+    };
+    match execute::<M, R, L>(
+        alloc,
+        program,
+        &[],
+        database.last_rowid,
+        &mut database.tables,
+        hosts,
+        budget,
+        rows,
+        steps,
+    ) {
+        Ok(completed) => Ok(done(&completed, 0)),
+        Err(cause) => {
+            database.schema.remove(name.as_str());
+            Err(cause)
+        }
+    }
+}
+
 /// Runs any other statement, and then keeps of it what is no row of a table.
 fn run_other<M: Meanings, R: RowSink, L: Ledger>(
     alloc: Global,
@@ -229,6 +294,7 @@ fn run_other<M: Meanings, R: RowSink, L: Ledger>(
     steps: &mut Steps<L>,
 ) -> Result<Done, Cause>
     requires other { IsOther ready.now }
+    requires runs { MayRun database.old.schema ready.now }
     requires sound { IsSound database.old.tables.world }
     requires told { meant (λ b. verdicts (b.vtable, b.value)) hosts.old ≡ M.hosts }
     ensures marks { database.new.tables.marks ≡ database.old.tables.marks }
@@ -246,7 +312,7 @@ fn run_other<M: Meanings, R: RowSink, L: Ledger>(
     ensures faults { R.fault_count rows.old ≤ R.fault_count rows.new }
     ensures told { meant (λ b. verdicts (b.vtable, b.value)) hosts.new ≡ M.hosts }
 {
-    let Ok(program) = compiled(alloc, ready) else {
+    let Ok(program) = compiled(alloc, ready, params, &database.tables) else {
         return Err(Cause::Mem);
     };
     match execute::<M, R, L>(
@@ -265,18 +331,37 @@ fn run_other<M: Meanings, R: RowSink, L: Ledger>(
     }
 }
 
-/// The program of a statement.
-fn compiled(alloc: Global, ready: &Ready) -> Result<Program, AllocError>
-    ensures { IfOk result (λ p. Performs p (run_in ready.now) (λ x. steps_in x ready.now)) }
+/// The program of a statement with these parameters, over tables that stand so.
+fn compiled(
+    alloc: Global,
+    ready: &Ready,
+    params: &[Value],
+    tables: &Tables,
+) -> Result<Program, AllocError>
+    ensures { IfOk result (λ p. PerformsWith params.now p (run_in ready.now) (λ x. steps_in x ready.now)) }
 {
     match ready {
         Ready::Create(_) => compile_create(alloc),
         Ready::Drop(dropped) => compile_drop(alloc, dropped.table),
+        Ready::CreateIndex(new) => compiled_index(alloc, &new.get().index),
+        Ready::DropIndex(_) => compile_nothing(alloc),
         Ready::Insert(insert) => compile_insert(alloc, insert),
-        Ready::Select(select) => gen_query::compile(alloc, select),
+        Ready::Select(select) => compiled_query(alloc, select, params, tables),
         Ready::Values(values) => gen_query::compile_values(alloc, values.as_slice()),
         Ready::Nothing => compile_nothing(alloc),
     }
+}
+
+fn compiled_index(alloc: Global, index: &NewIndex) -> Result<Program, AllocError>
+    ensures { IfOk result (λ p. Performs p (index_run index.now.table index.now.table_name index.now.terms index.now.unique) index_steps) }
+{
+    compile_index(
+        alloc,
+        index.table,
+        &index.table_name,
+        index.terms.as_slice(),
+        index.unique,
+    )
 }
 
 /// What a statement did whose program ran to its end and that changed so many rows.

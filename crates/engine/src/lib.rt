@@ -9,6 +9,7 @@ mod database;
 mod display;
 mod executing;
 mod kept_rows;
+mod planning;
 mod preparing;
 mod row_sink;
 mod running;

@@ -7,7 +7,7 @@ ghost use Rattle.eng_entry.specs.Entries.{Entries};
 ghost use Rattle.eng_value.specs.declared.cause.Cause.{Cause};
 ghost use Rattle.eng_value.specs.declared.cause.Cause.TheVariants.{Mem};
 ghost use Rattle.engine.specs.Held.{world_in};
-ghost use Rattle.engine.specs.Prepared.{CreatesNone, Readies, StandsIn, cause_of};
+ghost use Rattle.engine.specs.Prepared.{CreatesNone, Readies, StandsIn, cause_of, index_entry_in};
 ghost use Rattle.sql_lex.specs.Cutting.{start_of};
 ghost use Rattle.sql_lex.specs.Tokens.{InOrder, slice_of, tokens_of};
 ghost use Rattle.sql_meaning.specs.Runnables.{Runnable};
@@ -22,7 +22,7 @@ ghost use Rattle.vm_core.specs.Meant.{meant};
 
 use crate::schema::Schema;
 use bind_asked::bind;
-use bind_stmt::{Bound, DroppedTable, NewTable};
+use bind_stmt::{Bound, DroppedTable, NewIndex, NewTable};
 use bound_tree::BoundExpr;
 use eng_catalog::{Entry, EntryKind};
 use eng_value::{Cause, LimitKind, Text};
@@ -42,11 +42,20 @@ pub(crate) struct NewEntry {
     pub(crate) table: TableEntry,
 }
 
+/// What a CREATE INDEX puts into the catalog, and the index.
+#[derive(Drop)]
+pub(crate) struct NewIndexEntry {
+    pub(crate) entry: Entry,
+    pub(crate) index: NewIndex,
+}
+
 /// A statement that is ready to run.
 #[derive(Drop)]
 pub(crate) enum Ready {
     Create(Boxed<NewEntry>),
     Drop(DroppedTable),
+    CreateIndex(Boxed<NewIndexEntry>),
+    DropIndex(Text),
     Insert(BoundInsert),
     Select(BoundSelect),
     Values(Items<Items<BoundExpr>>),
@@ -121,18 +130,21 @@ fn readied(
 {
     match bound {
         Bound::CreateTable(new) => created(alloc, new, number, body, statement),
+        Bound::CreateIndex(new) => indexed(alloc, new, body, statement),
         other => Ok(as_bound(other)),
     }
 }
 
-/// Any but a CREATE TABLE is ready as it is bound.
+/// Any but a CREATE TABLE and a CREATE INDEX is ready as it is bound.
 fn as_bound(bound: Bound) -> Ready
     requires { CreatesNone bound }
     ensures { (size : ℕ) (meant : Result Runnable Cause) → BindsTo size meant (Ok bound) → Readies size meant (Ok result) }
 {
     match bound {
         Bound::CreateTable(_) => unreachable!(),
+        Bound::CreateIndex(_) => unreachable!(),
         Bound::DropTable(dropped) => Ready::Drop(dropped),
+        Bound::DropIndex(name) => Ready::DropIndex(name),
         Bound::Insert(insert) => Ready::Insert(insert),
         Bound::Select(select) => Ready::Select(select),
         Bound::Values(rows) => Ready::Values(rows),
@@ -154,6 +166,38 @@ fn created(
 {
     let entry = new_entry(alloc, new, number, body, statement)?;
     Ok(Ready::Create(Boxed::new(alloc, entry)?))
+}
+
+/// A CREATE INDEX with its entry.
+#[inline(never)]
+fn indexed(alloc: Global, new: NewIndex, body: &str, statement: Statement) -> Result<Ready, Cause>
+    ensures { (number : ℕ) (entries : Entries) (asked : Asking) → BindsTo (size_of_statement statement) (statement_bound asked entries number body.now statement) (Ok (bound.CreateIndex new))
+        → Readies (size_of_statement statement) (statement_bound asked entries number body.now statement) result }
+{
+    let entry = new_index_entry(alloc, new, body, statement)?;
+    Ok(Ready::CreateIndex(Boxed::new(alloc, entry)?))
+}
+
+/// The entry of an index that is created: it has the number of its table.
+fn new_index_entry(
+    alloc: Global,
+    new: NewIndex,
+    body: &str,
+    statement: Statement,
+) -> Result<NewIndexEntry, Cause>
+    ensures entry { IfOk result (λ n. n.entry ≡ index_entry_in body.now new statement) }
+    ensures index { IfOk result (λ n. n.index ≡ new) }
+    ensures memory { IfErr result (λ why. why ≡ Mem) }
+{
+    let entry = Entry {
+        kind: EntryKind::Index,
+        name: new.name.clone()?,
+        owner: new.table_name.clone()?,
+        number: u64::from(new.table),
+        text: Text::from_str(alloc, body)?,
+        def: statement,
+    };
+    Ok(NewIndexEntry { entry, index: new })
 }
 
 /// The entry of a table that is created, and what it declares.

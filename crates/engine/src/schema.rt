@@ -1,9 +1,11 @@
 // What is declared of the tables.
-ghost use Rattle.std.specs.Prelude.{◌≡◌, [], OnErr, OnOk, None, Some};
-ghost use Rattle.eng_entry.specs.Entries.{entry_named, no_entries, with_entry, without_name};
+ghost use Rattle.std.specs.Prelude.{◌≡◌, [], All, not, OnErr, OnOk, None, Some};
+ghost use Rattle.eng_entry.specs.Entries.{entry_named, no_entries, with_entry, without_indexes, without_name};
 ghost use Rattle.eng_entry.specs.declared.entry.EntryKind.TheVariants as entry_kind;
 ghost use Rattle.eng_entry.specs.declared.entry.Space.TheVariants as space;
+ghost use Rattle.eng_entry.specs.Entries.{is_index_on};
 ghost use Rattle.sql_meaning.specs.Declarations.{table_of, tables_of};
+ghost use Rattle.engine.specs.Prepared.{LeavesNoTable};
 
 use eng_catalog::{Catalog, Entry, Space};
 use eng_entry::is_same_name;
@@ -78,6 +80,26 @@ impl Schema {
                 Err(error)
             }
         }
+    }
+
+    /// Puts the entry of an index behind the others, where no entry has its name yet. Without memory nothing changes.
+    pub(crate) fn add_index(&mut self, entry: Entry) -> Result<(), AllocError>
+        requires kind { entry.kind ≡ entry_kind.Index }
+        requires free { entry_named entry.name self.old.names ≡ None }
+        requires undeclared { table_of entry ≡ None }
+        ensures ok { OnOk result (self.new ≡ with_entry entry self.old) }
+        ensures err { OnErr result (self.new ≡ self.old) }
+    {
+        self.catalog.add(entry)
+    }
+
+    /// Takes the entry of a table and those of its indexes out; the others stay in their order. Takes no memory.
+    pub(crate) fn remove_table(&mut self, name: &str)
+        requires indexes { All (LeavesNoTable (λ e. not (is_index_on name.now e))) self.old.names }
+        ensures { self.new ≡ without_name space.Names name.now (without_indexes name.now self.old) }
+    {
+        self.catalog.drop_indexes(name);
+        self.remove(name);
     }
 
     /// Takes the entry of a name out; the others stay in their order. Takes no memory.

@@ -26,6 +26,17 @@ pub fn emit(alloc: Global, b: &mut Builder, e: &BoundExpr, to: u32) -> Result<()
     emitting::emit(alloc, b, e.tree(), to)
 }
 
+/// Writes code that leaves what a stored tree comes to in the register `to`, as `emit` does where an expression is that tree.
+pub fn emit_tree(alloc: Global, b: &mut Builder, e: &ExprTree, to: u32) -> Result<(), AllocError>
+    requires taken { to < b.old.next }
+    requires counted { b.old.next ≤ b.old.most }
+    ensures leaves { OnOk result (Leaves no_calls b.old b.new to (λ env. value_of (seen e.now) env) (λ _. steps_of (seen e.now))) }
+    ensures units { OnOk result (b.new.units ≡ b.old.units) }
+    ensures cursors { OnOk result (b.new.cursors ≡ b.old.cursors) }
+{
+    emitting::emit(alloc, b, e, to)
+}
+
 /// Writes code that leaves what a comparison of two stored trees comes to in the register `to`, as `emit` does where an expression is
 /// that comparison.
 pub fn emit_comparison(

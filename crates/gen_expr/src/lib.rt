@@ -15,5 +15,5 @@ mod giving;
 mod literals;
 mod parts;
 
-pub use expressions::{emit, emit_comparison, emit_truth};
+pub use expressions::{emit, emit_comparison, emit_tree, emit_truth};
 pub use literals::emit_literal;

@@ -5,7 +5,6 @@ use Rattle.std.proofs.lemmas.List.Sums.{fold-append, sum_by_push}
 use Rattle.eng_value.specs.Applied.{merged}
 use Rattle.eng_value.specs.Environments.{Environment, with_causes}
 use Rattle.eng_value.specs.declared.out.Out.{Out}
-use Rattle.gen_expr.specs.Steps.{steps_of}
 use Rattle.gen_query.specs.Stretches.{Gathers}
 use Rattle.sql_meaning.specs.Expression.{value_of}
 use Rattle.bound_tree.specs.Exprs.{BoundExpr}
@@ -29,11 +28,11 @@ use Rattle.std.specs.Prelude.{slice_set}
 abbrev pub values_in : List BoundExpr → Environment → List Out
 values_in es env = map (λ e. value_of e env) es
 
--- a result more
-pub fills_result : {a b z : Draft} (es : List BoundExpr) (e : BoundExpr) (to : ℕ) → to ≡ b.next → Fills no_calls a b (length es) (λ env. values_in es env) (λ env. sum_by steps_of es) → Leaves no_calls (taken b) z to (λ env. value_of e env) (λ env. steps_of e) → Fills no_calls a z (length (es ++ e ∷ [])) (λ env. values_in (es ++ e ∷ []) env) (λ env. sum_by steps_of (es ++ e ∷ []))
-fills_result {a} {b} {z} es e to to_is x l =
-    let all = es ++ e ∷ [] in
-    subst (λ n. Fills no_calls a z n (λ env. values_in all env) (λ env. sum_by steps_of all)) (sym (length-append es (e ∷ []))) (fills_same (λ env. values_in all env) (λ env. sum_by steps_of all) (λ env. sym (map-append (λ e. value_of e env) es (e ∷ []))) (λ env. omega (arith, sum_by_push steps_of es e)) (fills_more to x to_is l))
+-- a value more, of what has values in environments and takes so many instructions
+pub fills_last : {A : Type 0} {a b z : Draft} (value : A → Environment → Out) (steps : A → ℕ) (xs : List A) (x : A) (to : ℕ) → to ≡ b.next → Fills no_calls a b (length xs) (λ env. map (λ y. value y env) xs) (λ env. sum_by steps xs) → Leaves no_calls (taken b) z to (λ env. value x env) (λ env. steps x) → Fills no_calls a z (length (xs ++ x ∷ [])) (λ env. map (λ y. value y env) (xs ++ x ∷ [])) (λ env. sum_by steps (xs ++ x ∷ []))
+fills_last {a = a} {b = b} {z = z} value steps xs x to to_is before l =
+    let all = xs ++ x ∷ [] in
+    subst (λ n. Fills no_calls a z n (λ env. map (λ y. value y env) all) (λ env. sum_by steps all)) (sym (length-append xs (x ∷ []))) (fills_same (λ env. map (λ y. value y env) all) (λ env. sum_by steps all) (λ env. sym (map-append (λ y. value y env) xs (x ∷ []))) (λ env. omega (arith, sum_by_push steps xs x)) (fills_more to before to_is l))
 
 -- ---- causes
 

@@ -15,7 +15,7 @@ use Rattle.gen_query.specs.Queries.{StepsAreFew, ValuesStepsAreFew, conjuncts_st
 use Rattle.gen_query.proofs.Conditions.{by_condition}
 use Rattle.bound_tree.specs.Conditions.{conditions_of}
 use Rattle.sql_meaning.specs.declared.bound.BoundSelect.{BoundSelect}
-use Rattle.vm_code.specs.Machine.{World, rows_of}
+use Rattle.sql_meaning.specs.declared.bound.FromTable.{FromTable}
 
 -- a BETWEEN is evaluated twice where it stands once
 conditions_few : (x : BoundExpr) → conjuncts_steps (conditions_of x) ≤ 6 * nodes_of x
@@ -37,17 +37,19 @@ results_few (x ∷ es) = omega (arith, steps_and_two_within x, results_few es, s
 row_few : (es results : List BoundExpr) → row_steps (flat_map conditions_of es) results + 1 ≤ 6 * (all_nodes es + all_nodes results) + 6
 row_few es results = omega (arith, conjuncts_few es, results_few results)
 
-steps_few : (table : Option ℕ) (es results : List BoundExpr) (w : World) → steps_over table (flat_map conditions_of es) results w + 1 ≤ 16 + (1 + rows_seen table w) * (6 * (all_nodes es + all_nodes results) + 6)
-steps_few None es results w = omega (arith, row_few es results)
-steps_few (Some table) es results w =
-    let rows = length (rows_of w table) in
+steps_few : (from : Option FromTable) (es results : List BoundExpr) (seen : ℕ) → steps_over from (flat_map conditions_of es) results seen + 1 ≤ 16 + (1 + seen) * (6 * (all_nodes es + all_nodes results) + 6)
+steps_few None es results seen =
     let k = 6 * (all_nodes es + all_nodes results) + 6 in
-    let each : rows * (row_steps (flat_map conditions_of es) results + 1) ≤ rows * k = mul-le-mul_left rows (row_few es results) in
-    let all : (1 + rows) * k ≡ k + rows * k = omega arith in
-    omega (arith, each, all)
+    let all : (1 + seen) * k ≡ k + seen * k = omega arith in
+    omega (arith, row_few es results, all)
+steps_few (Some from) es results seen =
+    let k = 6 * (all_nodes es + all_nodes results) + 6 in
+    let each : seen * (row_steps (flat_map conditions_of es) results + 1) ≤ seen * k = mul-le-mul_left seen (row_few es results) in
+    let all : (1 + seen) * k ≡ k + seen * k = omega arith in
+    omega (arith, each, all, conjuncts_few es)
 
 pub steps-few : (q : BoundSelect) → StepsAreFew q
-steps-few q x = steps_few q.table q.conjuncts q.results x.world
+steps-few q x = steps_few q.from q.conjuncts q.results (rows_seen q x)
 
 -- ---- VALUES
 

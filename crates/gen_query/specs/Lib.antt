@@ -1,3 +1,2 @@
-pub mod Conjuncts
 pub mod Queries
 pub mod Stretches

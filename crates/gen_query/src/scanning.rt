@@ -1,37 +1,49 @@
 // The rows of a query.
-ghost use Rattle.std.specs.Prelude.{◌≡◌, ◌+◌, ◌-◌, ◌<◌, ◌≤◌, length, map, sum_by, slice_get, OnOk, IfOk, None, Some};
+ghost use Rattle.std.specs.Prelude.{◌≡◌, ◌+◌, ◌-◌, ◌<◌, ◌≤◌, [], length, map, sum_by, slice_get, OnOk, IfOk, None, Some};
 ghost use Rattle.gen_expr.specs.Steps.{steps_of};
-ghost use Rattle.gen_query.specs.Queries.{by_world, cursors_of, row_effect, row_steps, rows_effect, rows_steps, scan_effect, scan_steps};
+ghost use Rattle.gen_query.specs.Queries.{IsCountedFor, by_world, conjuncts_of, cursors_of, loop_effect, loop_steps, referred, row_effect, row_steps, rows_cost, rows_effect};
 ghost use Rattle.gen_query.specs.Stretches.{Gathers, with_row_given};
+ghost use Rattle.plan_tree.specs.Visits.{IsCounted};
 ghost use Rattle.sql_meaning.specs.Expression.{value_of};
 ghost use Rattle.vm_code.specs.Draft.{with_cursor, with_label, with_op};
 ghost use Rattle.vm_code.specs.declared.op.Op.TheVariants as op;
 ghost use Rattle.vm_code.specs.Frames.{Does, Fills, no_calls};
+ghost use Rattle.vm_code.specs.Tracked.{Steady};
 
-use crate::sifting::emit_conjuncts;
-use crate::splitting::{Conjunct, split};
+use crate::sifting::{emit_conjuncts, tested};
+use crate::visiting::emit_first_row;
 use bound_tree::BoundExpr;
 use gen_expr::emit;
+use plan_tree::{Access, Conjunct, Path};
 use sql_meaning::BoundSelect;
 use std::alloc::{AllocError, Global};
 use vm_code::{Builder, Op};
 
-/// Writes code that gives the items of a query in their order: the code of a row in a loop over the table, whose cursor is the
-/// next one, or once where there is no table.
+/// Writes code that gives the items of a query in their order: the code of a row in a loop over the rows of the table that the access
+/// visits, whose cursor is the next one, or once where there is no table.
 pub(crate) fn emit_rows(
     alloc: Global,
     b: &mut Builder,
     query: &BoundSelect,
+    conjuncts: &[Conjunct],
+    access: &Access,
 ) -> Result<(), AllocError>
+    requires split { conjuncts.now ≡ conjuncts_of query.now }
     requires counted { b.old.next ≤ b.old.most }
-    ensures does { OnOk result (Does no_calls b.old b.new 0 0 None (rows_effect b.old.cursors query.now) (by_world (rows_steps query.now))) }
-    ensures cursors { OnOk result (b.new.cursors ≡ b.old.cursors + cursors_of query.now.table) }
+    ensures does { OnOk result (IsCountedFor query.now.from access.now.path → Does no_calls b.old b.new 0 0 None (rows_effect b.old.cursors query.now access.now) (rows_cost query.now access.now)) }
+    ensures steady { OnOk result (Steady [] [] b.old b.new) }
+    ensures cursors { OnOk result (b.new.cursors ≡ b.old.cursors + cursors_of query.now.from) }
 {
-    let conjuncts = split(alloc, query.conjuncts.as_slice())?;
     let results = query.results.as_slice();
-    match query.table {
-        None => emit_row(alloc, b, conjuncts.as_slice(), results),
-        Some(table) => emit_scan(alloc, b, table, conjuncts.as_slice(), results),
+    match &query.from {
+        None => {
+            let all = tested(alloc, conjuncts, &[])?;
+            emit_row(alloc, b, all.as_slice(), results)
+        }
+        Some(from) => {
+            let kept = tested(alloc, conjuncts, access.consumed.as_slice())?;
+            emit_loop(alloc, b, from.table, &access.path, kept.as_slice(), results)
+        }
     }
 }
 
@@ -43,23 +55,22 @@ struct Loop {
     top: usize,
 }
 
-/// Writes a loop over the rows of a table that has the code of a row for its body. Its cursor is the next one.
-fn emit_scan(
+/// Writes a loop over the rows of a table that a path visits, which has the code of a row for its body. Its cursor is the next one.
+fn emit_loop(
     alloc: Global,
     b: &mut Builder,
     table: u32,
-    conjuncts: &[Conjunct],
+    path: &Path,
+    conjuncts: &[&Conjunct],
     results: &[BoundExpr],
 ) -> Result<(), AllocError>
     requires counted { b.old.next ≤ b.old.most }
-    ensures does { OnOk result (Does no_calls b.old b.new 0 0 None (scan_effect b.old.cursors table conjuncts.now results.now) (by_world (scan_steps table conjuncts.now results.now))) }
+    ensures does { OnOk result (IsCounted path.now → Does no_calls b.old b.new 0 0 None (loop_effect b.old.cursors table path.now (referred conjuncts.now) results.now) (loop_steps table path.now (referred conjuncts.now) results.now)) }
+    ensures steady { OnOk result (Steady [] [] b.old b.new) }
     ensures cursors { OnOk result (b.new.cursors ≡ b.old.cursors + 1) }
 {
     let Loop { cursor, end, top } = open_loop(b, table)?;
-    b.op(Op::Rewind {
-        cursor,
-        target: end,
-    })?;
+    emit_first_row(alloc, b, path, cursor, end)?;
     b.bind(top)?;
     emit_row(alloc, b, conjuncts, results)?;
     b.op(Op::Next {
@@ -90,11 +101,11 @@ fn open_loop(b: &mut Builder, table: u32) -> Result<Loop, AllocError>
 pub(crate) fn emit_row(
     alloc: Global,
     b: &mut Builder,
-    conjuncts: &[Conjunct],
+    conjuncts: &[&Conjunct],
     results: &[BoundExpr],
 ) -> Result<(), AllocError>
     requires counted { b.old.next ≤ b.old.most }
-    ensures does { OnOk result (Does no_calls b.old b.new 0 0 None (row_effect conjuncts.now results.now) (by_world (λ _. row_steps conjuncts.now results.now))) }
+    ensures does { OnOk result (Does no_calls b.old b.new 0 0 None (row_effect (referred conjuncts.now) results.now) (by_world (λ _. row_steps (referred conjuncts.now) results.now))) }
     ensures cursors { OnOk result (b.new.cursors ≡ b.old.cursors) }
 {
     let next = b.label()?;

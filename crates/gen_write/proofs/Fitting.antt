@@ -18,7 +18,7 @@ use Rattle.gen_write.specs.Stretches.{first_broken}
 use Rattle.gen_write.specs.Writes.{columns_beside, is_within, row_effect, rowid_given}
 use Rattle.gen_write.proofs.Causing.{calm-good}
 use Rattle.gen_write.proofs.Checking.{checked-is, effect_by}
-use Rattle.sql_meaning.specs.Rows.{NewRow, at_row, checked, fitted, fixed, given_rowid, good_or_null, is_taken, lacks_value, new_by, new_row, rowid_beside, rowid_column, stored_for, unless_broken}
+use Rattle.sql_meaning.specs.Rows.{NewRow, at_row, checked, fitted, fixed, given_rowid, good_or_null, is_met, lacks_value, new_by, new_row, rowid_beside, rowid_column, stored_for, unless_broken}
 use Rattle.sql_meaning.specs.Steps.{Effect, Step, Done, Fails, ◌then◌, done, settled}
 use Rattle.sql_meaning.specs.declared.bound.BoundInsert.{BoundInsert}
 use Rattle.sql_meaning.specs.declared.bound.RowidFrom.{RowidFrom}
@@ -49,7 +49,7 @@ module _ (env : Environment) (b : BoundInsert) (source : List Value) (x : Writte
     row_stored n = stored (rowid_column b.rowid) (row_with n)
 
     abbrev at_last : ℤ → Written → Step StoredRow
-    at_last n y = unless_broken (is_taken rows n) (Constraint constraint.Unique b.name) y then λ u y. Done (row_stored n) y
+    at_last n y = unless_broken (is_met b.keys rows (row_stored n)) (Constraint constraint.Unique b.name) y then λ u y. Done (row_stored n) y
 
     abbrev behind_nulls : ℤ → Written → Step StoredRow
     behind_nulls n y = checked b.name b.checks (at_row env (row_with n)) y then λ u y. at_last n y
@@ -90,15 +90,15 @@ module _ (env : Environment) (b : BoundInsert) (source : List Value) (x : Writte
         effect_broken causes e = check_is (Some causes) e
 
         module _ (passes : first_broken b.name b.checks (at_row env (row_with n)) ≡ None) where
-          abbrev by_taken : Bool → Effect
-          by_taken t =
+          abbrev by_met : Bool → Effect
+          by_met t =
               (unless_broken t (Constraint constraint.Unique b.name) x then λ u y. Done (row_stored n) y) then λ row y. put row y
 
-          pub effect_taken : is_taken rows n ≡ true → row_effect env b source x ≡ Fails (only (Constraint constraint.Unique b.name)) x
-          effect_taken e = check_is None passes ∙ ap by_taken e
+          pub effect_met : is_met b.keys rows (row_stored n) ≡ true → row_effect env b source x ≡ Fails (only (Constraint constraint.Unique b.name)) x
+          effect_met e = check_is None passes ∙ ap by_met e
 
-          pub effect_free : is_taken rows n ≡ false → row_effect env b source x ≡ done (with_row x b.table (row_stored n))
-          effect_free e = check_is None passes ∙ ap by_taken e
+          pub effect_free : is_met b.keys rows (row_stored n) ≡ false → row_effect env b source x ≡ done (with_row x b.table (row_stored n))
+          effect_free e = check_is None passes ∙ ap by_met e
 
 -- ---- a new row
 

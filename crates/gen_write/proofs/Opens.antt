@@ -1,5 +1,5 @@
 -- What is open along the code of rows: the cursor of the table, and for CHECKs the one that stands on the row.
-use Rattle.std.proofs.Common.{◌≡◌, ℕ, ◌≤◌, ◌<◌, List, [], ◌∷◌, length, All, Contains, Option, Some, refl, ap, subst, arith, ⊎_elim}
+use Rattle.std.proofs.Common.{◌≡◌, ℕ, ◌≤◌, ◌<◌, List, [], ◌∷◌, length, All, Contains, Option, Some, None, refl, sym, ap, ◌∙◌, subst, arith, ⊎_elim}
 use Rattle.std.proofs.lemmas.Bool.{cases_lt}
 use Rattle.std.proofs.lemmas.List.Elements.{Contains-push_cases}
 use Rattle.gen_write.specs.Stretches.{SteadyAt}
@@ -8,10 +8,10 @@ use Rattle.vm_code.specs.declared.op.Op.TheVariants as op
 use Rattle.vm_code.specs.declared.way.Way.TheVariants as way
 use Rattle.vm_code.specs.declared.program.Unit as unit_type
 use Rattle.vm_code.specs.Draft.{Draft, begun, with_op}
-use Rattle.vm_code.specs.Track.{OpenSet, behind}
+use Rattle.vm_code.specs.Track.{OpenSet, behind, closed, target_of, used_by, way_of}
 use Rattle.vm_code.specs.Tracked.{AreBelow, IsTracked, Steady}
 use Rattle.vm_code.specs.Frames.{Grows}
-use Rattle.vm_code.proofs.Tracks.{tracked_op, uses_none, uses_one}
+use Rattle.vm_code.proofs.Tracks.{closed-opened, tracked_op, uses_none, uses_one}
 
 pub at_none : (xs : OpenSet) (a : Draft) → SteadyAt xs a a
 at_none xs a = record { keeps = λ l h. h; made = λ l le lt. absurd (omega arith); stays = λ is t. (is, t) }
@@ -56,28 +56,30 @@ at_standing {a} {z} rowid first n grows x = record {
           tracked_op z (op.Close 0) both at.1 at.0 (uses_one (op.Close 0) 0 both refl (1, omega arith, refl)) (λ l e. cc) (λ zs e. let same : 1 ∷ [] ≡ zs = some_is (1 ∷ []) zs e in subst (AreBelow z.cursors) same more),
         )
 
--- the cursor of the table is opened in front of code that finds it open, and closed behind it
-pub at_opened : {a y z : Draft} (table : ℕ) → SteadyAt [] a y → SteadyAt (1 ∷ []) (with_op y (op.OpenWrite 1 table)) z → 1 < y.cursors → y.cursors ≤ z.cursors → SteadyAt [] a (with_op z (op.Close 1))
-at_opened {a} {y} {z} table x body lt more = record {
+-- a cursor is opened in front of code that finds it open, and closed behind it
+pub at_opened : {a y z : Draft} (c : ℕ) (o : Op) → way_of o ≡ way.Opens c → used_by o ≡ [] → SteadyAt [] a y → SteadyAt (c ∷ []) (with_op y o) z → c < y.cursors → y.cursors ≤ z.cursors → SteadyAt [] a (with_op z (op.Close c))
+at_opened {a} {y} {z} c o opens uses x body lt more = record {
   keeps = λ l h. body.keeps l (x.keeps l h);
   made = λ l le below. ⊎_elim (λ inside. body.keeps l (x.made l le inside)) (λ behind_y. body.made l behind_y below) (cases_lt l (length y.labels));
   stays = λ is t. inside is t;
 }
   where
-    open_op : Op
-    open_op = op.OpenWrite 1 table
-
     one : OpenSet
-    one = 1 ∷ []
+    one = c ∷ []
 
-    inside : a.track.now ≡ Some [] → IsTracked a → ((with_op z (op.Close 1)).track.now ≡ Some []) × IsTracked (with_op z (op.Close 1))
+    none : closed c one ≡ []
+    none = closed-opened c [] (λ k h. absurd (omega (arith, h.1)))
+
+    inside : a.track.now ≡ Some [] → IsTracked a → ((with_op z (op.Close c)).track.now ≡ Some []) × IsTracked (with_op z (op.Close c))
     inside is t =
         let front = x.stays is t in
-        let below_one : AreBelow y.cursors one = λ c h. ⊎_elim (λ old. front.1.now [] front.0 c old) (λ same. omega (arith, same, lt)) (Contains-push_cases [] 1 c h) in
-        let opening : IsTracked (with_op y open_op) = tracked_op y open_op [] front.1 front.0 (uses_none open_op [] refl) (λ l e. cc) (λ zs e. let same : one ≡ zs = some_is one zs e in subst (AreBelow y.cursors) same below_one) in
-        let at = body.stays (ap (behind (way.Opens 1)) front.0) opening in (
-          ap (behind (way.Closes 1)) at.0,
-          tracked_op z (op.Close 1) one at.1 at.0 (uses_one (op.Close 1) 1 one refl (0, omega arith, refl)) (λ l e. cc) (λ zs e. let same : [] ≡ zs = some_is [] zs e in subst (AreBelow z.cursors) same (λ c h. let known = front.1.now [] front.0 c h in omega (arith, known, more))),
+        let now : (with_op y o).track.now ≡ Some one = ap (λ w. behind w y.track.now) opens ∙ ap (behind (way.Opens c)) front.0 in
+        let below_one : AreBelow y.cursors one = λ k h. ⊎_elim (λ old. front.1.now [] front.0 k old) (λ same. omega (arith, same, lt)) (Contains-push_cases [] c k h) in
+        let opening : IsTracked (with_op y o) = tracked_op y o [] front.1 front.0 (uses_none o [] uses) (λ l e. absurd (let no : None ≡ Some l = sym (ap target_of opens) ∙ e in cc)) (λ zs e. let same : one ≡ zs = some_is one zs (sym (ap (λ w. behind w (Some [])) opens) ∙ e) in subst (AreBelow y.cursors) same below_one) in
+        let at = body.stays now opening in
+        let more_below : AreBelow z.cursors [] = λ k h. let known = front.1.now [] front.0 k h in omega (arith, known, more) in (
+          ap (behind (way.Closes c)) at.0 ∙ ap Some none,
+          tracked_op z (op.Close c) one at.1 at.0 (uses_one (op.Close c) c one refl (0, omega arith, refl)) (λ l e. cc) (λ zs e. let same : [] ≡ zs = some_is [] zs (sym (ap Some none) ∙ e) in subst (AreBelow z.cursors) same more_below),
         )
 
 -- from the start of a unit

@@ -5,6 +5,8 @@ use Rattle.std.proofs.Math.ListN.{length-set}
 use Rattle.std.proofs.lemmas.List.{length-map, map-append, map-set}
 use Rattle.std.proofs.lemmas.List.Elements.{All-cons, All-nil}
 use Rattle.std.proofs.lemmas.List.Sums.{sum_by-append}
+use Rattle.eng_index.specs.Keys.{row_in_way}
+use Rattle.eng_index.specs.declared.key_term.KeyTerm.{KeyTerm}
 use Rattle.eng_number.specs.Numbers.{fits_integer}
 use Rattle.eng_value.specs.Causes.{CauseSet, only}
 use Rattle.eng_value.specs.Environments.{Environment, no_causes, with_causes}
@@ -17,20 +19,20 @@ use Rattle.eng_value.specs.declared.out.Out.TheVariants.{Good}
 use Rattle.eng_value.specs.declared.value.Value.{Value}
 use Rattle.eng_value.specs.declared.value.Value.TheVariants.{Integer, Null, Text, Blob}
 use Rattle.bound_tree.specs.Exprs.{BoundExpr}
-use Rattle.gen_write.specs.Stretches.{AreHeld, AreKept, ChecksRow, Puts, SameBut, SteadyAt, Stores, first_broken, rowid_register, scene_on, seen_from, with_nulls_refused, with_row_put, with_row_tested, with_rowid_fixed, with_taken_tested}
-use Rattle.gen_write.specs.Writes.{Course, checks_steps, column_steps, columns_beside, course_of, failed, finished, insert_steps, is_within, null_steps, row_effect, row_put, row_steps, rowid_given, rowid_steps}
+use Rattle.gen_write.specs.Stretches.{AreHeld, AreKept, ChecksRow, Puts, SameBut, SteadyAt, Stores, first_broken, rowid_register, scene_on, seen_from, stored_rowid, with_met_tested, with_nulls_refused, with_row_stored, with_row_tested, with_rowid_fixed}
+use Rattle.gen_write.specs.Writes.{Course, checks_steps, column_steps, columns_beside, course_of, failed, finished, insert_steps, is_within, may_be_met, met_steps, null_steps, row_effect, row_put, row_steps, rowid_given, rowid_steps}
 use Rattle.gen_write.specs.declared.source.Kept.{Kept}
 use Rattle.gen_write.proofs.Causing.{calm-good}
 use Rattle.gen_write.proofs.Checking.{checks_row_next, first_broken-same, t_passes}
 use Rattle.gen_write.proofs.Columns.{stored-append, stored-long, t_stores}
-use Rattle.gen_write.proofs.Fitting.{Stands, Missing, Beside, Within, Storing, Apart, Once, beside-is, beside-long, effect_bad, effect_broken, effect_free, effect_null, effect_taken, effect_unfixed, new-bad, new-good, new_of, stands, storing}
+use Rattle.gen_write.proofs.Fitting.{Stands, Missing, Beside, Within, Storing, Apart, Once, beside-is, beside-long, effect_bad, effect_broken, effect_free, effect_met, effect_null, effect_unfixed, new-bad, new-good, new_of, stands, storing}
 use Rattle.gen_write.proofs.Fresh.{next_rowid-free}
 use Rattle.gen_write.proofs.Opens.{at_none, at_of, at_standing, at_then}
 use Rattle.gen_write.proofs.Refusals.{grows_refused, steady_refused, t_refused}
 use Rattle.gen_write.proofs.RowRuns.{HasFailed, HasRun, IsSetAt, puts_of}
-use Rattle.gen_write.proofs.Testing.{grows_nulls, grows_taken, grows_tested, same_nulls, steady_nulls, steady_taken, steady_tested, t_draws, t_nulls, t_taken, t_tested}
+use Rattle.gen_write.proofs.Testing.{grows_met, grows_nulls, grows_tested, same_nulls, steady_met, steady_nulls, steady_tested, t_draws, t_met, t_nulls, t_tested}
 use Rattle.gen_write.proofs.Views.{scene_at, sees-none, sees-row, stored-same}
-use Rattle.sql_meaning.specs.Rows.{NewRow, at_row, drawn, fixed, given_rowid, good_or_null, is_taken, lacks_value, new_row, rowid_beside, rowid_column, stored_for}
+use Rattle.sql_meaning.specs.Rows.{NewRow, at_row, drawn, fixed, given_rowid, good_or_null, lacks_value, new_row, rowid_beside, rowid_column, stored_for}
 use Rattle.sql_meaning.specs.World.{seen, stored as stored_of, with_column}
 use Rattle.sql_meaning.specs.Steps.{Step, Done, Fails}
 use Rattle.sql_meaning.specs.declared.bound.BoundInsert.{BoundInsert}
@@ -41,13 +43,13 @@ use Rattle.vm_code.specs.declared.op.Op.TheVariants as op
 use Rattle.vm_code.specs.Draft.{Draft, with_op, taken, released}
 use Rattle.vm_code.specs.Tracked.{Steady}
 use Rattle.vm_code.specs.Machine as machine
-use Rattle.vm_code.specs.Machine.{World, Closed, IsSound, Open, Setting, Shared, State, GivesUp, cursor_at, inserted, integer_in, integer_of, is_bad, is_integer, leaving_of, outs_from, read, row_in, row_under, rows_of, standing_on, values_from, with_row, world_of}
+use Rattle.vm_code.specs.Machine.{World, Closed, IsSound, Open, Setting, Shared, State, GivesUp, cursor_at, inserted, integer_in, integer_of, is_bad, is_integer, leaving_of, outs_from, read, row_in, rows_of, standing_on, values_from, with_row, world_of}
 use Rattle.vm_code.specs.Frames.{Calls, Grows, Here, environment_of, here, with_regs}
 use Rattle.vm_code.specs.Claims.{Claim, Labels, Last, Triple}
 use Rattle.vm_code.proofs.Drafts.{g_op, g_released, g_taken, grows_none, grows_then}
 use Rattle.vm_code.proofs.Kept.{ordered_rows}
 use Rattle.vm_code.proofs.Loops.{moved, t_move}
-use Rattle.vm_code.proofs.NewRows.{t_row_of}
+use Rattle.vm_code.proofs.NewRows.{t_row_of, unmet_without_keys}
 use Rattle.vm_code.proofs.Tracks.{st_inner, st_none, st_op, st_released, st_taken, st_then, st_use}
 use Rattle.vm_code.proofs.Registers.{outs_same, values_outs}
 use Rattle.vm_code.proofs.Triples.{no_labels, t_seq, t_use, t_more, t_draft, t_op}
@@ -136,18 +138,14 @@ drawn-some name (Some k) x n e = ap (λ s. by s) e
     by (Done k y) = Some k
     by other = None
 
--- how many instructions that takes
-abbrev fix_steps : Option ℕ → ℕ
-fix_steps None = 1
-fix_steps (Some k) = 4
+-- how many instructions it takes to make a row what is stored
+abbrev apart_steps : Bool → ℕ
+apart_steps false = 0
+apart_steps true = 2
 
-abbrev taken_steps : Option ℕ → ℕ
-taken_steps None = 0
-taken_steps (Some k) = 3
-
-steps-both : (o : Option ℕ) → fix_steps o + taken_steps o ≡ rowid_steps o
-steps-both None = refl
-steps-both (Some k) = refl
+steps-put : (b : Bool) → apart_steps b + 1 ≡ insert_steps b
+steps-put false = refl
+steps-put true = refl
 
 with_column-long : (column : Option ℕ) (v : Value) (values : List Value) → length (with_column column v values) ≡ length values
 with_column-long None v values = refl
@@ -191,18 +189,22 @@ module _ (calls : Calls) (a y c : Draft) (may : Bool) (o : Option ℕ) (within :
   abbrev nulling : Draft
   nulling = with_nulls_refused fixing insert.columns name first causes
 
-  abbrev finding : Draft
-  finding = with_taken_tested o c name rid causes
-
-  abbrev putting : Draft
-  putting = with_row_put within finding rid first width
-
   -- where the rowid stands among the columns
   abbrev copying : Draft
-  copying = with_op (taken finding) (op.Copy rid finding.next)
+  copying = with_op (taken c) (op.Copy rid c.next)
 
-  abbrev clearing : Draft
-  clearing = with_op copying (op.Null rid)
+  -- the row as it is stored
+  abbrev readying : Draft
+  readying = with_row_stored within c rid
+
+  abbrev kept_rid : ℕ
+  kept_rid = stored_rowid within rid c.next
+
+  abbrev meeting : Draft
+  meeting = with_met_tested (may_be_met o insert.keys) readying name insert.keys kept_rid first width causes
+
+  abbrev putting : Draft
+  putting = with_op meeting (op.Insert 1 kept_rid first width)
 
   abbrev pub row_code : Draft
   row_code = released putting first
@@ -241,23 +243,30 @@ module _ (calls : Calls) (a y c : Draft) (may : Bool) (o : Option ℕ) (within :
     next_fixing None = omega arith
     next_fixing (Some k) = omega arith
 
-    grows_taking : (o : Option ℕ) → Grows c (with_taken_tested o c name rid causes)
-    grows_taking None = grows_none c
-    grows_taking (Some k) = grows_taken c name rid causes
+    grows_readying : (b : Bool) → Grows c (with_row_stored b c rid)
+    grows_readying false = grows_none c
+    grows_readying true =
+        grows_then (g_taken c) (grows_then (g_op (taken c) (op.Copy rid c.next)) (g_op copying (op.Null rid)))
 
-    steady_taking : (o : Option ℕ) → Steady uses [] c (with_taken_tested o c name rid causes)
-    steady_taking None = st_none uses [] c
-    steady_taking (Some k) = steady_taken c name rid causes
+    steady_readying : (b : Bool) → Steady uses [] c (with_row_stored b c rid)
+    steady_readying false = st_none uses [] c
+    steady_readying true =
+        st_then (g_taken c) (st_taken uses [] c) (st_then (g_op (taken c) (op.Copy rid c.next)) (st_op uses [] (taken c) (op.Copy rid c.next) (refl, refl)) (st_op uses [] copying (op.Null rid) (refl, refl)))
 
-    grows_putting : (b : Bool) → Grows finding (with_row_put b finding rid first width)
-    grows_putting false = g_op finding (op.Insert 1 rid first width)
-    grows_putting true =
-        grows_then (g_taken finding) (grows_then (g_op (taken finding) (op.Copy rid finding.next)) (grows_then (g_op copying (op.Null rid)) (g_op clearing (op.Insert 1 finding.next first width))))
+    grows_meeting : (may : Bool) → Grows readying (with_met_tested may readying name insert.keys kept_rid first width causes)
+    grows_meeting true = grows_met readying name insert.keys kept_rid first width causes
+    grows_meeting false = grows_none readying
 
-    steady_putting : (b : Bool) → Steady uses [] finding (with_row_put b finding rid first width)
-    steady_putting false = st_use uses [] finding (op.Insert 1 rid first width) 1 refl refl (0, omega arith, refl)
-    steady_putting true =
-        st_then (g_taken finding) (st_taken uses [] finding) (st_then (g_op (taken finding) (op.Copy rid finding.next)) (st_op uses [] (taken finding) (op.Copy rid finding.next) (refl, refl)) (st_then (g_op copying (op.Null rid)) (st_op uses [] copying (op.Null rid) (refl, refl)) (st_use uses [] clearing (op.Insert 1 finding.next first width) 1 refl refl (0, omega arith, refl))))
+    steady_meeting : (may : Bool) → Steady uses [] readying (with_met_tested may readying name insert.keys kept_rid first width causes)
+    steady_meeting true = steady_met readying name insert.keys kept_rid first width causes
+    steady_meeting false = st_none uses [] readying
+
+    grows_putting : Grows meeting putting
+    grows_putting = g_op meeting (op.Insert 1 kept_rid first width)
+
+    steady_putting : Steady uses [] meeting putting
+    steady_putting =
+        st_use uses [] meeting (op.Insert 1 kept_rid first width) 1 refl refl (0, omega arith, refl)
 
     grows_checking : (l : List BoundExpr) → ChecksRow calls nulling c name l rid first width → Grows nulling c
     grows_checking [] e = subst (Grows nulling) (sym e) (grows_none nulling)
@@ -278,11 +287,11 @@ module _ (calls : Calls) (a y c : Draft) (may : Bool) (o : Option ℕ) (within :
 
     grows_row : Grows a row_code
     grows_row =
-        grows_then grows_to_nulling (grows_then (grows_checking insert.checks checks) (grows_then (grows_taking o) (grows_then (grows_putting within) (g_released putting first))))
+        grows_then grows_to_nulling (grows_then (grows_checking insert.checks checks) (grows_then (grows_readying within) (grows_then (grows_meeting (may_be_met o insert.keys)) (grows_then grows_putting (g_released putting first)))))
 
     steady_row : SteadyAt uses a row_code
     steady_row =
-        at_then (at_of uses used (st_inner uses [] sy.steady)) (at_then (at_of uses used (steady_refusing may)) (at_then (at_of uses used (steady_fixing o)) (at_then (at_of uses used (steady_nulls uses fixing insert.columns name first causes)) (at_then (steady_checking insert.checks checks) (at_then (at_of uses used (steady_taking o)) (at_then (at_of uses used (steady_putting within)) (at_of uses used (st_released uses [] putting first))))))))
+        at_then (at_of uses used (st_inner uses [] sy.steady)) (at_then (at_of uses used (steady_refusing may)) (at_then (at_of uses used (steady_fixing o)) (at_then (at_of uses used (steady_nulls uses fixing insert.columns name first causes)) (at_then (steady_checking insert.checks checks) (at_then (at_of uses used (steady_readying within)) (at_then (at_of uses used (steady_meeting (may_be_met o insert.keys))) (at_then (at_of uses used steady_putting) (at_of uses used (st_released uses [] putting first)))))))))
 
     -- what is taken of registers
     wide_y : refused.next ≡ first + (width + length (columns_beside insert.rowid))
@@ -386,9 +395,6 @@ module _ (calls : Calls) (a y c : Draft) (may : Bool) (o : Option ℕ) (within :
       abbrev passes : ℤ → Claim
       passes n h0 h = known n h0 h × (first_broken name insert.checks (at_row env (row_of n)) ≡ None)
 
-      abbrev free : ℤ → Claim
-      free n h0 h = passes n h0 h × (row_under (rows h0) n ≡ None)
-
       based_regs : (h0 h : Here) (regs : List Out) → SameBut causes first h.regs regs → Based h0 h → Based h0 (with_regs h regs)
       based_regs h0 h regs same base = (but_regs regs same base.0, base.1, base.2)
 
@@ -478,7 +484,7 @@ module _ (calls : Calls) (a y c : Draft) (may : Bool) (o : Option ℕ) (within :
       draws h0 h n pre null next =
           fixed-drawn name (rows h0) new.rowid (x0 h0) (Some n) null (ap next_rowid (sym (rows_now h0 h pre.0)) ∙ next)
 
-      fixes : (o : Option ℕ) → Stands insert.rowid values values_beside o → Triple m refused (with_rowid_fixed o refused first name) (λ h0. fix_steps o) no_labels last good (some_row (rowid_register o first refused.next))
+      fixes : (o : Option ℕ) → Stands insert.rowid values values_beside o → Triple m refused (with_rowid_fixed o refused first name) (λ h0. rowid_steps o) no_labels last good (some_row (rowid_register o first refused.next))
       fixes None (Missing null none) =
           let r = refused.next in
           let take = t_draft m no_labels last good (g_taken refused) refl in
@@ -584,33 +590,92 @@ module _ (calls : Calls) (a y c : Draft) (may : Bool) (o : Option ℕ) (within :
             subst (λ s. passes n h0 (record h { scene = s })) (sym back) pre.0) in
             subst (λ z. Triple m nulling z (λ h0. checks_steps l) no_labels last (known n) (passes n)) (sym x.is) (t_more (λ h0. checks_steps l) (λ h0. omega arith) (t_seq (t_seq standing pass) close))
 
-        -- ---- the rowid is free
+        -- ---- the row as it is stored
 
-        takes : (o : Option ℕ) → Stands insert.rowid values values_beside o → rowid_register o first refused.next ≡ rid → Triple m c (with_taken_tested o c name rid causes) (λ h0. taken_steps o) no_labels last (passes n) (free n)
-        takes None (Missing null none) r = t_use (passes n) (free n) (λ h0 h pre. pre) (λ h0 h pre.
-            let row = pre.0.0 in
-            let next : next_rowid (rows h0) ≡ Some n = drawn-some name (next_rowid (rows h0)) (x0 h0) n (sym (ap (λ v. fixed name (rows h0) v (x0 h0)) null) ∙ row.1) in
-            (pre, next_rowid-free (rows h0) n (ordered_rows (world_of h0.shared) table row.0.2) next)) (t_draft m no_labels last (passes n) (grows_none c) refl)
-        takes (Some k) st r =
-            let causes_in_c : causes < c.most = omega (arith, causes_there, (grows_nulls fixing insert.columns name first causes).most, (grows_checking insert.checks checks).most) in
-            let looked = λ (h0 h : Here) (pre : passes n h0 h). ap (λ j. row_under (rows_of (world_of h.shared) table) j) (ap (λ v. integer_of (machine.good_or_null v)) pre.0.0.2) ∙ ap (λ l. row_under l n) (rows_now h0 h pre.0.0.0) in
-            t_taken c name rid causes m table last (passes n) (free n) causes_in_c (λ h0 h pre. opened h0 h pre.0.0.0) (λ h0 h pre is. (pre, sym (looked h0 h pre) ∙ is)) (λ h0 h x pre is.
-            let row = pre.0.0 in
-            let taken_now : is_taken (rows h0) n ≡ true = ap is_some (sym (looked h0 h pre) ∙ is) in
-            fails h0 h (only (Constraint constraint.Unique name)) row.0 (effect_taken env insert kept_values (x0 h0) new (made row.5) n row.1 pre.0.1 pre.1 taken_now))
+        -- what is known of it by the tests so far
+        abbrev Tested : Here → Type 0
+        Tested h0 =
+            (fixed name (rows h0) new.rowid (x0 h0) ≡ Done n (x0 h0)) × (is_bad all ≡ false) × (lacks_value insert.columns stored_row.values ≡ false)
+            × (first_broken name insert.checks (at_row env stored_row) ≡ None)
 
-        -- ---- the row is put
+        tested : (h0 h : Here) → passes n h0 h → Tested h0
+        tested h0 h pre = (pre.0.0.1, pre.0.0.5, pre.0.1, pre.1)
 
-        -- all is known of a row whose rowid is in a register, and whose values, as they are stored, are in others
+        -- its rowid is in a register, and its values are in others
+        abbrev readied : ℕ → Claim
+        readied r h0 h =
+            Based h0 h × (row_in h.regs r first width ≡ kept_row n) × (read h.regs causes ≡ no_causes) × Tested h0
+
+        next_checked : nulling.next ≡ c.next
+        next_checked = sym (checks_row_next calls nulling c name insert.checks rid first width checks)
+
+        -- the rowid has been copied
+        abbrev copied : Claim
+        copied h0 h = passes n h0 h × (read h.regs c.next ≡ Good (Integer n))
+
+        -- the values with NULL in place of the rowid
+        cleared : (k : ℕ) (h0 h : Here) (regs : List Out) → rid ≡ first + k → rowid_column insert.rowid ≡ Some k → copied h0 h → read regs rid ≡ Good Null → ((j : ℕ) → j ≢ rid → read regs j ≡ read h.regs j) → row_in regs c.next first width ≡ kept_row n
+        cleared k h0 h regs at column pre is same =
+            let row = pre.0.0.0 in
+            let apart : c.next ≢ rid = λ e. omega (arith, e, rid_below, next_checked) in
+            let number : integer_in regs c.next ≡ n = ap (λ v. integer_of (machine.good_or_null v)) (same c.next apart ∙ pre.1) in
+            let outs_now : outs_from regs first width ≡ map Good (slice_set stored_row.values k Null) = outs_set h.regs regs width first k (Good Null) (ap (read regs) (sym at) ∙ is) (λ j ne. same j (λ e. ne (e ∙ at))) ∙ ap (λ l. slice_set l k (Good Null)) row.3 ∙ sym (map-set Good stored_row.values k Null) in
+            let values_now : values_from regs first width ≡ (kept_row n).values = values_outs regs width first ∙ ap (map machine.good_or_null) outs_now ∙ good_or_null-same (slice_set stored_row.values k Null) ∙ ap (λ o. with_column o Null stored_row.values) (sym column) in
+            ap (λ k. record { rowid = k; values = values_from regs first width }) number
+            ∙ ap (λ vs. record { rowid = n; values = vs }) values_now
+
+        readies : (b : Bool) → Storing insert.rowid width o b → Triple m c (with_row_stored b c rid) (λ h0. apart_steps b) no_labels last (passes n) (readied (stored_rowid b rid c.next))
+        readies false (Apart same) =
+            let whole : stored_row ≡ kept_row n = ap (λ vs. record { rowid = n; values = vs }) (sym (same Null stored_row.values long_values)) in
+            t_use (passes n) (readied rid) (λ h0 h pre. pre) (λ h0 h pre. (pre.0.0.0, row_is h0 h pre.0.0 ∙ whole, pre.0.0.4, tested h0 h pre)) (t_draft m no_labels last (passes n) (grows_none c) refl)
+        readies true (Once k lt at column) =
+            let r = c.next in
+            let place : rid ≡ first + k = ap (λ p. rowid_register p first refused.next) at in
+            let take = t_draft m no_labels last (passes n) (g_taken c) refl in
+            let copy = t_put m (taken c) (op.Copy rid r) r (λ h. read h.regs rid) no_labels last (passes n) copied (omega arith) (λ at s. refl) (λ h0 h regs pre long is same. (
+              (known_regs h0 h regs (λ j low. same j (omega (arith, low, next_checked))) pre.0, pre.1),
+              is ∙ pre.0.0.2,
+            )) in
+            let clear = t_put m copying (op.Null rid) rid (λ h. Good Null) no_labels last copied (readied r) (omega (arith, rid_below, next_checked)) (λ at s. refl) (λ h0 h regs pre long is same.
+            let row = pre.0.0.0 in (
+              based_regs h0 h regs (λ j low ne. same j (omega (arith, low, place))) row.0,
+              cleared k h0 h regs place column pre is same,
+              same causes (omega (arith, below, place)) ∙ row.4,
+              tested h0 h pre.0,
+            )) in
+            t_more (λ h0. 2) (λ h0. omega arith) (t_seq take (t_seq copy clear))
+
+        -- ---- no row is in its way
+
+        -- it may be put
         abbrev ready : ℕ → Claim
         ready r h0 h =
             Based h0 h × (row_in h.regs r first width ≡ kept_row n) × (read h.regs causes ≡ no_causes)
             × (course h0.shared ≡ finished (record h0.shared { written = with_row h0.shared.written table (kept_row n) }))
 
-        comes : (h0 h : Here) → free n h0 h → course h0.shared ≡ finished (record h0.shared { written = with_row h0.shared.written table (kept_row n) })
-        comes h0 h pre =
-            let row = pre.0.0.0 in
-            ap (course_of h0.shared) (effect_free env insert kept_values (x0 h0) new (made row.5) n row.1 pre.0.0.1 pre.0.1 (ap is_some pre.1))
+        comes : (h0 : Here) → Tested h0 → row_in_way insert.keys (rows h0) (kept_row n) ≡ None → course h0.shared ≡ finished (record h0.shared { written = with_row h0.shared.written table (kept_row n) })
+        comes h0 known none =
+            ap (course_of h0.shared) (effect_free env insert kept_values (x0 h0) new (made known.1) n known.0 known.2 known.3 (ap is_some none))
+
+        -- where none may be
+        unmet : (o : Option ℕ) (keys : List (List KeyTerm)) → Stands insert.rowid values values_beside o → may_be_met o keys ≡ false → (h0 : Here) → IsSound (world_of h0.shared) → Tested h0 → row_in_way keys (rows h0) (kept_row n) ≡ None
+        unmet (Some k) keys st e h0 sound known = absurd (cc)
+        unmet None (key ∷ keys) st e h0 sound known = absurd (cc)
+        unmet None [] (Missing null none) e h0 sound known =
+            let next : next_rowid (rows h0) ≡ Some n = drawn-some name (next_rowid (rows h0)) (x0 h0) n (sym (ap (λ v. fixed name (rows h0) v (x0 h0)) null) ∙ known.0) in
+            unmet_without_keys (rows h0) (kept_row n) (next_rowid-free (rows h0) n (ordered_rows (world_of h0.shared) table sound) next)
+
+        meets : (may : Bool) → may_be_met o insert.keys ≡ may → Triple m readying (with_met_tested may readying name insert.keys kept_rid first width causes) (λ h0. met_steps may) no_labels last (readied kept_rid) (ready kept_rid)
+        meets false e =
+            t_use (readied kept_rid) (ready kept_rid) (λ h0 h pre. pre) (λ h0 h pre. (pre.0, pre.1, pre.2, comes h0 pre.3 (unmet o insert.keys stands_o e h0 pre.0.2 pre.3))) (t_draft m no_labels last (readied kept_rid) (grows_none readying) refl)
+        meets true e =
+            let causes_in : causes < readying.most = omega (arith, causes_there, (grows_nulls fixing insert.columns name first causes).most, (grows_checking insert.checks checks).most, (grows_readying within).most) in
+            let looked = λ (h0 h : Here) (pre : readied kept_rid h0 h). ap (row_in_way insert.keys (rows_of (world_of h.shared) table)) pre.1 ∙ ap (λ l. row_in_way insert.keys l (kept_row n)) (rows_now h0 h pre.0) in
+            t_met readying name insert.keys kept_rid first width causes m table last (readied kept_rid) (ready kept_rid) causes_in (λ h0 h pre. opened h0 h pre.0) (λ h0 h pre is. (pre.0, pre.1, pre.2, comes h0 pre.3 (sym (looked h0 h pre) ∙ is))) (λ h0 h x pre is.
+            let known = pre.3 in
+            fails h0 h (only (Constraint constraint.Unique name)) pre.0 (effect_met env insert kept_values (x0 h0) new (made known.1) n known.0 known.2 known.3 (ap is_some (sym (looked h0 h pre) ∙ is))))
+
+        -- ---- the row is put
 
         abbrev with_put : ℕ → Here → Here
         with_put r h =
@@ -628,64 +693,25 @@ module _ (calls : Calls) (a y c : Draft) (may : Bool) (o : Option ℕ) (within :
               is = pre.3 ∙ ap finished (sym now);
             })
 
-        next_finding : nulling.next ≡ finding.next
-        next_finding = sym (by o ∙ checks_row_next calls nulling c name insert.checks rid first width checks)
-          where
-            by : (o : Option ℕ) → (with_taken_tested o c name rid causes).next ≡ c.next
-            by None = refl
-            by (Some k) = refl
-
-        -- the rowid has been copied
-        abbrev copied : Claim
-        copied h0 h = free n h0 h × (read h.regs finding.next ≡ Good (Integer n))
-
-        -- the values with NULL in place of the rowid
-        cleared : (k : ℕ) (h0 h : Here) (regs : List Out) → rid ≡ first + k → rowid_column insert.rowid ≡ Some k → copied h0 h → read regs rid ≡ Good Null → ((j : ℕ) → j ≢ rid → read regs j ≡ read h.regs j) → row_in regs finding.next first width ≡ kept_row n
-        cleared k h0 h regs at column pre is same =
-            let row = pre.0.0.0.0 in
-            let apart : finding.next ≢ rid = λ e. omega (arith, e, rid_below, next_finding) in
-            let number : integer_in regs finding.next ≡ n = ap (λ v. integer_of (machine.good_or_null v)) (same finding.next apart ∙ pre.1) in
-            let outs_now : outs_from regs first width ≡ map Good (slice_set stored_row.values k Null) = outs_set h.regs regs width first k (Good Null) (ap (read regs) (sym at) ∙ is) (λ j ne. same j (λ e. ne (e ∙ at))) ∙ ap (λ l. slice_set l k (Good Null)) row.3 ∙ sym (map-set Good stored_row.values k Null) in
-            let values_now : values_from regs first width ≡ (kept_row n).values = values_outs regs width first ∙ ap (map machine.good_or_null) outs_now ∙ good_or_null-same (slice_set stored_row.values k Null) ∙ ap (λ o. with_column o Null stored_row.values) (sym column) in
-            ap (λ k. record { rowid = k; values = values_from regs first width }) number
-            ∙ ap (λ vs. record { rowid = n; values = vs }) values_now
-
-        puts : (b : Bool) → Storing insert.rowid width o b → Triple m finding (with_row_put b finding rid first width) (λ h0. insert_steps b) no_labels last (free n) done
-        puts false (Apart same) =
-            let whole : stored_row ≡ kept_row n = ap (λ vs. record { rowid = n; values = vs }) (sym (same Null stored_row.values long_values)) in
-            t_use (free n) done (λ h0 h pre. (pre.0.0.0.0, row_is h0 h pre.0.0.0 ∙ whole, pre.0.0.0.4, comes h0 h pre)) (λ h0 h post. post) (inserts finding rid)
-        puts true (Once k lt at column) =
-            let r = finding.next in
-            let place : rid ≡ first + k = ap (λ p. rowid_register p first refused.next) at in
-            let take = t_draft m no_labels last (free n) (g_taken finding) refl in
-            let copy = t_put m (taken finding) (op.Copy rid r) r (λ h. read h.regs rid) no_labels last (free n) copied (omega arith) (λ at s. refl) (λ h0 h regs pre long is same. (
-              ((known_regs h0 h regs (λ j low. same j (omega (arith, low, next_finding))) pre.0.0, pre.0.1), pre.1),
-              is ∙ pre.0.0.0.2,
-            )) in
-            let clear = t_put m copying (op.Null rid) rid (λ h. Good Null) no_labels last copied (ready r) (omega (arith, rid_below, next_finding)) (λ at s. refl) (λ h0 h regs pre long is same.
-            let row = pre.0.0.0.0 in (
-              based_regs h0 h regs (λ j low ne. same j (omega (arith, low, place))) row.0,
-              cleared k h0 h regs place column pre is same,
-              same causes (omega (arith, below, place)) ∙ row.4,
-              comes h0 h pre.0,
-            )) in
-            t_more (λ h0. 3) (λ h0. omega arith) (t_seq take (t_seq copy (t_seq clear (inserts clearing r))))
-
         abbrev behind_steps : ℕ
-        behind_steps = sum_by null_steps insert.columns + checks_steps insert.checks + taken_steps o + insert_steps within
+        behind_steps =
+            sum_by null_steps insert.columns + checks_steps insert.checks + met_steps (may_be_met o insert.keys) + insert_steps within
 
         behind : calls m → Triple m fixing putting (λ h0. behind_steps) no_labels last (has_row rid n) done
-        behind called = t_more (λ h0. behind_steps) (λ h0. omega arith) (t_seq (t_seq (t_seq nulls (checked called insert.checks refl checks)) (takes o stands_o refl)) (puts within keeping))
+        behind called = t_more (λ h0. behind_steps) (λ h0. omega (arith, steps-put within)) (t_seq (t_seq (t_seq (t_seq nulls (checked called insert.checks refl checks)) (readies within keeping)) (meets (may_be_met o insert.keys) refl)) (inserts meeting kept_rid))
 
-      whole : calls m → (rowid_steps o ≡ rowid_steps (rowid_given insert.rowid width)) → (insert_steps within ≡ insert_steps (is_within insert.rowid width)) → Triple m a row_code (λ h0. row_steps insert) no_labels last begun done
-      whole called steps_are puts_are =
+      whole : calls m → o ≡ rowid_given insert.rowid width → within ≡ is_within insert.rowid width → Triple m a row_code (λ h0. row_steps insert) no_labels last begun done
+      whole called o_is within_is =
+          let rowids : rowid_steps o ≡ rowid_steps (rowid_given insert.rowid width) = ap rowid_steps o_is in
+          let met : met_steps (may_be_met o insert.keys) ≡ met_steps (may_be_met (rowid_given insert.rowid width) insert.keys) = ap (λ p. met_steps (may_be_met p insert.keys)) o_is in
+          let put : insert_steps within ≡ insert_steps (is_within insert.rowid width) = ap insert_steps within_is in
           let front = t_seq (t_seq (stores called) (tests may (λ e. inr e))) (fixes o stands_o) in
           let rest = t_some (has_row rid) (λ n. behind n called) in
           let back = t_draft m no_labels last done (g_released putting first) refl in
-          t_more (λ h0. row_steps insert) (λ h0. omega (arith, steps_are, puts_are, steps-both o, sum_by-append column_steps insert.columns (columns_beside insert.rowid))) (t_seq (t_seq front rest) back)
+          t_more (λ h0. row_steps insert) (λ h0. omega (arith, rowids, met, put, sum_by-append column_steps insert.columns (columns_beside insert.rowid))) (t_seq (t_seq front rest) back)
 
 pub row-puts : {calls : Calls} (a y c : Draft) (may : Bool) (causes : ℕ) (insert : BoundInsert) (row : List Kept) → causes < a.next → a.cursors ≡ 2 → Stores calls a y causes row (insert.columns ++ columns_beside insert.rowid) → (may ≡ false → AreHeld row (insert.columns ++ columns_beside insert.rowid)) → let o = rowid_given insert.rowid (length insert.columns) in let refused = with_row_tested may y causes in let rid = rowid_register o a.next refused.next in ChecksRow calls (with_nulls_refused (with_rowid_fixed o refused a.next insert.name) insert.columns insert.name a.next causes) c insert.name insert.checks rid a.next (length insert.columns)
-    → Puts calls a (released (with_row_put (is_within insert.rowid (length insert.columns)) (with_taken_tested o c insert.name rid causes) rid a.next (length insert.columns)) a.next) insert.table causes (AreKept causes a.next row) (λ env. row_put env insert) (row_steps insert)
+    → let within = is_within insert.rowid (length insert.columns) in let kept = stored_rowid within rid c.next in Puts calls a (released (with_op (with_met_tested (may_be_met o insert.keys) (with_row_stored within c rid) insert.name insert.keys kept a.next (length insert.columns) causes) (op.Insert 1 kept a.next (length insert.columns))) a.next) insert.table causes (AreKept causes a.next row) (λ env. row_put env insert) (row_steps insert)
 row-puts {calls} a y c may causes insert row below cursors_are sy held checks =
     let o = rowid_given insert.rowid (length insert.columns) in
     let within = is_within insert.rowid (length insert.columns) in
@@ -709,19 +735,19 @@ row-keeps y may o columns name first causes = by may o
     by false None = from (with_rowid_fixed None (with_row_tested false y causes) first name) refl (λ le. omega arith) (omega arith)
     by false (Some k) = from (with_rowid_fixed (Some k) (with_row_tested false y causes) first name) refl (λ le. omega arith) (omega arith)
 
-pub taken-keeps : (c : Draft) (o : Option ℕ) (name : List ℕ) (rid causes : ℕ) → let d = with_taken_tested o c name rid causes in (d.cursors ≡ c.cursors) × (d.next ≡ c.next)
-taken-keeps c None _ r causes = (refl, refl)
-taken-keeps c (Some k) _ r causes = (refl, refl)
+pub met-keeps : (may : Bool) (d : Draft) (name : List ℕ) (keys : List (List KeyTerm)) (rowid first count causes : ℕ) → let t = with_met_tested may d name keys rowid first count causes in (t.cursors ≡ d.cursors) × (t.next ≡ d.next)
+met-keeps true d name keys rowid first count causes = (refl, refl)
+met-keeps false d name keys rowid first count causes = (refl, refl)
 
-pub put-keeps : (d : Draft) (within : Bool) (rid first count : ℕ) → let p = with_row_put within d rid first count in (p.cursors ≡ d.cursors) × (d.next ≤ p.next)
-put-keeps d false rid first count = (refl, omega arith)
-put-keeps d true rid first count = (refl, omega arith)
+pub stored-keeps : (within : Bool) (d : Draft) (rowid : ℕ) → let s = with_row_stored within d rowid in (s.cursors ≡ d.cursors) × (d.next ≤ s.next)
+stored-keeps false d rowid = (refl, omega arith)
+stored-keeps true d rowid = (refl, omega arith)
 
 pub row-counted : (y r f n : Draft) (may : Bool) (o : Option ℕ) (columns : List PutColumn) (name : List ℕ) (first causes : ℕ) → r ≡ with_row_tested may y causes → f ≡ with_rowid_fixed o r first name → n ≡ with_nulls_refused f columns name first causes → (n.cursors ≡ y.cursors) × (y.next ≤ y.most → n.next ≤ n.most) × (y.next ≤ n.next)
 row-counted y r f n may o columns name first causes r_is f_is n_is = rw (n_is, f_is, r_is) (row-keeps y may o columns name first causes)
 
 -- by what the calls of the Builder made
-pub row-puts-as : {calls : Calls} (a y r f n c t d : Draft) (may within : Bool) (given : Option ℕ) (rid first count causes : ℕ) (insert : BoundInsert) (row : List Kept) → first ≡ a.next → count ≡ length insert.columns → given ≡ rowid_given insert.rowid count → within ≡ is_within insert.rowid count → r ≡ with_row_tested may y causes → rid ≡ rowid_register given first r.next → f ≡ with_rowid_fixed given r first insert.name → n ≡ with_nulls_refused f insert.columns insert.name first causes → ChecksRow calls n c insert.name insert.checks rid first count → t ≡ with_taken_tested given c insert.name rid causes → d ≡ released (with_row_put within t rid first count) first → causes < a.next → a.cursors ≡ 2 → Stores calls a y causes row (insert.columns ++ columns_beside insert.rowid) → (may ≡ false → AreHeld row (insert.columns ++ columns_beside insert.rowid)) → Puts calls a d insert.table causes (AreKept causes a.next row) (λ env. row_put env insert) (row_steps insert)
-row-puts-as a y r f n c t d may within given rid first count causes insert row first_is count_is given_is within_is r_is rid_is f_is n_is checks t_is d_is below cursors_are sy held =
+pub row-puts-as : {calls : Calls} (a y r f n c s t d : Draft) (may within : Bool) (given : Option ℕ) (rid kept first count causes : ℕ) (insert : BoundInsert) (row : List Kept) → first ≡ a.next → count ≡ length insert.columns → given ≡ rowid_given insert.rowid count → within ≡ is_within insert.rowid count → r ≡ with_row_tested may y causes → rid ≡ rowid_register given first r.next → f ≡ with_rowid_fixed given r first insert.name → n ≡ with_nulls_refused f insert.columns insert.name first causes → ChecksRow calls n c insert.name insert.checks rid first count → kept ≡ stored_rowid within rid c.next → s ≡ with_row_stored within c rid → t ≡ with_met_tested (may_be_met (rowid_given insert.rowid count) insert.keys) s insert.name insert.keys kept first count causes → d ≡ released (with_op t (op.Insert 1 kept first count)) first → causes < a.next → a.cursors ≡ 2 → Stores calls a y causes row (insert.columns ++ columns_beside insert.rowid) → (may ≡ false → AreHeld row (insert.columns ++ columns_beside insert.rowid)) → Puts calls a d insert.table causes (AreKept causes a.next row) (λ env. row_put env insert) (row_steps insert)
+row-puts-as a y r f n c s t d may within given rid kept first count causes insert row first_is count_is given_is within_is r_is rid_is f_is n_is checks kept_is s_is t_is d_is below cursors_are sy held =
     let checked = rw (n_is, f_is, rid_is, given_is, r_is, count_is, first_is) at checks in
-    rw (d_is, t_is, within_is, rid_is, given_is, r_is, count_is, first_is) (row-puts a y c may causes insert row below cursors_are sy held checked)
+    rw (d_is, t_is, s_is, kept_is, within_is, rid_is, given_is, r_is, count_is, first_is) (row-puts a y c may causes insert row below cursors_are sy held checked)

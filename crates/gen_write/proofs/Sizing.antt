@@ -6,7 +6,7 @@ use Rattle.std.proofs.Math.Nat.{mul-le-mul_left}
 use Rattle.std.proofs.lemmas.List.Sums.{sum_by-cons}
 use Rattle.gen_expr.specs.Steps.{steps_of}
 use Rattle.gen_expr.proofs.Bounds.{steps_and_two_within}
-use Rattle.gen_write.specs.Writes.{LiteralsTakeNoSteps, StepsAreFew, and_refused, check_steps, checks_steps, column_steps, columns_beside, default_nodes, insert_steps, is_bare, is_plain, is_within, nodes_within, null_steps, plain_literal, read_steps, row_bound, row_steps, rowid_given, rowid_steps, source_of, steps_unless, stored_steps, turns_of, value_steps}
+use Rattle.gen_write.specs.Writes.{LiteralsTakeNoSteps, StepsAreFew, and_refused, check_steps, checks_steps, column_steps, columns_beside, default_nodes, insert_steps, is_bare, is_plain, is_within, may_be_met, met_steps, nodes_within, null_steps, plain_literal, read_steps, row_bound, row_steps, rowid_given, rowid_steps, source_of, steps_unless, stored_steps, turns_of, value_steps}
 use Rattle.bound_size.specs.Sizes.{all_nodes}
 use Rattle.bound_tree.specs.Exprs.{BoundExpr}
 use Rattle.sql_meaning.specs.Statement.{refusal_of}
@@ -72,9 +72,13 @@ checks-few : (checks : List BoundExpr) → checks_steps checks ≤ 3 * all_nodes
 checks-few [] = omega arith
 checks-few (c ∷ checks) = omega (arith, each-few (c ∷ checks))
 
-rowid-few : (given : Option ℕ) → rowid_steps given ≤ 7
+rowid-few : (given : Option ℕ) → rowid_steps given ≤ 4
 rowid-few None = omega arith
 rowid-few (Some place) = omega arith
+
+met-few : (may : Bool) → met_steps may ≤ 3
+met-few true = omega arith
+met-few false = omega arith
 
 -- what is given beside the columns does not stand among them
 put-few : (from : RowidFrom) (width : ℕ) → sum_by column_steps (columns_beside from) + insert_steps (is_within from width) ≤ 4
@@ -88,7 +92,7 @@ put-few (rowid.Column place) width = omega (arith, by (nat_lt place width))
 
 row-few : (b : BoundInsert) → row_steps b ≤ row_bound b
 row-few b =
-    omega (arith, columns-few b.columns, put-few b.rowid (length b.columns), rowid-few (rowid_given b.rowid (length b.columns)), nulls-few b.columns, checks-few b.checks)
+    omega (arith, columns-few b.columns, put-few b.rowid (length b.columns), rowid-few (rowid_given b.rowid (length b.columns)), nulls-few b.columns, checks-few b.checks, met-few (may_be_met (rowid_given b.rowid (length b.columns)) b.keys))
 
 pub steps-few : (b : BoundInsert) → StepsAreFew b
 steps-few b x =
@@ -134,14 +138,15 @@ bare-all (c ∷ columns) h =
     let rest = bare-all columns known.1 in
     (omega (arith, first.0, rest.0, sum_by-cons column_steps c columns), omega (arith, first.1, rest.1, sum_by-cons null_steps c columns))
 
-row-bare : (b : BoundInsert) → list_all is_bare b.columns ≡ true → b.checks ≡ [] → b.rowid ≡ rowid.Drawn → row_steps b ≡ 3 * length b.columns + 5
+row-bare : (b : BoundInsert) → list_all is_bare b.columns ≡ true → b.checks ≡ [] → b.rowid ≡ rowid.Drawn → row_steps b ≡ 3 * length b.columns + 5 + met_steps (may_be_met None b.keys)
 row-bare b h none drawn =
     let columns = bare-all b.columns h in
     let beside : sum_by column_steps (columns_beside b.rowid) ≡ 0 = ap (λ from. sum_by column_steps (columns_beside from)) drawn in
     let rowids : rowid_steps (rowid_given b.rowid (length b.columns)) ≡ 1 = ap (λ from. rowid_steps (rowid_given from (length b.columns))) drawn in
     let checks : checks_steps b.checks ≡ 0 = ap checks_steps none in
     let put : insert_steps (is_within b.rowid (length b.columns)) ≡ 1 = ap (λ from. insert_steps (is_within from (length b.columns))) drawn in
-    omega (arith, columns.0, columns.1, beside, rowids, checks, put)
+    let met : met_steps (may_be_met (rowid_given b.rowid (length b.columns)) b.keys) ≡ met_steps (may_be_met None b.keys) = ap (λ from. met_steps (may_be_met (rowid_given from (length b.columns)) b.keys)) drawn in
+    omega (arith, columns.0, columns.1, beside, rowids, checks, put, met)
 
 pub literals-none : (b : BoundInsert) → LiteralsTakeNoSteps b
 literals-none b h bare_columns none drawn x =

@@ -6,6 +6,8 @@ use Rattle.std.proofs.Math.Seq.{drop-cons, drop-length}
 use Rattle.std.proofs.lemmas.List.{get_or-set_same, get_or-set_other}
 use Rattle.std.proofs.lemmas.List.Sums.{sum_by-cons}
 use Rattle.eng_number.specs.Numbers.{fits_integer}
+use Rattle.eng_index.specs.Keys.{row_in_way}
+use Rattle.eng_index.specs.declared.key_term.KeyTerm.{KeyTerm}
 use Rattle.eng_value.specs.Causes.{only}
 use Rattle.eng_value.specs.StoredRows.{StoredRow, next_rowid}
 use Rattle.eng_value.specs.declared.cause.Cause.TheVariants.{Constraint, Full, Mismatch}
@@ -15,22 +17,23 @@ use Rattle.eng_value.specs.declared.out.Out.{Out}
 use Rattle.eng_value.specs.declared.out.Out.TheVariants.{Good, Bad}
 use Rattle.eng_value.specs.declared.value.Value.{Value}
 use Rattle.eng_value.specs.declared.value.Value.TheVariants.{Null, Integer, Text, Blob}
-use Rattle.gen_write.specs.Stretches.{with_null_refused, with_null_tested, with_nulls_refused, with_refused, with_rowid_drawn, with_rowid_tested, with_taken_refused}
+use Rattle.gen_write.specs.Stretches.{with_null_refused, with_null_tested, with_nulls_refused, with_refused, with_rowid_drawn, with_rowid_tested, with_met_refused}
 use Rattle.gen_write.specs.Writes.{null_steps}
 use Rattle.sql_meaning.specs.Rows.{is_null, lacks_value}
 use Rattle.sql_meaning.specs.declared.bound.PutColumn.{PutColumn}
+use Rattle.vm_code.specs.declared.op.Op.{Op}
 use Rattle.vm_code.specs.declared.op.Op.TheVariants as op
 use Rattle.vm_code.specs.Draft.{Draft, bound, with_label, with_op}
 use Rattle.vm_code.specs.Tracked.{Steady}
 use Rattle.vm_code.specs.Machine as machine
-use Rattle.vm_code.specs.Machine.{Open, Setting, State, On, GivesUp, Reaches, act, cursor_at, cursor_rows, drawn, given_up, integer_in, is_integer, is_known, leaving_of, outs_from, read, row_under, rows_of, world_of}
+use Rattle.vm_code.specs.Machine.{Open, Setting, State, On, GivesUp, Reaches, act, cursor_at, cursor_rows, drawn, given_up, is_integer, is_known, leaving_of, outs_from, read, row_in, rows_of, world_of}
 use Rattle.vm_code.specs.Frames.{Grows, Here, Holds, Ready, here, with_regs}
 use Rattle.vm_code.specs.Claims.{Claim, Exits, Labels, Last, Triple, ends, on}
 use Rattle.vm_code.proofs.Runs.{leads_op, reaches_op}
 use Rattle.vm_code.proofs.Drafts.{at_op, extends, g_bound, g_label, g_op, grows_none, grows_then, long_label, long_op, open_new, open_old, open_other}
 use Rattle.vm_code.proofs.Tracks.{has-bound, place-bound, st_bind, st_fork, st_fork_use, st_goto, st_leave, st_made, st_none, st_on, st_op, st_then, st_use}
 use Rattle.vm_code.proofs.Effects.{t_put}
-use Rattle.vm_code.proofs.NewRows.{t_must_be_int, t_not_exists}
+use Rattle.vm_code.proofs.NewRows.{t_must_be_int, t_no_conflict}
 use Rattle.vm_code.proofs.Triples.{no_labels, with_claim, t_bind, t_draft, t_goto, t_halt_bad, t_more, t_seq, t_test, t_use}
 
 -- ---- a constraint that is broken
@@ -254,43 +257,46 @@ module _ (d : Draft) (register : ℕ) (name : List ℕ) where
       let draw = t_draws m (bound going missing) register name table inner e null_now q lt (λ h0 h pre. opened h0 h pre.0) (λ h0 h regs n pre is has same. draws h0 h regs n pre.0 pre.1 is has same) (λ h0 h pre none. full h0 h pre.0 pre.1 none) in
       t_more (λ h0. 4) (λ h0. omega arith) (t_bind fixed q fixed_open (λ h0 h pre. pre) (t_seq at_missing draw))
 
--- ---- a rowid that is taken
+-- ---- rows in the way
 
-module _ (d : Draft) (name : List ℕ) (rowid causes : ℕ) where
+module _ (d : Draft) (name : List ℕ) (keys : List (List KeyTerm)) (rowid first count causes : ℕ) where
   abbrev free : ℕ
   free = length d.labels
 
   abbrev one : Draft
   one = with_label d
 
+  abbrev test : Op
+  test = op.NoConflict 1 rowid first count keys free
+
   abbrev finding : Draft
-  finding = with_op one (op.NotExists 1 rowid free)
+  finding = with_op one test
 
-  abbrev taken_bad : Draft
-  taken_bad = with_op finding (op.Bad (Constraint constraint.Unique name) causes)
+  abbrev met_bad : Draft
+  met_bad = with_op finding (op.Bad (Constraint constraint.Unique name) causes)
 
-  abbrev taken_halting : Draft
-  taken_halting = with_op taken_bad (op.HaltBad causes)
+  abbrev met_halting : Draft
+  met_halting = with_op met_bad (op.HaltBad causes)
 
-  free_open : slice_get taken_halting.labels free ≡ Some None
+  free_open : slice_get met_halting.labels free ≡ Some None
   free_open = open_new d
 
-  pub grows_taken : Grows d (with_taken_refused d name rowid causes)
-  grows_taken =
-      g_bound taken_halting free (grows_then (g_label d) (grows_then (g_op one (op.NotExists 1 rowid free)) (grows_then (g_op finding (op.Bad (Constraint constraint.Unique name) causes)) (g_op taken_bad (op.HaltBad causes))))) (omega arith) free_open
+  pub grows_met : Grows d (with_met_refused d name keys rowid first count causes)
+  grows_met =
+      g_bound met_halting free (grows_then (g_label d) (grows_then (g_op one test) (grows_then (g_op finding (op.Bad (Constraint constraint.Unique name) causes)) (g_op met_bad (op.HaltBad causes))))) (omega arith) free_open
 
-  pub steady_taken : Steady (1 ∷ []) [] d (with_taken_refused d name rowid causes)
-  steady_taken =
-      st_made free refl (place-bound taken_halting free free_open) (st_then (g_op one (op.NotExists 1 rowid free)) (st_fork_use (1 ∷ []) (free ∷ []) one (op.NotExists 1 rowid free) free 1 refl refl (0, omega arith, refl) (inl refl)) (st_then (g_op finding (op.Bad (Constraint constraint.Unique name) causes)) (st_op (1 ∷ []) (free ∷ []) finding (op.Bad (Constraint constraint.Unique name) causes) (refl, refl)) (st_leave (1 ∷ []) (free ∷ []) taken_bad (op.HaltBad causes) free refl refl (inl refl))))
+  pub steady_met : Steady (1 ∷ []) [] d (with_met_refused d name keys rowid first count causes)
+  steady_met =
+      st_made free refl (place-bound met_halting free free_open) (st_then (g_op one test) (st_fork_use (1 ∷ []) (free ∷ []) one test free 1 refl refl (0, omega arith, refl) (inl refl)) (st_then (g_op finding (op.Bad (Constraint constraint.Unique name) causes)) (st_op (1 ∷ []) (free ∷ []) finding (op.Bad (Constraint constraint.Unique name) causes) (refl, refl)) (st_leave (1 ∷ []) (free ∷ []) met_bad (op.HaltBad causes) free refl refl (inl refl))))
 
-  pub t_taken : (m : Setting) (table : ℕ) (e : Last) (p q : Claim) → causes < d.most → ((h0 h : Here) → p h0 h → cursor_at h.scene.cursors 1 ≡ Open table None) → ((h0 h : Here) → p h0 h → row_under (rows_of (world_of h.shared) table) (integer_in h.regs rowid) ≡ None → q h0 h) → ((h0 h : Here) (x : StoredRow) → p h0 h → row_under (rows_of (world_of h.shared) table) (integer_in h.regs rowid) ≡ Some x → e h0 (GivesUp (only (Constraint constraint.Unique name))) h.shared) → Triple m d (with_taken_refused d name rowid causes) (λ h0. 3) no_labels e p q
-  t_taken m table e p q lt opened goes fails =
+  pub t_met : (m : Setting) (table : ℕ) (e : Last) (p q : Claim) → causes < d.most → ((h0 h : Here) → p h0 h → cursor_at h.scene.cursors 1 ≡ Open table None) → ((h0 h : Here) → p h0 h → row_in_way keys (rows_of (world_of h.shared) table) (row_in h.regs rowid first count) ≡ None → q h0 h) → ((h0 h : Here) (x : StoredRow) → p h0 h → row_in_way keys (rows_of (world_of h.shared) table) (row_in h.regs rowid first count) ≡ Some x → e h0 (GivesUp (only (Constraint constraint.Unique name))) h.shared) → Triple m d (with_met_refused d name keys rowid first count causes) (λ h0. 3) no_labels e p q
+  t_met m table e p q lt opened goes fails =
       let inner : Labels = with_claim free q no_labels in
-      let found : Claim = λ h0 h. e h0 (GivesUp (only (Constraint constraint.Unique name))) h.shared in
+      let met : Claim = λ h0 h. e h0 (GivesUp (only (Constraint constraint.Unique name))) h.shared in
       let label = t_draft m inner e p (g_label d) refl in
-      let find_it = t_not_exists m one 1 rowid free table inner e p found (λ h0 h pre. (None, opened h0 h pre)) (λ h0 h pre is. inl (refl, goes h0 h pre is)) (λ h0 h x pre is. fails h0 h x pre is) in
-      let refuses = t_refuse m finding constraint.Unique name causes inner e found lt (λ h0 h pre. pre) in
-      t_more (λ h0. 3) (λ h0. omega arith) (t_bind free q free_open (λ h0 h no. absurd no) (t_seq (t_seq label find_it) refuses))
+      let look = t_no_conflict m one 1 rowid first count keys free table inner e p met (λ h0 h pre. (None, opened h0 h pre)) (λ h0 h pre is. inl (refl, goes h0 h pre is)) (λ h0 h x pre is. fails h0 h x pre is) in
+      let refuses = t_refuse m finding constraint.Unique name causes inner e met lt (λ h0 h pre. pre) in
+      t_more (λ h0. 3) (λ h0. omega arith) (t_bind free q free_open (λ h0 h no. absurd no) (t_seq (t_seq label look) refuses))
 
 -- one column more
 pub nulls_next : (b d : Draft) (columns : List PutColumn) (i : ℕ) (c : PutColumn) (name : List ℕ) (register next causes : ℕ) → i < length columns → c ≡ get_or columns i c → next ≡ register + 1 → d ≡ with_null_tested c.not_null b name register causes → with_nulls_refused d (drop (i + 1) columns) name next causes ≡ with_nulls_refused b (drop i columns) name register causes

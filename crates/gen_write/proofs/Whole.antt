@@ -1,12 +1,17 @@
--- The programs of an INSERT, of a CREATE TABLE and a DROP TABLE, and of a statement that does nothing.
-use Rattle.std.proofs.Common.{◌≡◌, ℕ, zero, suc, ◌+◌, ◌*◌, ◌≤◌, List, [], ◌∷◌, length, sum_by, ℤ, Some, None, refl, sym, ap, ◌∙◌, subst, arith}
+-- The programs of an INSERT, of a CREATE TABLE, a DROP TABLE and a CREATE INDEX, and of a statement that does nothing.
+use Rattle.std.proofs.Common.{◌≡◌, ℕ, zero, suc, ◌+◌, ◌*◌, ◌≤◌, List, [], ◌∷◌, length, sum_by, ℤ, Some, None, Bool, true, false, Contains, ◌&&◌, if◌then◌else◌, refl, sym, ap, ◌∙◌, subst, arith}
 use Rattle.std.specs.Prelude.{slice_index_or, slice_set}
+use Rattle.std.proofs.lemmas.List.Elements.{All-cons, All-nil}
 use Rattle.std.specs.declared.option.Option.{Option}
-use Rattle.eng_value.specs.Causes.{CauseSet}
+use Rattle.eng_index.specs.Keys.{has_doubles}
+use Rattle.eng_index.specs.declared.key_term.KeyTerm.{KeyTerm}
+use Rattle.eng_value.specs.Causes.{CauseSet, only}
 use Rattle.eng_value.specs.Environments.{Environment, Surroundings, environment, no_causes, null_row}
+use Rattle.eng_value.specs.declared.cause.Cause.TheVariants.{Constraint}
+use Rattle.eng_value.specs.declared.cause.ConstraintKind.TheVariants.{Unique}
 use Rattle.eng_value.specs.declared.out.Out.{Out}
 use Rattle.gen_write.specs.Stretches.{AreAllKept, KeepsRows, Puts, SourcedBy, items_for, scene_on, values_in}
-use Rattle.gen_write.specs.Writes.{create_run, create_steps, drop_run, drop_steps, finished, items_in, nothing_run, nothing_steps, put_run, put_steps, read_steps, row_steps, rows_run, run_by, seen_in, source_of, source_run, turns_of, untouched}
+use Rattle.gen_write.specs.Writes.{create_run, create_steps, doubles_refused, drop_run, drop_steps, finished, index_run, index_steps, items_in, nothing_run, nothing_steps, put_run, put_steps, read_steps, row_steps, rows_run, run_by, seen_in, source_of, source_run, turns_of, untouched}
 use Rattle.gen_write.specs.declared.source.Kept.{Kept}
 use Rattle.gen_write.proofs.Opens.{at_of, at_opened, steady_from}
 use Rattle.gen_write.proofs.RowRuns.{t_puts}
@@ -20,16 +25,17 @@ use Rattle.vm_code.specs.declared.program.Program.{Program}
 use Rattle.vm_code.specs.declared.schema_change.SchemaChange.{SchemaChange}
 use Rattle.vm_code.specs.declared.schema_change.SchemaChange.TheVariants.{AddTable, DropTable}
 use Rattle.vm_code.specs.Draft.{Draft, begun, taken, with_op, with_cursor}
-use Rattle.vm_code.specs.Machine.{Closed, Cursor, Open, Finished, GivesUp, Inputs, Run, Scene, Setting, Shared, State, Performs, cursor_at, ending_by, read, with_schema, world_of}
+use Rattle.vm_code.specs.Machine.{Closed, Cursor, Open, Finished, GivesUp, Inputs, Run, Scene, Setting, Shared, State, Performs, cursor_at, ending_by, read, rows_of, with_schema, world_of}
 use Rattle.vm_code.specs.Frames.{Calls, Here, IsProgramOf, environment_of, here, no_calls, surroundings_of, with_regs}
 use Rattle.vm_code.specs.Balanced.{IsBalanced}
 use Rattle.vm_code.specs.Claims.{Claim, Exits, Labels, Last, Triple, ends, on}
 use Rattle.vm_code.proofs.Drafts.{extends, g_cursor, g_op, g_taken, grows_then}
-use Rattle.vm_code.proofs.Triples.{no_labels, t_seq, t_more, t_more_where, t_draft, t_op, t_halt}
+use Rattle.vm_code.proofs.Triples.{no_labels, t_seq, t_use, t_more, t_more_where, t_draft, t_op, t_halt}
 use Rattle.vm_code.proofs.Effects.{t_put}
 use Rattle.vm_code.proofs.Loops.{t_move}
+use Rattle.vm_code.proofs.Searches.{t_build_index, t_build_unique}
 use Rattle.vm_code.proofs.Balancing.{balanced_of}
-use Rattle.vm_code.proofs.Tracks.{st_cursor, st_none, st_op, st_taken, st_then}
+use Rattle.vm_code.proofs.Tracks.{st_cursor, st_none, st_op, st_taken, st_then, st_use}
 use Rattle.vm_code.proofs.Whole.{Begins, EndsAs, performs_of}
 
 -- ---- what is shared at the start of a run
@@ -218,7 +224,7 @@ module _ (b : BoundInsert) (source : List (List Kept)) (y z : Draft) (x : KeepsR
       let reading = st_then (grows_then (g_taken (begun [])) (g_op (taken (begun [])) (op.Null 0))) clearing x.steady in
       let cursors = st_then (g_cursor y) (st_cursor [] [] y) (st_cursor [] [] (with_cursor y)) in
       let front = st_then (grows_then (g_taken (begun [])) (grows_then (g_op (taken (begun [])) (op.Null 0)) x.grows)) reading cursors in
-      balanced_of [] closing op.Halt p (steady_from [] (at_opened b.table (at_of [] (λ k c lt. absurd (omega (arith, lt))) front) w.steady (omega arith) w.grows.cursors)) refl refl is
+      balanced_of [] closing op.Halt p (steady_from [] (at_opened 1 (op.OpenWrite 1 b.table) refl refl (at_of [] (λ k c lt. absurd (omega (arith, lt))) front) w.steady (omega arith) w.grows.cursors)) refl refl is
 
 -- ---- CREATE TABLE and DROP TABLE
 
@@ -260,6 +266,80 @@ create-performs p is = schema-performs AddTable p is
 
 pub drop-performs : (table : ℕ) (p : Program) → IsProgramOf (schema_code (DropTable table)) p → Performs p (drop_run table) drop_steps
 drop-performs table p is = schema-performs (DropTable table) p is
+
+-- ---- CREATE INDEX
+
+module _ (table : ℕ) (name : List ℕ) (terms : List KeyTerm) (unique : Bool) where
+  abbrev named : Bool → Option (List ℕ)
+  named u = if u then Some name else None
+
+  abbrev cursor_taken : Draft
+  cursor_taken = with_cursor (begun [])
+
+  abbrev reading : Draft
+  reading = with_op cursor_taken (op.OpenRead 0 table)
+
+  abbrev building : Draft
+  building = with_op reading (op.BuildIndex 0 terms (named unique))
+
+  abbrev shutting : Draft
+  shutting = with_op building (op.Close 0)
+
+  abbrev pub index_code : Draft
+  index_code = with_op shutting op.Halt
+
+  pub index-balanced : (p : Program) → IsProgramOf index_code p → IsBalanced p.main
+  index-balanced p is =
+      let uses : List ℕ = 0 ∷ [] in
+      let used = All-cons (Contains uses) 0 [] (0, omega arith, refl) (All-nil (Contains uses)) in
+      let front = at_of [] (λ k c lt. absurd (omega (arith, lt))) (st_cursor [] [] (begun [])) in
+      let body = at_of uses used (st_use uses [] reading (op.BuildIndex 0 terms (named unique)) 0 refl refl (0, omega arith, refl)) in
+      balanced_of [] shutting op.Halt p (steady_from [] (at_opened 0 (op.OpenRead 0 table) refl refl front body (omega arith) (omega arith))) refl refl is
+
+  module _ (m : Setting) where
+    abbrev index_last : Last
+    index_last = EndsAs m (index_run table name terms unique)
+
+    abbrev one_cursor : Claim
+    one_cursor h0 h = (h ≡ h0) × Begins 1 h0
+
+    abbrev on_table : Claim
+    on_table h0 h = (h.shared ≡ first_shared h0) × (cursor_at h.scene.cursors 0 ≡ Open table None)
+
+    abbrev refuses : Here → Option CauseSet
+    refuses h0 = doubles_refused table name terms unique (world_of h0.shared)
+
+    abbrev is_built : Claim
+    is_built h0 h = (h.shared ≡ first_shared h0) × (refuses h0 ≡ None)
+
+    -- what decides it
+    decided : (h0 h : Here) (u : Bool) → unique ≡ u → h.shared ≡ first_shared h0 → refuses h0 ≡ (if u && has_doubles terms (rows_of (world_of h.shared) table) then Some (only (Constraint Unique name)) else None)
+    decided h0 h u is same =
+        ap (λ v. doubles_refused table name terms v (world_of h0.shared)) is
+        ∙ ap (λ (x : Shared). doubles_refused table name terms u (world_of x)) (sym same)
+
+    opens_table : Triple m cursor_taken reading (λ h0. 1) no_labels index_last one_cursor on_table
+    opens_table =
+        t_move m cursor_taken (op.OpenRead 0 table) 0 (Open table None) no_labels index_last one_cursor on_table (omega arith) (λ at s. refl) (λ h0 h pre is. (untouched_is h0 h pre, is))
+
+    builds : (u : Bool) → unique ≡ u → Triple m reading (with_op reading (op.BuildIndex 0 terms (named u))) (λ h0. 1) no_labels index_last on_table is_built
+    builds false is =
+        t_use on_table is_built (λ h0 h pre. pre) (λ h0 h pre. (pre.0, decided h0 h false is pre.0)) (t_build_index m reading 0 terms no_labels index_last on_table)
+    builds true is =
+        t_build_unique m reading 0 table terms name no_labels index_last on_table is_built (λ h0 h pre. (None, pre.1)) (λ h0 h pre none. (pre.0, decided h0 h true is pre.0 ∙ ap (λ d. if d then Some (only (Constraint Unique name)) else None) none)) (λ h0 h pre some. (
+          ap ending_by (sym (decided h0 h true is pre.0 ∙ ap (λ d. if d then Some (only (Constraint Unique name)) else None) some)),
+          pre.0,
+        ))
+
+    index_ends : Triple m (begun []) index_code (λ h0. 4) no_labels index_last one_cursor (λ h0 h. ⊥)
+    index_ends =
+        let take = t_draft m no_labels index_last one_cursor (g_cursor (begun [])) refl in
+        let shut = t_move m building (op.Close 0) 0 Closed no_labels index_last is_built is_built (omega arith) (λ at s. refl) (λ h0 h pre is. pre) in
+        let halt = t_halt m shutting no_labels index_last is_built (λ h0 h pre. (ap ending_by (sym pre.1), pre.0)) in
+        t_more (λ h0. 4) (λ h0. omega arith) (t_seq (t_seq (t_seq (t_seq take opens_table) (builds unique refl)) shut) halt)
+
+  pub index-performs : (p : Program) → IsProgramOf index_code p → Performs p (index_run table name terms unique) index_steps
+  index-performs p is = performs_of [] index_code p (index_run table name terms unique) index_steps is index_ends
 
 -- ---- a statement that does nothing
 

@@ -1,5 +1,6 @@
 -- What the stretches of a write's code do.
 use Rattle.std.specs.Prelude.{◌≡◌, ◌≢◌, ℕ, ◌+◌, ◌≤◌, ◌<◌, Bool, true, false, not, List, [], ◌∷◌, length, map, fold, sum_by, Option, Some, None, slice_get}
+use Rattle.eng_index.specs.declared.key_term.KeyTerm.{KeyTerm}
 use Rattle.eng_value.specs.Causes.{CauseSet, only}
 use Rattle.eng_value.specs.Environments.{Environment, no_causes, with_causes}
 use Rattle.eng_value.specs.Truths.{truth_in, truth_of}
@@ -225,19 +226,25 @@ abbrev pub rowid_register : Option ℕ → ℕ → ℕ → ℕ
 rowid_register None first next = next
 rowid_register (Some place) first next = first + place
 
--- the unit gives up where a row has the rowid that was given
-abbrev pub with_taken_refused : Draft → List ℕ → ℕ → ℕ → Draft
-with_taken_refused d name rowid causes =
-    bound (with_refused (with_op (with_label d) (op.NotExists 1 rowid (length d.labels))) constraint.Unique name causes) (length d.labels)
+-- the registers of a row come to hold it as it is stored: where its rowid stands among the columns, another register takes that, and NULL comes in its place
+abbrev pub with_row_stored : Bool → Draft → ℕ → Draft
+with_row_stored false d rowid = d
+with_row_stored true d rowid = with_op (with_op (taken d) (op.Copy rowid d.next)) (op.Null rowid)
 
-abbrev pub with_taken_tested : Option ℕ → Draft → List ℕ → ℕ → ℕ → Draft
-with_taken_tested None d name rowid causes = d
-with_taken_tested (Some place) d name rowid causes = with_taken_refused d name rowid causes
+-- the register of its rowid then
+abbrev pub stored_rowid : Bool → ℕ → ℕ → ℕ
+stored_rowid false rowid next = rowid
+stored_rowid true rowid next = next
 
--- the row that is in registers is put; where its rowid stands among the columns, another register takes that, and NULL is stored in its place
-abbrev pub with_row_put : Bool → Draft → ℕ → ℕ → ℕ → Draft
-with_row_put false d rowid first count = with_op d (op.Insert 1 rowid first count)
-with_row_put true d rowid first count = with_op (with_op (with_op (taken d) (op.Copy rowid d.next)) (op.Null rowid)) (op.Insert 1 d.next first count)
+-- the unit gives up where a row of the table is in the way of the one that registers hold
+abbrev pub with_met_refused : Draft → List ℕ → List (List KeyTerm) → ℕ → ℕ → ℕ → ℕ → Draft
+with_met_refused d name keys rowid first count causes =
+    bound (with_refused (with_op (with_label d) (op.NoConflict 1 rowid first count keys (length d.labels))) constraint.Unique name causes) (length d.labels)
+
+-- it does so where one may be
+abbrev pub with_met_tested : Bool → Draft → List ℕ → List (List KeyTerm) → ℕ → ℕ → ℕ → ℕ → Draft
+with_met_tested true d name keys rowid first count causes = with_met_refused d name keys rowid first count causes
+with_met_tested false d name keys rowid first count causes = d
 
 -- the unit gives up where what a register holds is false, for that constraint, and where it is bad; two labels are there for that
 abbrev pub with_truth_refused : Draft → ℕ → ℕ → ℕ → List ℕ → Draft

@@ -4,11 +4,15 @@ use Rattle.std.specs.List.{list_all}
 use Rattle.bound_size.specs.Sizes.{all_nodes, nodes_of}
 use Rattle.bound_tree.specs.Exprs as e
 use Rattle.bound_tree.specs.Exprs.{BoundExpr}
-use Rattle.eng_value.specs.Causes.{CauseSet}
+use Rattle.eng_index.specs.Keys.{has_doubles}
+use Rattle.eng_index.specs.declared.key_term.KeyTerm.{KeyTerm}
+use Rattle.eng_value.specs.Causes.{CauseSet, only}
 use Rattle.eng_value.specs.Environments.{Environment, Surroundings, environment, no_causes}
 use Rattle.eng_value.specs.Written.{Written, unwritten}
 use Rattle.eng_value.specs.declared.affinity.Affinity.{Affinity}
 use Rattle.eng_value.specs.declared.affinity.Affinity.TheVariants as affinity
+use Rattle.eng_value.specs.declared.cause.Cause.TheVariants.{Constraint}
+use Rattle.eng_value.specs.declared.cause.ConstraintKind.TheVariants.{Unique}
 use Rattle.eng_value.specs.declared.value.Value.{Value}
 use Rattle.gen_expr.specs.Steps.{steps_of}
 use Rattle.sql_meaning.specs.Rows.{fitted, new_row}
@@ -43,6 +47,21 @@ drop_run table x last_rowid = record { ending = Finished; shared = record (untou
 
 abbrev pub drop_steps : Surroundings → ℕ
 drop_steps x = 2
+
+-- ---- CREATE INDEX
+
+-- no two rows of the table may share the key of an index that is unique
+abbrev pub doubles_refused : ℕ → List ℕ → List KeyTerm → Bool → World → Option CauseSet
+doubles_refused table name terms unique w =
+    if unique && has_doubles terms (rows_of w table) then Some (only (Constraint Unique name)) else None
+
+-- that is all that the run finds out: nothing is given and nothing is written
+abbrev pub index_run : ℕ → List ℕ → List KeyTerm → Bool → Surroundings → ℤ → Run
+index_run table name terms unique x last_rowid =
+    record { ending = ending_by (doubles_refused table name terms unique x.world); shared = untouched x.world last_rowid }
+
+abbrev pub index_steps : Surroundings → ℕ
+index_steps x = 4
 
 -- ---- a statement that does nothing
 
@@ -82,7 +101,7 @@ course_of x (Done u y) = finished (record x { written = y })
 course_of x (Left y) = finished (record x { written = y })
 course_of x (Fails causes y) = failed causes (record x { written = y })
 
--- a row of the source is made and fitted as the definition says, beside the rows of its table, and comes among them where its rowid is free
+-- a row of the source is made and fitted as the definition says, beside the rows of its table, and comes among them
 abbrev pub row_effect : Environment → BoundInsert → List Value → Written → Effect
 row_effect env b source x =
     settled (new_row env b source) x then λ new x.
@@ -173,10 +192,10 @@ is_within rowid.Drawn width = false
 is_within (rowid.Given place) width = false
 is_within (rowid.Column place) width = nat_lt place width
 
--- a rowid is drawn; one that is given is tested, or drawn where it is missing, and looked for among the rows
+-- a rowid is drawn; one that is given is tested, or drawn where it is missing
 abbrev pub rowid_steps : Option ℕ → ℕ
 rowid_steps None = 1
-rowid_steps (Some place) = 7
+rowid_steps (Some place) = 4
 
 abbrev pub null_steps : PutColumn → ℕ
 null_steps c = if c.not_null then 3 else 0
@@ -189,6 +208,16 @@ abbrev pub checks_steps : List BoundExpr → ℕ
 checks_steps [] = 0
 checks_steps (c ∷ checks) = sum_by check_steps (c ∷ checks) + 2
 
+-- another row may be in the way of one for which a rowid is given, or which may share a key with none; looking for it takes three
+abbrev pub may_be_met : Option ℕ → List (List KeyTerm) → Bool
+may_be_met (Some place) keys = true
+may_be_met None [] = false
+may_be_met None (key ∷ keys) = true
+
+abbrev pub met_steps : Bool → ℕ
+met_steps true = 3
+met_steps false = 0
+
 -- the row is put by one; a rowid that stands among the columns is copied before, and NULL comes in its place
 abbrev pub insert_steps : Bool → ℕ
 insert_steps false = 1
@@ -198,7 +227,8 @@ insert_steps true = 3
 abbrev pub row_steps : BoundInsert → ℕ
 row_steps b =
     sum_by column_steps b.columns + sum_by column_steps (columns_beside b.rowid) + 3 + rowid_steps (rowid_given b.rowid (length b.columns))
-    + sum_by null_steps b.columns + checks_steps b.checks + insert_steps (is_within b.rowid (length b.columns))
+    + sum_by null_steps b.columns + checks_steps b.checks + met_steps (may_be_met (rowid_given b.rowid (length b.columns)) b.keys)
+    + insert_steps (is_within b.rowid (length b.columns))
 
 -- the rows that are put, which a bad row of the source leaves out
 abbrev pub turns_of : Option CauseSet → ℕ → ℕ
@@ -231,8 +261,8 @@ is_plain x = is_some (plain_literal x)
 abbrev pub is_bare : PutColumn → Bool
 is_bare c = not c.not_null && not (is_some c.default)
 
--- where rowids are drawn and nothing else is known of the columns and of rows, a row takes three for each column and five
+-- where rowids are drawn and nothing else is known of the columns and of rows, a row takes three for each column and five, and three more where there are keys
 abbrev pub LiteralsTakeNoSteps : BoundInsert → Type 0
 LiteralsTakeNoSteps b =
     list_all (list_all is_plain) b.rows ≡ true → list_all is_bare b.columns ≡ true → b.checks ≡ [] → b.rowid ≡ rowid.Drawn
-    → (x : Surroundings) → put_steps b x ≡ turns_of (refusal_of (source_of b x)) (length b.rows) * (3 * length b.columns + 5) + 4
+    → (x : Surroundings) → put_steps b x ≡ turns_of (refusal_of (source_of b x)) (length b.rows) * (3 * length b.columns + 5 + met_steps (may_be_met None b.keys)) + 4

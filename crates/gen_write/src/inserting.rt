@@ -16,7 +16,7 @@ use vm_code::{Builder, Op, Program};
 /// affinities of the columns, with the defaults of those without a value, and put under its rowid, which is drawn where none is given. The
 /// run ends with the causes of the first row that cannot be stored; with `Mismatch` at a rowid that is no integer, and `Full` where none is
 /// left; and with a constraint, which names the table, at the first NULL that may not be, CHECK that is false (or its causes, where it is
-/// bad) or rowid that a row has, in this order. Only memory can fail here.
+/// bad) or row in the way, which has the same rowid or shares a key, in this order. Only memory can fail here.
 pub fn compile_insert(alloc: Global, insert: &BoundInsert) -> Result<Program, AllocError>
     ensures performs { IfOk result (λ p. Performs p (put_run insert.now) (put_steps insert.now)) }
     ensures balanced { IfOk result (λ p. IsBalanced p.main) }

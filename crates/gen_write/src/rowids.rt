@@ -1,7 +1,7 @@
 // The rowids of the rows that are put.
 ghost use Rattle.std.specs.Prelude.{◌≡◌, ◌+◌, IfOk, OnOk};
 ghost use Rattle.sql_meaning.specs.declared.bound.RowidFrom.TheVariants as rowid;
-ghost use Rattle.gen_write.specs.Stretches.{rowid_register, with_rowid_drawn, with_rowid_fixed, with_rowid_tested};
+ghost use Rattle.gen_write.specs.Stretches.{rowid_register, stored_rowid, with_row_stored, with_rowid_drawn, with_rowid_fixed, with_rowid_tested};
 ghost use Rattle.gen_write.specs.Writes.{is_within, rowid_given};
 
 use crate::rows::TABLE;
@@ -97,4 +97,22 @@ fn draw_rowid(b: &mut Builder, to: u32, table: &Text) -> Result<(), AllocError>
         to,
         table: table.clone()?,
     })
+}
+
+/// Writes code that makes a row in registers that of the table: where its rowid stands among the columns, the row is stored with NULL in that
+/// place. The register that the rowid is in then.
+pub(crate) fn store_rowid(b: &mut Builder, is_within: bool, rowid: u32) -> Result<u32, AllocError>
+    ensures register { IfOk result (λ r. r ≡ stored_rowid is_within rowid b.old.next) }
+    ensures stores { IfOk result (λ _. b.new ≡ with_row_stored is_within b.old rowid) }
+{
+    if !is_within {
+        return Ok(rowid);
+    }
+    let kept = b.take()?;
+    b.op(Op::Copy {
+        from: rowid,
+        to: kept,
+    })?;
+    b.op(Op::Null { to: rowid })?;
+    Ok(kept)
 }

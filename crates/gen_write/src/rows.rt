@@ -2,14 +2,14 @@
 ghost use Rattle.std.specs.Prelude.{◌≡◌, ◌*◌, ◌<◌, ◌≤◌, [], ◌∷◌, false, length, IfOk, None, OnOk, Some};
 ghost use Rattle.std.specs.Option.{option_copied};
 ghost use Rattle.gen_write.specs.Writes.{column_with, columns_beside, row_put, row_steps, rows_run};
-ghost use Rattle.gen_write.specs.Stretches.{AreAllKept, AreHeld, AreKept, Loads, Puts, Stores, kept_at, with_row_put, with_stored};
+ghost use Rattle.gen_write.specs.Stretches.{AreAllKept, AreHeld, AreKept, Loads, Puts, Stores, kept_at, with_stored};
 ghost use Rattle.vm_code.specs.Frames.{no_calls};
 
 use crate::holding::is_held;
 use crate::refusing::refuse_if;
-use crate::rowids::{fix_rowid, is_within, rowid_given};
+use crate::rowids::{fix_rowid, is_within, rowid_given, store_rowid};
 use crate::source::Kept;
-use crate::tests::{refuse_by_checks, refuse_nulls, refuse_taken};
+use crate::tests::{refuse_by_checks, refuse_met, refuse_nulls};
 use bound_tree::BoundExpr;
 use eng_value::Affinity;
 use gen_expr::{emit, emit_literal};
@@ -45,7 +45,7 @@ pub(crate) fn put_rows(
 }
 
 /// Writes code that stores the values that are placed for the columns, and their defaults, by the affinities, fixes the rowid, tests the row
-/// and puts it, or gives up where it may not be put.
+/// and puts it, or gives up where it may not be put. Whether a row is in its way is tested on what is put, with the same registers.
 fn put_row(
     alloc: Global,
     b: &mut Builder,
@@ -77,38 +77,17 @@ fn put_row(
         first,
         count,
     )?;
-    refuse_taken(b, given, &insert.name, rowid, causes)?;
     let is_within = is_within(insert.rowid, count);
-    store_row(b, is_within, rowid, first, count)?;
-    b.release(first);
-    Ok(())
-}
-
-/// Writes code that puts the row that stands in registers. Where its rowid stands among the columns, the row holds NULL in that place.
-fn store_row(
-    b: &mut Builder,
-    is_within: bool,
-    rowid: u32,
-    first: u32,
-    count: u32,
-) -> Result<(), AllocError>
-    ensures { OnOk result (b.new ≡ with_row_put is_within b.old rowid first count) }
-{
-    let mut kept = rowid;
-    if is_within {
-        kept = b.take()?;
-        b.op(Op::Copy {
-            from: rowid,
-            to: kept,
-        })?;
-        b.op(Op::Null { to: rowid })?;
-    }
+    let rowid = store_rowid(b, is_within, rowid)?;
+    refuse_met(alloc, b, insert, rowid, first, count, causes)?;
     b.op(Op::Insert {
         cursor: TABLE,
-        rowid: kept,
+        rowid,
         first,
         count,
-    })
+    })?;
+    b.release(first);
+    Ok(())
 }
 
 /// Writes code that leaves what the columns store of a row's values in registers that it takes, one after another, and adds their

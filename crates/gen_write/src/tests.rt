@@ -1,15 +1,18 @@
 // The tests that a row passes before it is put.
-ghost use Rattle.std.specs.Prelude.{◌≡◌, ◌≤◌, ◌<◌, [], ◌∷◌, None, OnOk, Some, slice_get};
+ghost use Rattle.std.specs.Prelude.{◌≡◌, ◌≤◌, ◌<◌, [], ◌∷◌, None, IfOk, OnOk, Some, slice_get};
 ghost use Rattle.eng_value.specs.declared.cause.ConstraintKind.TheVariants as constraint;
-ghost use Rattle.gen_write.specs.Stretches.{Checks, ChecksRow, with_null_refused, with_nulls_refused, with_refused, with_taken_refused, with_taken_tested, with_truth_refused};
+ghost use Rattle.gen_write.specs.Stretches.{Checks, ChecksRow, with_null_refused, with_met_refused, with_met_tested, with_nulls_refused, with_refused, with_truth_refused};
+ghost use Rattle.gen_write.specs.Writes.{may_be_met, rowid_given};
 ghost use Rattle.vm_code.specs.Frames.{no_calls};
 
-use crate::rowids::register_at;
+use crate::rowids::{register_at, rowid_given};
 use crate::rows::{ROW, TABLE};
 use bound_tree::BoundExpr;
+use eng_index::KeyTerm;
 use eng_value::{Cause, ConstraintKind, Text};
 use gen_expr::emit_truth;
-use sql_meaning::PutColumn;
+use sql_meaning::{BoundInsert, PutColumn};
+use sqlite_items::Items;
 use std::alloc::{AllocError, Global};
 use vm_code::{Builder, Op};
 
@@ -156,31 +159,68 @@ fn refuse_truth(
     b.bind(passed)
 }
 
-/// Writes code that gives up where a row has the rowid that is given. One that is drawn is free.
-pub(crate) fn refuse_taken(
+/// Writes code that gives up where a row of the table is in the way of the one that the registers hold as it is stored: it has the same rowid, or
+/// shares a key with it. There is no code where the rowid is drawn and there are no keys.
+pub(crate) fn refuse_met(
+    alloc: Global,
     b: &mut Builder,
-    given: Option<u32>,
-    table: &Text,
+    insert: &BoundInsert,
     rowid: u32,
+    first: u32,
+    count: u32,
     causes: u32,
 ) -> Result<(), AllocError>
-    ensures { OnOk result (b.new ≡ with_taken_tested given b.old table.now rowid causes) }
+    ensures { OnOk result (b.new ≡ with_met_tested (may_be_met (rowid_given insert.now.rowid count) insert.now.keys) b.old insert.now.name insert.now.keys rowid first count causes) }
 {
-    match given {
-        None => Ok(()),
-        Some(_) => refuse_equal(b, table, rowid, causes),
+    if may_be_met(rowid_given(insert.rowid, count), insert.keys.as_slice()) {
+        refuse_conflict(alloc, b, insert, rowid, first, count, causes)
+    } else {
+        Ok(())
     }
 }
 
-fn refuse_equal(b: &mut Builder, table: &Text, rowid: u32, causes: u32) -> Result<(), AllocError>
-    ensures { OnOk result (b.new ≡ with_taken_refused b.old table.now rowid causes) }
+/// Whether a row may be in the way of one with what is given for its rowid.
+fn may_be_met(given: Option<u32>, keys: &[Items<KeyTerm>]) -> bool
+    ensures { result ≡ may_be_met given keys.now }
+{
+    match given {
+        Some(_) => true,
+        None => !keys.is_empty(),
+    }
+}
+
+fn refuse_conflict(
+    alloc: Global,
+    b: &mut Builder,
+    insert: &BoundInsert,
+    rowid: u32,
+    first: u32,
+    count: u32,
+    causes: u32,
+) -> Result<(), AllocError>
+    ensures { OnOk result (b.new ≡ with_met_refused b.old insert.now.name insert.now.keys rowid first count causes) }
 {
     let free = b.label()?;
-    b.op(Op::NotExists {
+    let keys = copied(alloc, insert.keys.as_slice())?;
+    b.op(Op::NoConflict {
         cursor: TABLE,
         rowid,
+        first,
+        count,
+        keys,
         target: free,
     })?;
-    refuse(b, ConstraintKind::Unique, table, causes)?;
+    refuse(b, ConstraintKind::Unique, &insert.name, causes)?;
     b.bind(free)
+}
+
+/// The same keys for one more instruction.
+fn copied(alloc: Global, keys: &[Items<KeyTerm>]) -> Result<Items<Items<KeyTerm>>, AllocError>
+    ensures { IfOk result (λ copy. copy ≡ keys.now) }
+{
+    let mut copy = Items::new(alloc);
+    for terms in keys {
+        copy.push(Items::from_slice(alloc, terms.as_slice())?)?;
+    }
+    Ok(copy)
 }

@@ -24,7 +24,6 @@ use Rattle.sql_tree.specs.declared.statement.ColumnConstraint.TheVariants as con
 use Rattle.sql_tree.specs.declared.statement.TableConstraint.{TableConstraint}
 use Rattle.sql_tree.specs.declared.statement.TableConstraint.TheVariants as behind
 use Rattle.sql_tree.specs.declared.statement.TableDefinition.{TableDefinition}
-use Rattle.sql_bound.specs.Declarations.{rowid_of}
 use Rattle.sql_words.specs.Spelled.{name_bytes}
 use Rattle.sql_meaning.specs.Built.{Test, all_pass, are_built_rows, built_step, is_aggregate, is_built_arm, is_built_behind, is_built_column, is_built_constraint, is_built_expr, is_built_filter, is_built_from, is_built_part, is_built_query, is_built_result, is_built_row, is_built_table, is_built_values, is_empty, is_plain_select, option_passes, result_is_built, stands_alone}
 use Rattle.bound_size.specs.Plain.{all_plain, is_alone, is_plain, is_plain_arm, is_plain_behind, is_plain_column, is_plain_constraint, is_plain_filter, is_plain_part, is_plain_query, is_plain_result, is_plain_row, is_plain_table, option_plain, plain_step, result_is_plain}
@@ -191,24 +190,23 @@ built_values_plain text q h =
 
 -- ---- tables
 
-constraint_plain : (text : List ℕ) (has_rowid : Bool) (c : ColumnConstraint) → is_built_constraint text has_rowid c ≡ true → is_plain_constraint c ≡ true
-constraint_plain text has_rowid constraint.PrimaryKey h = refl
-constraint_plain text has_rowid constraint.NotNull h = refl
-constraint_plain text has_rowid constraint.Null h = refl
-constraint_plain text has_rowid constraint.Unique h = refl
-constraint_plain text has_rowid (constraint.Check x) h = built_expr_plain x text h
-constraint_plain text has_rowid (constraint.Default x) h = built_expr_plain x text h
-constraint_plain text has_rowid (constraint.Collate t) h = refl
+constraint_plain : (text : List ℕ) (c : ColumnConstraint) → is_built_constraint text c ≡ true → is_plain_constraint c ≡ true
+constraint_plain text constraint.PrimaryKey h = refl
+constraint_plain text constraint.NotNull h = refl
+constraint_plain text constraint.Null h = refl
+constraint_plain text constraint.Unique h = refl
+constraint_plain text (constraint.Check x) h = built_expr_plain x text h
+constraint_plain text (constraint.Default x) h = built_expr_plain x text h
+constraint_plain text (constraint.Collate t) h = refl
 
-behind_plain : (text : List ℕ) (has_rowid : Bool) (c : TableConstraint) → is_built_behind text has_rowid c ≡ true → is_plain_behind c ≡ true
-behind_plain text has_rowid (behind.PrimaryKey key) h = refl
-behind_plain text has_rowid (behind.Unique key) h = refl
-behind_plain text has_rowid (behind.Check x) h = built_expr_plain x text h
+behind_plain : (text : List ℕ) (c : TableConstraint) → is_built_behind text c ≡ true → is_plain_behind c ≡ true
+behind_plain text (behind.PrimaryKey key) h = refl
+behind_plain text (behind.Unique key) h = refl
+behind_plain text (behind.Check x) h = built_expr_plain x text h
 
 pub built_table_plain : (text : List ℕ) (t : TableDefinition) → is_built_table text t ≡ true → is_plain_table t ≡ true
 built_table_plain text t h =
-    let has_rowid = is_some (rowid_of text t) in
-    let k = both_hold (list_all (is_built_column text has_rowid) t.columns) (list_all (is_built_behind text has_rowid) t.constraints) h in
+    let k = both_hold (list_all (is_built_column text) t.columns) (list_all (is_built_behind text) t.constraints) h in
     and_true (list_all is_plain_column t.columns) (list_all is_plain_behind t.constraints)
-    (all_imply (is_built_column text has_rowid) is_plain_column (λ c b. all_imply (is_built_constraint text has_rowid) is_plain_constraint (constraint_plain text has_rowid) c.constraints b) t.columns k.0)
-    (all_imply (is_built_behind text has_rowid) is_plain_behind (behind_plain text has_rowid) t.constraints k.1)
+    (all_imply (is_built_column text) is_plain_column (λ c b. all_imply (is_built_constraint text) is_plain_constraint (constraint_plain text) c.constraints b) t.columns k.0)
+    (all_imply (is_built_behind text) is_plain_behind (behind_plain text) t.constraints k.1)

@@ -3,7 +3,9 @@ use Rattle.std.proofs.Common.{◌≡◌, ◌||◌, ◌∙◌, ap, inl, inr, Bool
 use Rattle.std.specs.Bool.{⊤}
 use Rattle.std.specs.Cmp.Lexicographic.{nat_list_cmp_total}
 use Rattle.std.specs.FinSet as set
-use Rattle.std.specs.Prelude.{slice_index_or, slice_set}
+use Rattle.std.specs.Prelude.{slice_index_or, slice_set, ◌&&◌}
+use Rattle.eng_entry.specs.Entries.{with_entry}
+use Rattle.eng_index.specs.Keys.{has_doubles}
 use Rattle.std.specs.Option.{option_map, option_to_list}
 use Rattle.std.specs.declared.option.Option.{Option}
 use Rattle.eng_value.specs.Causes.{CauseSet, cause_key, has_cause, named, only}
@@ -29,7 +31,7 @@ use Rattle.eng_value.specs.declared.value.Value.{Value}
 use Rattle.eng_value.specs.declared.value.Value.TheVariants as value
 use Rattle.eng_key.specs.Values.{value_keys}
 use Rattle.std.proofs.Common.{ℤ}
-use Rattle.sql_meaning.specs.Runnables.{Runnable, Creates, DoesNothing, Drops, FromItem, Put, Puts, Queries, Shows}
+use Rattle.sql_meaning.specs.Runnables.{Runnable, Creates, DoesNothing, Drops, FromItem, Indexes, NewIndex, Put, Puts, Queries, Shows, Unindexes}
 use Rattle.bound_tree.specs.Exprs as e
 use Rattle.bound_tree.specs.Exprs.{BoundArms, BoundExpr, BoundExprs, BoundMatches, NoExprs, AnExpr, NoArms, AnArm, NoMatches, AMatch}
 use Rattle.sql_words.specs.declared.literal.Literal.{Literal}
@@ -39,9 +41,10 @@ use Rattle.sql_meaning.specs.declared.bound.PutColumn.{PutColumn}
 use Rattle.sql_meaning.specs.declared.bound.RowidFrom.{RowidFrom}
 use Rattle.sql_meaning.specs.declared.bound.RowidFrom.TheVariants as rowid
 use Rattle.sql_meaning.specs.Expression.{arms_of, chosen_in, first_known, literal_out, matched_in, matches_of, parameter_of, unbuilt, value_of, values_of}
-use Rattle.sql_meaning.specs.Rows.{NewRow, at_row, checked, drawn, fitted, fixed, is_taken, lacks_value, new_by, new_row, or_default, passed, row_changed, row_put, rowid_beside, stored_for, unless_broken, value_for, with_row}
-use Rattle.sql_meaning.specs.Statement.{IsNamed, Item, Row, Failed, after_conjunct, begun, bound_for, bound_outcome, causes_of, closed, given_of, if_some, item_by, item_of, item_rows, items_at, items_of, outcome_of, product, put_source, refusal_of, rows_put, shown, shown_rows, sifted, source_of, text_outcome, with_others}
+use Rattle.sql_meaning.specs.Rows.{NewRow, at_row, checked, drawn, fitted, fixed, is_met, lacks_value, new_by, new_row, or_default, passed, row_changed, row_put, rowid_beside, stored_for, unless_broken, value_for, with_row}
+use Rattle.sql_meaning.specs.Statement.{IsNamed, Item, Row, Failed, after_conjunct, begun, bound_for, bound_outcome, causes_of, closed, failed, given_of, if_some, item_by, item_of, item_rows, items_at, items_of, outcome_of, product, put_source, refusal_of, rows_put, shown, shown_rows, sifted, source_of, text_outcome, with_catalog, with_others}
 use Rattle.sql_meaning.specs.Steps.{Step, Done, Left, Fails, Effect, ◌then◌, done, each, or_next, settled}
+use Rattle.sql_meaning.specs.Statement as outcome
 use Rattle.sql_meaning.specs.World.{Context, State, environment_at, rows_at, seen}
 use Rattle.sql_meaning.proofs.CausedOperators.{AreCaused, IsCaused, IsCausedSet, IsCausedTruth, and_of-caused, bad-caused, binary_of-caused, choice_of-caused, comparison_of-caused, function_by-caused, good, like_escaped_of-caused, made-caused, member_of-caused, merged-caused, only-caused, or_else-caused, store_as-caused, truth_in-caused, truth_of-caused, turned-caused, unary_of-caused}
 use Rattle.sql_meaning.proofs.RowLaws.{kept, placed, tested, with_rowid}
@@ -371,11 +374,11 @@ checked-told table checks env x r =
 
 tested-told : (env : Environment) (b : BoundInsert) (rows : List StoredRow) (r : StoredRow) (x : Written) → ToldStep (tested env b rows r x)
 tested-told env b rows r x =
-    let taken : Written → Effect = unless_broken (is_taken rows r.rowid) (cause.Constraint constraint.Unique b.name) in
+    let taken : Written → Effect = unless_broken (is_met b.keys rows (kept b r)) (cause.Constraint constraint.Unique b.name) in
     let lacks : Written → Effect = unless_broken (lacks_value b.columns r.values) (cause.Constraint constraint.NotNull b.name) in
     then-told (lacks x) (λ u y. checked b.name b.checks (at_row env r) y then λ v z. placed b rows r z) (unless_broken-told (lacks_value b.columns r.values) (cause.Constraint constraint.NotNull b.name) x)
     (λ u y. then-told (checked b.name b.checks (at_row env r) y) (λ v z. placed b rows r z) (checked-told b.name b.checks (at_row env r) y (row-caused r, tt))
-    (λ v z. then-told (taken z) (λ w z. Done (kept b r) z) (unless_broken-told (is_taken rows r.rowid) (cause.Constraint constraint.Unique b.name) z) (λ w z. tt)))
+    (λ v z. then-told (taken z) (λ w z. Done (kept b r) z) (unless_broken-told (is_met b.keys rows (kept b r)) (cause.Constraint constraint.Unique b.name) z) (λ w z. tt)))
 
 fitted-told : (env : Environment) (b : BoundInsert) (rows : List StoredRow) (new : NewRow) (x : Written) → ToldStep (fitted env b rows new x)
 fitted-told env b rows new x =
@@ -418,9 +421,17 @@ rows-told ctx (row ∷ rows) = (item_of-told no_causes (map (λ r. value_of r (e
 
 -- ---- any statement
 
+index-told : (state : State) (i : NewIndex) (broken : Bool)
+    → ToldRefusal (if broken then failed state (only (cause.Constraint constraint.Unique i.table.name)) else outcome.done [] (with_catalog state (with_entry i.entry state.world.catalog))).refusal
+index-told state i true = refusal-named (Some (only (cause.Constraint constraint.Unique i.table.name))) (only-caused (cause.Constraint constraint.Unique i.table.name))
+index-told state i false = tt
+
 outcome_of-told : (ctx : Context) (b : Runnable) → ToldRefusal (outcome_of ctx b).refusal
 outcome_of-told ctx (Creates e) = tt
 outcome_of-told ctx (Drops t) = tt
+outcome_of-told ctx (Indexes i) =
+    index-told ctx.state i (i.unique && has_doubles i.terms (rows_at ctx.state.world.tables i.table.number))
+outcome_of-told ctx (Unindexes name) = tt
 outcome_of-told ctx (Puts p) = put_source-told ctx p (causes_of (source_of ctx p)) (given_of (source_of ctx p)) (causes_of-told (source_of ctx p) (rows-told ctx p.insert.rows))
 outcome_of-told ctx (Shows rows) = refusal-named (refusal_of (shown_rows ctx rows)) (refusal_of-told (shown_rows ctx rows) (rows-told ctx rows))
 outcome_of-told ctx DoesNothing = tt

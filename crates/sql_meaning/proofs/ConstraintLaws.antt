@@ -1,5 +1,5 @@
 -- What an INSERT puts by default and tests of a row has at most two nodes for each token of its table's CREATE TABLE.
-use Rattle.std.proofs.Common.{◌≡◌, ◌≤◌, ℕ, ◌+◌, ◌*◌, nat_eq, Bool, true, false, cond, not, codes, List, [], ◌∷◌, ◌++◌, drop, length, flat_map, is_some, option_map, Option, Some, None, Result, Ok, Err, slice_get, All, refl, sym, ap, subst, ◌∙◌, arith}
+use Rattle.std.proofs.Common.{◌≡◌, ◌≤◌, inl, inr, ℕ, ◌+◌, ◌*◌, Bool, true, false, cond, not, codes, List, [], ◌∷◌, ◌++◌, drop, length, flat_map, is_some, option_map, Option, Some, None, Result, Ok, Err, slice_get, All, refl, sym, ap, subst, ◌∙◌, arith}
 use Rattle.std.specs.Bool.{⊤}
 use Rattle.std.specs.Option.{option_to_list}
 use Rattle.std.proofs.lemmas.List.Elements.{All-head, All-tail}
@@ -47,7 +47,10 @@ use Rattle.sql_words.specs.Refusals.{◌>>=◌}
 use Rattle.sql_words.specs.Spelled.{name_at}
 use Rattle.sql_bound.specs.Carriers.{Queries as AsksRows}
 use Rattle.sql_bound.specs.Creates.{create_bound, entries_beside}
-use Rattle.sql_bound.specs.Declarations.{table_named, table_or_view, unless_index}
+use Rattle.sql_tree.specs.declared.statement.Definition.{Definition}
+use Rattle.sql_tree.specs.declared.statement.Definition.TheVariants as definition
+use Rattle.sql_tree.specs.declared.statement.TableDefinition.{TableDefinition}
+use Rattle.sql_bound.specs.Declarations.{definition_of, index_in, table_in, table_named, table_or_view, unless_index}
 use Rattle.sql_bound.specs.Refusals.{Checked}
 use Rattle.sql_bound.specs.Scopes.{Outer, in_statement}
 use Rattle.sql_bound.specs.Statements.{bound_of, command_bound, entries_of, plain, pragma_bound, remove_bound, rows_bound, statement_with, thing_there}
@@ -61,16 +64,16 @@ use Rattle.sql_meaning.specs.declared.column.TableEntry.{TableEntry}
 use Rattle.sql_meaning.specs.Built.{is_built, is_built_command}
 use Rattle.sql_meaning.specs.Declarations.{columns_created, table_called, table_of, table_with, tables_among, tables_of}
 use Rattle.sql_meaning.specs.Permits.{Asking, Denies, Ignores, Permit, permitted}
-use Rattle.sql_meaning.specs.Running.{columns_put, command_of, first_part, found_table, from_of, is_plain_core, part_of, put_at, put_into, put_of, query_of, rowid_from, rows_of_part, runnable_of, table_of_source}
-use Rattle.sql_meaning.specs.Runnables.{Runnable, Creates, DoesNothing, Drops, FromItem, Put, Puts, Queries, Shows}
+use Rattle.sql_meaning.specs.Running.{columns_put, command_of, first_part, found_table, from_of, has_own_keys, is_plain_core, keys_of, part_of, put_at, put_into, put_of, query_of, rowid_from, rows_of_part, runnable_of, table_of_source}
+use Rattle.sql_meaning.specs.Runnables.{Runnable, Creates, DoesNothing, Drops, FromItem, Indexes, Put, Puts, Queries, Shows, Unindexes}
 use Rattle.sql_meaning.specs.Statement.{answer_bound, around, limit_kind, statement_bound, text_bound}
-use Rattle.sql_meaning.specs.Valid.{IsWorld, IsWritten}
+use Rattle.sql_meaning.specs.Valid.{IsEntry, IsTableEntry, IsWorld}
 use Rattle.sql_meaning.specs.Work.{constraints_size}
 use Rattle.sql_meaning.specs.World.{World}
 use Rattle.sql_meaning.proofs.AsideLaws.{IsAside, IsAsideCommand, command-aside, create-aside, pragma-aside, removed-aside}
 use Rattle.sql_meaning.proofs.BuiltPlain.{built_table_plain}
 use Rattle.sql_meaning.proofs.NameLaws.{is_same_name-left, is_same_name-refl}
-use Rattle.sql_meaning.proofs.TableLaws.{IsDeclared, table_of-name}
+use Rattle.sql_meaning.proofs.TableLaws.{table_of-name}
 use Rattle.sql_meaning.proofs.ValidLaws.{if_built-ok, same-ok, then-ok}
 
 -- ---- the entry of a table
@@ -85,22 +88,37 @@ found-entry P name (x ∷ entries) e all is = by (is_same_name x.name name) refl
     by false same rest f = rest f
 
 -- and the table that has its name is its own
-found-table : (name : List ℕ) (entries : List Entry) (e : Entry) (t : TableEntry) → All IsDeclared entries → is_same_name e.name name ≡ true → entry_named name entries ≡ Some e → table_called (tables_among entries) e.name ≡ Some t → table_of e ≡ Some t
-found-table name [] e t all same is there = absurd (cc)
-found-table name (x ∷ entries) e t all same is there =
-    by (is_same_name x.name name) refl (table_of x) refl (All-head IsDeclared x entries all) (found-table name entries e t (All-tail IsDeclared x entries all) same) is there
+found-table : (name : List ℕ) (entries : List Entry) (e : Entry) (t : TableEntry) → is_some (table_of e) ≡ true → is_same_name e.name name ≡ true → entry_named name entries ≡ Some e → table_called (tables_among entries) e.name ≡ Some t → table_of e ≡ Some t
+found-table name [] e t own same is there = absurd (cc)
+found-table name (x ∷ entries) e t own same is there = by (is_same_name x.name name) refl (table_of x) refl (found-table name entries e t own same) is there
   where
-    by : (b : Bool) → is_same_name x.name name ≡ b → (o : Option TableEntry) → table_of x ≡ o → is_some o ≡ true → (entry_named name entries ≡ Some e → table_called (tables_among entries) e.name ≡ Some t → table_of e ≡ Some t)
+    by : (b : Bool) → is_same_name x.name name ≡ b → (o : Option TableEntry) → table_of x ≡ o → (entry_named name entries ≡ Some e → table_called (tables_among entries) e.name ≡ Some t → table_of e ≡ Some t)
         → cond b (Some x) (entry_named name entries) ≡ Some e → table_called (option_to_list o ++ tables_among entries) e.name ≡ Some t → table_of e ≡ Some t
-    by b named None own some rest f g = absurd (let bad : false ≡ true = some in cc)
-    by true named (Some u) own some rest f g =
+    by true named None made rest f g =
         let one : x ≡ e = cc in
-        let called : is_same_name u.name e.name ≡ true = ap (λ n. is_same_name n e.name) (table_of-name x u own ∙ ap (λ (y : Entry). y.name) one) ∙ is_same_name-refl e.name in
+        absurd (let bad : false ≡ true = sym (ap is_some (sym (ap table_of one) ∙ made)) ∙ own in cc)
+    by true named (Some u) made rest f g =
+        let one : x ≡ e = cc in
+        let called : is_same_name u.name e.name ≡ true = ap (λ n. is_same_name n e.name) (table_of-name x u made ∙ ap (λ (y : Entry). y.name) one) ∙ is_same_name-refl e.name in
         let first : Some u ≡ Some t = sym (ap (λ b. cond b (Some u) (table_called (tables_among entries) e.name)) called) ∙ g in
-        subst (λ y. table_of y ≡ Some t) one (own ∙ first)
-    by false named (Some u) own some rest f g =
-        let called : is_same_name u.name e.name ≡ false = ap (λ n. is_same_name n e.name) (table_of-name x u own) ∙ is_same_name-left x.name e.name name same ∙ named in
+        subst (λ y. table_of y ≡ Some t) one (made ∙ first)
+    by false named None made rest f g = rest f g
+    by false named (Some u) made rest f g =
+        let called : is_same_name u.name e.name ≡ false = ap (λ n. is_same_name n e.name) (table_of-name x u made) ∙ is_same_name-left x.name e.name name same ∙ named in
         rest f (sym (ap (λ b. cond b (Some u) (table_called (tables_among entries) e.name)) called) ∙ g)
+
+-- what creates a table is the entry of one
+own-table : (tables : List TableEntry) (e : Entry) (t : TableDefinition) → table_in (definition_of e) ≡ Some t → IsEntry tables e → IsTableEntry e
+own-table tables e t creates (inl one) = one
+own-table tables e t creates (inr i) = absurd (none (definition_of e) creates i.creates)
+  where
+    none : (d : Option Definition) → table_in d ≡ Some t → index_in d ≡ Some i.index → ⊥
+    none (Some (definition.Table x)) f g = cc
+    none (Some (definition.Index x)) f g = cc
+    none (Some (definition.View x)) f g = cc
+    none (Some (definition.Trigger x)) f g = cc
+    none (Some (definition.VirtualTable x)) f g = cc
+    none None f g = cc
 
 -- it has the tokens of the entry's text
 table-tokens : (e : Entry) (t : TableEntry) → table_of e ≡ Some t → t.tokens ≡ length (tokens_of e.text)
@@ -141,7 +159,7 @@ record HasConstraints (t : TableEntry) (target : BoundTarget) (p : Put) : Type 0
 put_at-constraints : (t : TableEntry) (target : BoundTarget) (places : List (Option ℕ)) (given : Option ℕ) (rows : List (List BoundExpr)) (p : Put) → put_at t target places given rows ≡ Ok p → HasConstraints t target p
 put_at-constraints t target places given rows p e =
     let columns = columns_put t.columns places target.defaults target.not_nulls in
-    let put : RowidFrom → Put = λ from. record { table = t; insert = record { table = t.number; name = t.name; columns = columns; rowid = from; checks = target.checks; rows = rows } } in
+    let put : RowidFrom → Put = λ from. record { table = t; insert = record { table = t.number; name = t.name; columns = columns; rowid = from; checks = target.checks; keys = keys_of t.rowid target.item.indexes; rows = rows } } in
     let from = then-ok (rowid_from columns t.rowid given) (λ f. Ok (put f)) p e in
     subst (HasConstraints t target) (same-ok (put from.0) p from.2) (record { table = refl; few = omega (arith, defaults-put t.columns places target.defaults target.not_nulls) })
 
@@ -161,6 +179,8 @@ IsSpelled other = ⊤
 aside-spelled : (x : Runnable) → IsAside x → IsSpelled x
 aside-spelled (Creates e) a = tt
 aside-spelled (Drops t) a = tt
+aside-spelled (Indexes i) a = tt
+aside-spelled (Unindexes name) a = tt
 aside-spelled DoesNothing a = tt
 aside-spelled (Puts p) a = absurd a
 aside-spelled (Queries q) a = tt
@@ -184,7 +204,7 @@ write-spelled : (tables : List TableEntry) (units : List BoundUnit) (w : BoundWr
 write-spelled tables units w x few e =
     let puts : Put → Result Runnable Cause = λ put. Ok (Puts put) in
     let into : TableEntry → Result Runnable Cause = λ t. put_into t w.target units w.change >>= puts in
-    let built = if_built-ok (nat_eq (length w.target.item.indexes) 0) (table_of_source tables w.target.item.source >>= into) x e in
+    let built = if_built-ok (has_own_keys w.target.item.indexes) (table_of_source tables w.target.item.source >>= into) x e in
     let table = then-ok (table_of_source tables w.target.item.source) into x built.1 in
     let put = then-ok (put_into table.0 w.target units w.change) puts x table.2 in
     let held = put-constraints table.0 w.target units w.change put.0 put.1 in
@@ -211,20 +231,21 @@ source-named tables source.Queue t e = absurd (let bad : Err cause.NotYet ≡ Ok
 same-some : {A : Type 0} (x y : A) → Some x ≡ Some y → x ≡ y
 same-some x y e = cc
 
-module _ (catalog : Entries) (declared : All IsDeclared catalog.names) (written : All IsWritten catalog.names) where
+module _ (catalog : Entries) (entries : All (IsEntry (tables_of catalog)) catalog.names) where
   abbrev tables : List TableEntry
   tables = tables_of catalog
 
   target-spelled : (name : List ℕ) (target : BoundTarget) → IsSmallTarget (table_named name catalog) target → IsSpelledTarget tables target
-  target-spelled name target small t e =
-      let s = source-named tables target.item.source t e in
+  target-spelled name target small t e_source =
+      let s = source-named tables target.item.source t e_source in
       let h = small s.0 s.1 s.2 in
       let here = named-table name catalog h.entry h.is_there in
-      let found = found-entry IsWritten name catalog.names h.entry written here in
-      let own = found-table name catalog.names h.entry t declared found.1 here (ap (table_called tables) h.named ∙ s.3) in
-      let same : found.0.table ≡ h.table = same-some found.0.table h.table (sym found.0.creates ∙ h.creates) in
-      let few : constraints_nodes target ≤ 2 * size_of_table h.table = h.small (subst (λ u. is_plain_table u ≡ true) same (built_table_plain h.entry.text found.0.table found.0.built)) in
-      omega (arith, few, ap size_of_table same, found.0.size, table-tokens h.entry t own)
+      let found = found-entry (IsEntry tables) name catalog.names h.entry entries here in
+      let e = own-table tables h.entry h.table h.creates found.0 in
+      let own = found-table name catalog.names h.entry t e.declared found.1 here (ap (table_called tables) h.named ∙ s.3) in
+      let same : e.table ≡ h.table = same-some e.table h.table (sym e.creates ∙ h.creates) in
+      let few : constraints_nodes target ≤ 2 * size_of_table h.table = h.small (subst (λ u. is_plain_table u ≡ true) same (built_table_plain h.entry.text e.table e.built)) in
+      omega (arith, few, ap size_of_table same, e.size, table-tokens h.entry t own)
 
   -- ---- whatever is bound
 
@@ -325,7 +346,7 @@ module _ (catalog : Entries) (declared : All IsDeclared catalog.names) (written 
       command-spelled number text s may.0.units may.0.command x (permitted-spelled b.0 (asked b.0) may.0 may.1 few) may.2
 
 answer-spelled : (asked : Asking) (w : World) (before : ℕ) (text : List ℕ) (a : Answer Statement) (x : Runnable) → IsWorld w → answer_bound asked w before text a ≡ Ok x → IsSpelled x
-answer-spelled asked w before text (Tree s) x valid e = statement-spelled w.catalog valid.declared valid.written asked (length w.tables) (body_of text) s x e
+answer-spelled asked w before text (Tree s) x valid e = statement-spelled w.catalog valid.entries asked (length w.tables) (body_of text) s x e
 answer-spelled asked w before text (Syntax rest) x valid e = absurd (let bad : Err (cause.Syntax (before + place (length text) rest)) ≡ Ok x = e in cc)
 answer-spelled asked w before text (TooMuch l rest) x valid e = absurd (let bad : Err (cause.Limit (limit_kind l)) ≡ Ok x = e in cc)
 

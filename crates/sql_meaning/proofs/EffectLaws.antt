@@ -22,12 +22,13 @@ use Rattle.sql_meaning.specs.declared.bound.RowidFrom.TheVariants as rowid
 use Rattle.sql_meaning.specs.declared.column.TableEntry.{TableEntry}
 use Rattle.sql_meaning.specs.Effects.{AreAdded, AreDrawn, IsFitting, IsFull, IsOneMore, last_rowid_of}
 use Rattle.sql_meaning.specs.Expression.{value_of}
-use Rattle.sql_meaning.specs.Rows.{NewRow, drawn, fitted, fixed, row_put, with_row, with_row_in}
+use Rattle.sql_meaning.specs.Rows.{NewRow, drawn, fitted, fixed, row_put, with_row}
+use Rattle.eng_index.specs.Stored.{put_row}
 use Rattle.sql_meaning.specs.Statement.{after_conjunct, if_some, items_at, rows_put, sifted}
 use Rattle.sql_meaning.specs.Steps.{Done, Effect, Fails, or_next}
 use Rattle.sql_meaning.specs.Valid.{AreRowsOf, IsRowOf}
 use Rattle.sql_meaning.specs.World.{rows_at}
-use Rattle.sql_meaning.proofs.PlaceLaws.{rows-in}
+use Rattle.sql_meaning.proofs.PlaceLaws.{own-rowid, rows-in}
 use Rattle.sql_meaning.proofs.RowLaws.{PutsRow, row_put-gives, rowid-drawn}
 use Rattle.sql_meaning.proofs.StepLaws.{Gives, anyhow, gives-weaker, gives-or_next, gives-then, never}
 use Rattle.sql_meaning.proofs.StoringLaws.{IsInto, next-drawn}
@@ -137,7 +138,7 @@ pub record PutsRows (t : TableEntry) (env : Environment) (b : BoundInsert) (tabl
   pub new : List StoredRow
   pub rows : List StoredRow
   pub world : y.world ≡ slice_set x.world table rows
-  pub added : AreAdded (rows_at x.world table) new rows
+  pub added : AreAdded b.keys (rows_at x.world table) new rows
   pub fitting : All (IsFitting env b) new
   pub drawn : b.rowid ≡ rowid.Drawn → AreDrawn (rows_at x.world table) new
   pub valid : AreRowsOf t rows
@@ -166,8 +167,8 @@ none_put t env b table x valid = record {
 }
 
 -- the rows of a table that has one more
-pub rows_at-with_row : (x : Written) (table : ℕ) (r : StoredRow) → table < length x.world → rows_at (with_row x table r).world table ≡ with_row_in (rows_at x.world table) r
-rows_at-with_row x table r within = get_or-set_same x.world table (with_row_in (rows_at x.world table) r) [] within
+pub rows_at-with_row : (x : Written) (table : ℕ) (r : StoredRow) → table < length x.world → rows_at (with_row x table r).world table ≡ put_row (rows_at x.world table) r
+rows_at-with_row x table r within = get_or-set_same x.world table (put_row (rows_at x.world table) r) [] within
 
 -- one, and then others
 put_then : (t : TableEntry) (env : Environment) (b : BoundInsert) (x y : Written) (one : PutsRow t env b x y) (z : Written) (count : ℕ) → b.table < length x.world → AreRowsOf t (rows_at x.world b.table)
@@ -179,8 +180,8 @@ put_then t env b x y one z count within valid rest =
     record {
       new = r ∷ rest.new;
       rows = rest.rows;
-      world = rest.world ∙ set-set x.world b.table (with_row_in old r) rest.rows;
-      added = (one.free, subst (λ rs. AreAdded rs rest.new rest.rows) here rest.added);
+      world = rest.world ∙ set-set x.world b.table (put_row old r) rest.rows;
+      added = (one.free, subst (λ rs. AreAdded b.keys rs rest.new rest.rows) here rest.added);
       fitting = All-cons (IsFitting env b) r rest.new one.fitting rest.fitting;
       drawn = λ is. (one_more t old r.rowid valid (one.next is), subst (λ rs. AreDrawn rs rest.new) here (rest.drawn is));
       valid = rest.valid;
@@ -199,10 +200,10 @@ record Ready (t : TableEntry) (b : BoundInsert) (x : Written) : Type 0 where
 
 ready : (t : TableEntry) (env : Environment) (b : BoundInsert) (x y : Written) → Ready t b x → PutsRow t env b x y → Ready t b y
 ready t env b x y is one =
-    let rows = with_row_in (rows_at x.world b.table) one.row in
+    let rows = put_row (rows_at x.world b.table) one.row in
     subst (Ready t b) (sym one.put) (record {
       there = subst (λ n. b.table < n) (sym (length-set x.world b.table rows)) is.there;
-      valid = subst (AreRowsOf t) (sym (rows_at-with_row x b.table one.row is.there)) (rows-in t (rows_at x.world b.table) one.row is.valid one.free one.fits one.held);
+      valid = subst (AreRowsOf t) (sym (rows_at-with_row x b.table one.row is.there)) (rows-in t (rows_at x.world b.table) one.row is.valid (own-rowid b.keys (rows_at x.world b.table) one.row one.free) one.fits one.held);
     })
 
 all_put : (t : TableEntry) (env : Environment) (b : BoundInsert) (source : List (List Value)) (x : Written) → IsInto t b → Ready t b x → Gives (λ u y. PutsRows t env b b.table x y (length source)) never anyhow (rows_put env b source x)

@@ -25,3 +25,4 @@ pub mod ScriptLaws
 pub mod PartsLaws
 pub mod FrontLaws
 pub mod SegmentLaws
+pub mod SearchLaws

@@ -16,15 +16,17 @@ use Rattle.eng_value.specs.declared.truth.Truth.TheVariants as truth
 use Rattle.eng_value.specs.declared.value.Value.{Value}
 use Rattle.eng_value.specs.declared.value.Value.TheVariants as value
 use Rattle.bound_tree.specs.Exprs.{BoundExpr}
+use Rattle.eng_index.specs.Keys.{standing}
 use Rattle.sql_meaning.specs.declared.bound.BoundInsert.{BoundInsert}
 use Rattle.sql_meaning.specs.declared.bound.RowidFrom.TheVariants as rowid
 use Rattle.sql_meaning.specs.declared.column.TableEntry.{TableEntry}
 use Rattle.sql_meaning.specs.Effects.{IsFitting, KeepsWritten, Passes}
 use Rattle.sql_meaning.specs.Expression.{value_of}
-use Rattle.sql_meaning.specs.Rows.{NewRow, at_row, checked, drawn, fitted, fixed, is_taken, lacks_value, new_row, passed, row_changed, row_put, rowid_column, unless_broken, with_row}
+use Rattle.sql_meaning.specs.Rows.{NewRow, at_row, checked, drawn, fitted, fixed, is_met, lacks_value, new_row, passed, row_changed, row_put, rowid_column, unless_broken, with_row}
 use Rattle.sql_meaning.specs.Steps.{Step, Done, Left, Fails, ◌then◌, done, settled}
 use Rattle.sql_meaning.specs.Valid.{AreRowsOf, IsHeldBy}
 use Rattle.sql_meaning.specs.World.{rows_at, seen, stored}
+use Rattle.sql_meaning.proofs.PlaceLaws.{none-met}
 use Rattle.sql_meaning.proofs.StepLaws.{Gives, anyhow, gives-weaker, gives-then, never}
 use Rattle.sql_meaning.proofs.StoringLaws.{IsInto, IsNew, new-at, new-held, new_row-is, next-drawn, seen-stored}
 
@@ -49,13 +51,13 @@ kept b r = stored (rowid_column b.rowid) r
 pub record IsFitted (env : Environment) (b : BoundInsert) (rows : List StoredRow) (new : NewRow) (r : StoredRow) : Type 0 where
   pub fixed : IsFixed rows new.rowid r.rowid
   pub is : r ≡ kept b (with_rowid b new r.rowid)
-  pub free : is_taken rows r.rowid ≡ false
+  pub free : is_met b.keys rows r ≡ false
   pub not_null : lacks_value b.columns (with_rowid b new r.rowid).values ≡ false
   pub checks : All (PassesCheck env (with_rowid b new r.rowid)) b.checks
 
 -- its tests behind that of its rowid
 abbrev pub placed : BoundInsert → List StoredRow → StoredRow → Written → Step StoredRow
-placed b rows r x = unless_broken (is_taken rows r.rowid) (cause.Constraint constraint.Unique b.name) x then λ u x. Done (kept b r) x
+placed b rows r x = unless_broken (is_met b.keys rows (kept b r)) (cause.Constraint constraint.Unique b.name) x then λ u x. Done (kept b r) x
 
 abbrev pub tested : Environment → BoundInsert → List StoredRow → StoredRow → Written → Step StoredRow
 tested env b rows r x =
@@ -106,11 +108,11 @@ module _ (x : Written) where
       (λ v w rest. (rest.0, All-cons (PassesCheck env r) c checks one.1 rest.1)) (λ causes w h. h) (checked-gives table checks env r z one.0))
 
   abbrev Free : BoundInsert → List StoredRow → StoredRow → StoredRow → Written → Type 0
-  Free b rows r s y = Same y × (s ≡ kept b r) × (is_taken rows r.rowid ≡ false)
+  Free b rows r s y = Same y × (s ≡ kept b r) × (is_met b.keys rows (kept b r) ≡ false)
 
   placed-gives : (b : BoundInsert) (rows : List StoredRow) (r : StoredRow) (y : Written) → Same y → Gives (Free b rows r) never fails (placed b rows r y)
   placed-gives b rows r y same =
-      let taken = is_taken rows r.rowid in
+      let taken = is_met b.keys rows (kept b r) in
       gives-then never fails (λ u z. Same z × (taken ≡ false)) (Free b rows r) (unless_broken taken (cause.Constraint constraint.Unique b.name) y) (λ u z. Done (kept b r) z)
       (unless_broken-gives taken (cause.Constraint constraint.Unique b.name) y same) (λ u z free. (free.0, refl, free.1))
 
@@ -158,11 +160,11 @@ fitted-is env b rows new x y r e = (subst (Gives (λ s z. (z ≡ x) × IsFitted 
 
 -- ---- a row that is put
 
--- its rowid was free, and is drawn where none is given; its values are as the columns of the table store them
+-- no row was in its way; its rowid is drawn where none is given; its values are as the columns of the table store them
 pub record PutsRow (t : TableEntry) (env : Environment) (b : BoundInsert) (x y : Written) : Type 0 where
   pub row : StoredRow
   pub put : y ≡ with_row x b.table row
-  pub free : is_taken (rows_at x.world b.table) row.rowid ≡ false
+  pub free : standing b.keys (rows_at x.world b.table) row ≡ []
   pub fits : fits_integer row.rowid ≡ true
   pub fitting : IsFitting env b row
   pub next : b.rowid ≡ rowid.Drawn → next_rowid (rows_at x.world b.table) ≡ Some row.rowid
@@ -192,7 +194,7 @@ fitted-puts : (t : TableEntry) (env : Environment) (b : BoundInsert) (new : NewR
 fitted-puts t env b new x r into is valid fitted = record {
   row = r;
   put = refl;
-  free = fitted.free;
+  free = none-met b.keys (rows_at x.world b.table) r fitted.free;
   fits = fixed-fits t (rows_at x.world b.table) new.rowid r.rowid valid fitted.fixed;
   fitting = record {
     not_null = subst (λ (s : StoredRow). lacks_value b.columns s.values ≡ false) (sym at) fitted.not_null;

@@ -1,5 +1,5 @@
 -- Tables by their names and their numbers.
-use Rattle.std.proofs.Common.{◌≡◌, ◌≢◌, ◌<◌, ◌≤◌, ◌⊎◌, inl, inr, ℕ, List, [], ◌∷◌, ◌++◌, Bool, true, false, not, cond, length, Option, Some, None, is_some, eqb, ltb, position, slice_get, slice_index_or, slice_set, All, AllPairs, refl, sym, ap, ◌∙◌, subst, arith}
+use Rattle.std.proofs.Common.{suc, ◌≡◌, ◌≢◌, ◌<◌, ◌≤◌, ◌⊎◌, inl, inr, ℕ, List, [], ◌∷◌, ◌++◌, Bool, true, false, not, cond, length, Option, Some, None, is_some, eqb, ltb, position, slice_get, slice_index_or, slice_set, All, AllPairs, refl, sym, ap, ◌∙◌, subst, arith}
 use Rattle.std.specs.List.{filter}
 use Rattle.std.specs.Option.{option_map, option_to_list}
 use Rattle.std.proofs.lemmas.Bool.{ltb-false, ltb-true}
@@ -14,16 +14,20 @@ use Rattle.eng_entry.specs.Entries.{entry_named, Entries, entries_in, entries_no
 use Rattle.eng_entry.specs.Spaces.{space_of}
 use Rattle.eng_entry.specs.Names.{is_same_name}
 use Rattle.eng_entry.specs.declared.entry.Entry.{Entry}
-use Rattle.eng_entry.specs.declared.entry.EntryKind.TheVariants as entry_kind
+use Rattle.eng_entry.specs.declared.entry.Space.TheVariants as space
 use Rattle.eng_value.specs.Environments.{Lists}
 use Rattle.eng_value.specs.StoredRows.{StoredRow}
 use Rattle.sql_meaning.specs.declared.column.Column.{Column}
 use Rattle.sql_meaning.specs.declared.column.TableEntry.{TableEntry}
-use Rattle.sql_meaning.specs.Declarations.{columns_created, table_called, table_of, table_with, tables_among}
-use Rattle.sql_meaning.specs.Valid.{AreRowsOf, IsRowOf, IsTable}
+use Rattle.sql_tree.specs.declared.statement.Definition.{Definition}
+use Rattle.sql_tree.specs.declared.statement.Definition.TheVariants as definition
+use Rattle.sql_tree.specs.declared.statement.IndexDefinition.{IndexDefinition}
+use Rattle.sql_bound.specs.Declarations.{definition_of, index_in, table_in}
+use Rattle.sql_meaning.specs.Declarations.{columns_created, columns_kept, columns_of, table_called, table_of, table_with, tables_among}
+use Rattle.sql_meaning.specs.Valid.{AreRowsOf, HaveOtherNames, IsRowOf, IsTable}
 use Rattle.sql_meaning.specs.World.{rows_at}
 use Rattle.sql_meaning.proofs.LookUps.{position_finds}
-use Rattle.sql_meaning.proofs.NameLaws.{is_same_name-left}
+use Rattle.sql_meaning.proofs.NameLaws.{is_same_name-left, is_same_name-sym, is_same_name-trans}
 
 -- ---- a table that is found by its name
 
@@ -114,29 +118,133 @@ none-called name (e ∷ entries) none = by (is_same_name e.name name) refl (tabl
         let here : is_same_name t.name name ≡ false = ap (λ n. is_same_name n name) (named t refl) ∙ is in
         rw here (rest none)
 
--- the entries of tables have other names where no table has this one
-abbrev pub IsDeclared : Entry → Type 0
-IsDeclared e = is_some (table_of e) ≡ true
+-- an entry that creates an index is that of no table
+pub index-no_table : (e : Entry) (i : IndexDefinition) → index_in (definition_of e) ≡ Some i → table_of e ≡ None
+index-no_table e i creates = by (definition_of e) refl creates
+  where
+    none : table_in (definition_of e) ≡ None → table_of e ≡ None
+    none is = ap (λ o. option_map (table_with e) (columns_kept (option_map (columns_of e.text) o))) is
+
+    by : (d : Option Definition) → definition_of e ≡ d → index_in d ≡ Some i → table_of e ≡ None
+    by (Some (definition.Index x)) is f = none (ap table_in is)
+    by (Some (definition.Table x)) is f = absurd (let bad : None ≡ Some i = f in cc)
+    by (Some (definition.View x)) is f = absurd (let bad : None ≡ Some i = f in cc)
+    by (Some (definition.Trigger x)) is f = absurd (let bad : None ≡ Some i = f in cc)
+    by (Some (definition.VirtualTable x)) is f = absurd (let bad : None ≡ Some i = f in cc)
+    by None is f = absurd (let bad : None ≡ Some i = f in cc)
+
+-- one more that is that of no table
+pub among-beside : (entries : List Entry) (e : Entry) → table_of e ≡ None → tables_among (entries ++ e ∷ []) ≡ tables_among entries
+among-beside [] e is = ap (λ o. option_to_list o ++ []) is
+among-beside (x ∷ entries) e is = ap (λ ts. option_to_list (table_of x) ++ ts) (among-beside entries e is)
+
+-- what a test leaves out is the entry of no table
+abbrev pub LeavesNoTable : (Entry → Bool) → Entry → Type 0
+LeavesNoTable p e = p e ≡ false → table_of e ≡ None
+
+pub among-kept : (p : Entry → Bool) (entries : List Entry) → All (LeavesNoTable p) entries → tables_among (filter p entries) ≡ tables_among entries
+among-kept p [] all = refl
+among-kept p (e ∷ entries) all = by (p e) refl (among-kept p entries (All-tail (LeavesNoTable p) e entries all))
+  where
+    by : (b : Bool) → p e ≡ b → tables_among (filter p entries) ≡ tables_among entries → tables_among (cond b (e ∷ filter p entries) (filter p entries)) ≡ option_to_list (table_of e) ++ tables_among entries
+    by true is rest = ap (λ ts. option_to_list (table_of e) ++ ts) rest
+    by false is rest = rest ∙ sym (ap (λ o. option_to_list o ++ tables_among entries) (All-head (LeavesNoTable p) e entries all is))
+
+-- ---- entries by their names
 
 abbrev pub IsElse : List ℕ → Entry → Type 0
 IsElse name e = is_same_name e.name name ≡ false
 
-pub none-named : (entries : List Entry) (name : List ℕ) → All IsDeclared entries → table_called (tables_among entries) name ≡ None → All (IsElse name) entries
-none-named [] name declared none = All-nil (IsElse name)
-none-named (e ∷ entries) name declared none =
-    by (table_of e) (λ t is. table_of-name e t is) (All-head IsDeclared e entries declared) (none-named entries name (All-tail IsDeclared e entries declared)) none
+-- where none has the name, all have others
+pub none-else : (entries : List Entry) (name : List ℕ) → entry_named name entries ≡ None → All (IsElse name) entries
+none-else [] name none = All-nil (IsElse name)
+none-else (e ∷ entries) name none = by (is_same_name e.name name) refl none (none-else entries name)
   where
-    at : (t : TableEntry) (b : Bool) → is_same_name t.name name ≡ b → t.name ≡ e.name → (table_called (tables_among entries) name ≡ None → All (IsElse name) entries) → cond b (Some t) (table_called (tables_among entries) name) ≡ None → All (IsElse name) (e ∷ entries)
-    at t true is named rest f = absurd (cc)
-    at t false is named rest f = All-cons (IsElse name) e entries (ap (λ n. is_same_name n name) (sym named) ∙ is) (rest f)
+    by : (b : Bool) → is_same_name e.name name ≡ b → cond b (Some e) (entry_named name entries) ≡ None → (entry_named name entries ≡ None → All (IsElse name) entries) → All (IsElse name) (e ∷ entries)
+    by true is f rest = absurd (let bad : Some e ≡ None = f in cc)
+    by false is f rest = All-cons (IsElse name) e entries is (rest f)
 
-    by : (o : Option TableEntry) → ((t : TableEntry) → o ≡ Some t → t.name ≡ e.name) → is_some o ≡ true → (table_called (tables_among entries) name ≡ None → All (IsElse name) entries) → table_called (option_to_list o ++ tables_among entries) name ≡ None → All (IsElse name) (e ∷ entries)
-    by None named some rest f = absurd (let bad : false ≡ true = some in cc)
-    by (Some t) named some rest f = at t (is_same_name t.name name) refl (named t refl) rest f
+-- one that is found is found by its own name
+pub entry-own : (entries : List Entry) (name : List ℕ) (e : Entry) → entry_named name entries ≡ Some e → (is_same_name e.name name ≡ true) × (entry_named e.name entries ≡ Some e)
+entry-own entries name e is = (same entries is, look entries ∙ is)
+  where
+    same : (others : List Entry) → entry_named name others ≡ Some e → is_same_name e.name name ≡ true
+    same [] f = absurd (let bad : None ≡ Some e = f in cc)
+    same (x ∷ others) f = by (is_same_name x.name name) refl f (same others)
+      where
+        by : (b : Bool) → is_same_name x.name name ≡ b → cond b (Some x) (entry_named name others) ≡ Some e → (entry_named name others ≡ Some e → is_same_name e.name name ≡ true) → is_same_name e.name name ≡ true
+        by true one g rest = subst (λ (y : Entry). is_same_name y.name name ≡ true) (let equal : x ≡ e = cc in equal) one
+        by false one g rest = rest g
 
--- an entry of a table comes behind the others of its space
-pub with_entry-names : (e : Entry) (c : Entries) → e.kind ≡ entry_kind.Table → with_entry e c ≡ record { names = c.names ++ e ∷ []; triggers = c.triggers }
-with_entry-names e c kind = ap (λ s. with_entries s (entries_in s c ++ e ∷ []) c) (ap space_of kind)
+    look : (others : List Entry) → entry_named e.name others ≡ entry_named name others
+    look [] = refl
+    look (x ∷ others) = ap (λ b. cond b (Some x) (entry_named e.name others)) (is_same_name-left x.name e.name name (same entries is)) ∙ ap (cond (is_same_name x.name name) (Some x)) (look others)
+
+-- what has the name is this one
+abbrev pub IsIt : List ℕ → Entry → Entry → Type 0
+IsIt name e x = is_same_name x.name name ≡ true → x ≡ e
+
+-- and none is left with a name that went
+pub entry-gone : (entries : List Entry) (name : List ℕ) → entry_named name (entries_not_named name entries) ≡ None
+entry-gone [] name = refl
+entry-gone (e ∷ entries) name = by (is_same_name e.name name) refl (entry-gone entries name)
+  where
+    by : (b : Bool) → is_same_name e.name name ≡ b → entry_named name (entries_not_named name entries) ≡ None → entry_named name (cond (not b) (e ∷ entries_not_named name entries) (entries_not_named name entries)) ≡ None
+    by true is rest = rest
+    by false is rest = rw is rest
+
+-- where no two have one name
+pub named-once : (entries : List Entry) (name : List ℕ) (e : Entry) → HaveOtherNames entries → entry_named name entries ≡ Some e → All (IsIt name e) entries
+named-once [] name e others is = All-nil (IsIt name e)
+named-once (y ∷ entries) name e others is = by (is_same_name y.name name) refl is (named-once entries name e (λ i j d l h. others (suc i) (suc j) d (omega arith) (omega arith)))
+  where
+    apart : All (λ x. is_same_name y.name x.name ≡ false) entries
+    apart = λ k d l. others 0 (suc k) d (omega arith) (omega arith)
+
+    by : (b : Bool) → is_same_name y.name name ≡ b → cond b (Some y) (entry_named name entries) ≡ Some e → (entry_named name entries ≡ Some e → All (IsIt name e) entries) → All (IsIt name e) (y ∷ entries)
+    by true one f rest =
+        let it : y ≡ e = cc in
+        All-cons (IsIt name e) y entries (λ h. it) (λ k d l same. absurd (let bad : false ≡ true = sym (apart k d l) ∙ is_same_name-left y.name _ name same ∙ one in cc))
+    by false one f rest = All-cons (IsIt name e) y entries (λ h. absurd (let bad : false ≡ true = sym one ∙ h in cc)) (rest f)
+
+-- what stands behind a test passes it
+pub all-kept : (P : Entry → Type 0) (p : Entry → Bool) (entries : List Entry) → All P entries → All (λ e. (p e ≡ true) × P e) (filter p entries)
+all-kept P p [] all = All-nil (λ e. (p e ≡ true) × P e)
+all-kept P p (e ∷ entries) all = by (p e) refl (all-kept P p entries (All-tail P e entries all))
+  where
+    by : (b : Bool) → p e ≡ b → All (λ x. (p x ≡ true) × P x) (filter p entries) → All (λ x. (p x ≡ true) × P x) (cond b (e ∷ filter p entries) (filter p entries))
+    by true is rest = All-cons (λ x. (p x ≡ true) × P x) e (filter p entries) (is, All-head P e entries all) rest
+    by false is rest = rest
+
+pub entries-by : (P Q : Entry → Type 0) (entries : List Entry) → ((e : Entry) → P e → Q e) → All P entries → All Q entries
+entries-by P Q entries f all = λ k d here. f (slice_index_or entries k d) (all k d here)
+
+-- ---- tables that others stand by
+
+-- one of another name than that which goes is found as before
+pub called-others : (tables : List TableEntry) (gone name : List ℕ) → is_same_name name gone ≡ false → table_called (filter (is_other gone) tables) name ≡ table_called tables name
+called-others [] gone name other = refl
+called-others (t ∷ tables) gone name other = by (is_same_name t.name name) (is_same_name t.name gone) refl refl (called-others tables gone name other)
+  where
+    by : (b c : Bool) → is_same_name t.name name ≡ b → is_same_name t.name gone ≡ c → table_called (filter (is_other gone) tables) name ≡ table_called tables name
+        → table_called (cond (not c) (t ∷ filter (is_other gone) tables) (filter (is_other gone) tables)) name ≡ cond b (Some t) (table_called tables name)
+    by true true is at rest = absurd (let bad : true ≡ false = sym (is_same_name-trans name t.name gone (is_same_name-sym t.name name is) at) ∙ other in cc)
+    by true false is at rest = rw is refl
+    by false true is at rest = rest
+    by false false is at rest = rw is rest
+
+-- and beside one more some table is still found
+pub called-more : (tables : List TableEntry) (t : TableEntry) (name : List ℕ) → is_some (table_called tables name) ≡ true → is_some (table_called (tables ++ t ∷ []) name) ≡ true
+called-more [] t name there = absurd (let bad : false ≡ true = there in cc)
+called-more (x ∷ tables) t name there = by (is_same_name x.name name) there (called-more tables t name)
+  where
+    by : (b : Bool) → is_some (cond b (Some x) (table_called tables name)) ≡ true → (is_some (table_called tables name) ≡ true → is_some (table_called (tables ++ t ∷ []) name) ≡ true) → is_some (cond b (Some x) (table_called (tables ++ t ∷ []) name)) ≡ true
+    by true f rest = refl
+    by false f rest = rest f
+
+-- an entry of the names comes behind the others there
+pub with_entry-names : (e : Entry) (c : Entries) → space_of e.kind ≡ space.Names → with_entry e c ≡ record { names = c.names ++ e ∷ []; triggers = c.triggers }
+with_entry-names e c is = ap (λ s. with_entries s (entries_in s c ++ e ∷ []) c) is
 
 -- ---- rows by their numbers
 

@@ -1,5 +1,5 @@
--- Which statements are built: CREATE TABLE but for keys that are not the rowid, DROP TABLE, INSERT of rows of values, VALUES, SELECT of
--- expressions from one table or none, and PRAGMA. What any other holds does not run yet.
+-- Which statements are built: CREATE and DROP of tables and indexes, INSERT of rows of values, VALUES, SELECT of expressions from one table or none,
+-- and PRAGMA. What any other holds does not run yet.
 use Rattle.std.specs.Prelude.{ℕ, nat_eq, Bool, true, false, not, ◌&&◌, ◌||◌, List, [], ◌∷◌, length, Option, Some, None, is_some, codes}
 use Rattle.std.specs.List.{list_all}
 use Rattle.sql_tree.specs.declared.expr.Arguments.{Arguments}
@@ -32,7 +32,6 @@ use Rattle.sql_tree.specs.declared.statement.Statement.{Statement}
 use Rattle.sql_tree.specs.declared.statement.TableConstraint.{TableConstraint}
 use Rattle.sql_tree.specs.declared.statement.TableConstraint.TheVariants as behind
 use Rattle.sql_tree.specs.declared.statement.TableDefinition.{TableDefinition}
-use Rattle.sql_bound.specs.Declarations.{rowid_of}
 use Rattle.sql_words.specs.Names.{is_named_in}
 use Rattle.sql_words.specs.Spelled.{name_bytes}
 
@@ -102,30 +101,24 @@ abbrev pub is_empty : {A : Type 0} → List A → Bool
 is_empty [] = true
 is_empty (x ∷ xs) = false
 
--- keys only where one is the rowid: any other beside it is refused as a second PRIMARY KEY; NULL constrains nothing
-abbrev pub is_built_constraint : List ℕ → Bool → ColumnConstraint → Bool
-is_built_constraint text has_rowid constraint.PrimaryKey = has_rowid
-is_built_constraint text has_rowid constraint.NotNull = true
-is_built_constraint text has_rowid constraint.Null = true
-is_built_constraint text has_rowid constraint.Unique = false
-is_built_constraint text has_rowid (constraint.Check x) = is_built_expr x text
-is_built_constraint text has_rowid (constraint.Default x) = is_built_expr x text
-is_built_constraint text has_rowid (constraint.Collate t) = true
+abbrev pub is_built_constraint : List ℕ → ColumnConstraint → Bool
+is_built_constraint text (constraint.Check x) = is_built_expr x text
+is_built_constraint text (constraint.Default x) = is_built_expr x text
+is_built_constraint text other = true
 
-abbrev pub is_built_column : List ℕ → Bool → ColumnDefinition → Bool
-is_built_column text has_rowid c = list_all (is_built_constraint text has_rowid) c.constraints
+abbrev pub is_built_column : List ℕ → ColumnDefinition → Bool
+is_built_column text c = list_all (is_built_constraint text) c.constraints
 
-abbrev pub is_built_behind : List ℕ → Bool → TableConstraint → Bool
-is_built_behind text has_rowid (behind.PrimaryKey key) = has_rowid
-is_built_behind text has_rowid (behind.Unique key) = false
-is_built_behind text has_rowid (behind.Check x) = is_built_expr x text
+abbrev pub is_built_behind : List ℕ → TableConstraint → Bool
+is_built_behind text (behind.Check x) = is_built_expr x text
+is_built_behind text other = true
 
 abbrev pub is_built_table : List ℕ → TableDefinition → Bool
-is_built_table text t =
-    list_all (is_built_column text (is_some (rowid_of text t))) t.columns && list_all (is_built_behind text (is_some (rowid_of text t))) t.constraints
+is_built_table text t = list_all (is_built_column text) t.columns && list_all (is_built_behind text) t.constraints
 
 abbrev pub is_built_definition : List ℕ → Definition → Bool
 is_built_definition text (definition.Table t) = is_built_table text t
+is_built_definition text (definition.Index i) = true
 is_built_definition text other = false
 
 abbrev pub is_built_create : List ℕ → Create → Bool
@@ -197,14 +190,15 @@ is_built_rows text (rows_by.Query q) = is_built_query text (of_query q)
 is_built_rows text (rows_by.Insert i) = is_built_insert text i
 is_built_rows text other = false
 
-abbrev pub is_table : ObjectKind → Bool
-is_table object.Table = true
-is_table other = false
+abbrev pub is_removed : ObjectKind → Bool
+is_removed object.Table = true
+is_removed object.Index = true
+is_removed other = false
 
 abbrev pub is_built_command : List ℕ → Command → Bool
 is_built_command text (command.Rows r) = is_built_rows text r
 is_built_command text (command.Create c) = is_built_create text c
-is_built_command text (command.Remove r) = is_table r.kind
+is_built_command text (command.Remove r) = is_removed r.kind
 is_built_command text (command.Pragma p) = true
 is_built_command text other = false
 

@@ -1,6 +1,6 @@
 -- What statements that are not refused do, in the words of their subject.
-use Rattle.std.specs.Prelude.{◌≡◌, ◌≢◌, ◌⊎◌, ⊤, ℕ, false, List, [], ◌∷◌, length, Some, None, ℤ, pos, ◌+ℤ◌, ◌<ℤ◌, slice_get, All, Any}
-use Rattle.eng_entry.specs.Entries.{with_entry, without_name}
+use Rattle.std.specs.Prelude.{◌≡◌, ◌≢◌, ◌⊎◌, ⊤, ℕ, true, false, List, [], ◌∷◌, length, Some, None, ℤ, pos, ◌+ℤ◌, ◌<ℤ◌, slice_get, All, Any}
+use Rattle.eng_entry.specs.Entries.{entry_named, with_entry, without_name}
 use Rattle.eng_entry.specs.declared.entry.Entry.{Entry}
 use Rattle.eng_entry.specs.declared.entry.Space.TheVariants as space
 use Rattle.eng_value.specs.Environments.{Environment, Lists}
@@ -11,15 +11,19 @@ use Rattle.eng_value.specs.declared.limits.TheConstants.{MAX_ROWID}
 use Rattle.eng_value.specs.declared.truth.Truth.{Truth}
 use Rattle.eng_value.specs.declared.truth.Truth.TheVariants as truth
 use Rattle.eng_value.specs.declared.value.Value.TheVariants as value
+use Rattle.eng_index.specs.Keys.{has_doubles, standing}
+use Rattle.eng_index.specs.declared.key_term.KeyTerm.{KeyTerm}
 use Rattle.sql_meaning.specs.declared.bound.BoundInsert.{BoundInsert}
 use Rattle.sql_meaning.specs.declared.bound.RowidFrom.{RowidFrom}
 use Rattle.sql_meaning.specs.declared.bound.RowidFrom.TheVariants as rowid
 use Rattle.sql_meaning.specs.declared.column.TableEntry.{TableEntry}
 use Rattle.sql_meaning.specs.Declarations.{table_called, table_of}
 use Rattle.sql_meaning.specs.Expression.{value_of}
-use Rattle.sql_meaning.specs.Rows.{at_row, is_taken, lacks_value, rowid_column, with_row_in}
-use Rattle.sql_meaning.specs.Runnables.{Put}
+use Rattle.sql_meaning.specs.Rows.{at_row, lacks_value, rowid_column}
+use Rattle.eng_index.specs.Stored.{put_row}
+use Rattle.sql_meaning.specs.Runnables.{NewIndex, Put}
 use Rattle.sql_meaning.specs.Statement.{Outcome}
+use Rattle.eng_entry.specs.Entries.{without_indexes}
 use Rattle.sql_meaning.specs.Steps.{Step, Done, Left, Fails}
 use Rattle.sql_meaning.specs.World.{State, rows_at, seen, tables_in}
 
@@ -30,12 +34,12 @@ IsOneMore rows n = ((rows ≡ []) × (n ≡ pos 1)) ⊎ (Any (λ (r : StoredRow)
 -- each of the new rows has such a rowid beside those that came before it
 abbrev pub AreDrawn : List StoredRow → List StoredRow → Type 0
 AreDrawn rows [] = ⊤
-AreDrawn rows (r ∷ new) = IsOneMore rows r.rowid × AreDrawn (with_row_in rows r) new
+AreDrawn rows (r ∷ new) = IsOneMore rows r.rowid × AreDrawn (put_row rows r) new
 
--- the new rows came one after another, each to the place of its rowid, which was free
-abbrev pub AreAdded : List StoredRow → List StoredRow → List StoredRow → Type 0
-AreAdded rows [] after = after ≡ rows
-AreAdded rows (r ∷ new) after = (is_taken rows r.rowid ≡ false) × AreAdded (with_row_in rows r) new after
+-- the new rows came one after another, each to the place of its rowid; no row that was there before it had that rowid or shared one of these keys
+abbrev pub AreAdded : List (List KeyTerm) → List StoredRow → List StoredRow → List StoredRow → Type 0
+AreAdded keys rows [] after = after ≡ rows
+AreAdded keys rows (r ∷ new) after = (standing keys rows r ≡ []) × AreAdded keys (put_row rows r) new after
 
 -- the rowid of the last of these rows; where there is none it is as it was
 abbrev pub last_rowid_of : ℤ → List StoredRow → ℤ
@@ -89,7 +93,7 @@ pub record AddsRows (state : State) (env : Environment) (p : Put) (given : ℕ) 
   pub catalog : o.next.world.catalog ≡ state.world.catalog
   pub others : KeepsOthers state.world.tables o.next.world.tables p.table.number
   pub new : List StoredRow
-  pub added : AreAdded (rows_at state.world.tables p.table.number) new (rows_at o.next.world.tables p.table.number)
+  pub added : AreAdded p.insert.keys (rows_at state.world.tables p.table.number) new (rows_at o.next.world.tables p.table.number)
   pub fitting : All (IsFitting env p.insert) new
   pub drawn : p.insert.rowid ≡ rowid.Drawn → AreDrawn (rows_at state.world.tables p.table.number) new
   pub count : length new ≡ given
@@ -116,11 +120,30 @@ pub record AddsTable (state : State) (e : Entry) (o : Outcome) : Type 0 where
   pub others : KeepsOthers state.world.tables o.next.world.tables new.number
   pub counts : KeepsCounts state o
 
--- The table's entry and its rows are gone; the other entries stay in their order, and the other tables under their numbers.
+-- The table's entry, those of its indexes and its rows are gone; the other entries stay in their order, and the other tables under their numbers.
 pub record DropsTable (state : State) (t : TableEntry) (o : Outcome) : Type 0 where
   pub found : table_called (tables_in state) t.name ≡ Some t
-  pub catalog : o.next.world.catalog ≡ without_name space.Names t.name state.world.catalog
+  pub catalog : o.next.world.catalog ≡ without_name space.Names t.name (without_indexes t.name state.world.catalog)
   pub gone : table_called (tables_in o.next) t.name ≡ None
   pub rows : rows_at o.next.world.tables t.number ≡ []
   pub others : KeepsOthers state.world.tables o.next.world.tables t.number
+  pub counts : KeepsCounts state o
+
+-- The catalog has one entry more behind the others, whose name none had; no table or row is changed. Where the index is unique, no two rows of its table
+-- share the key.
+pub record AddsIndex (state : State) (i : NewIndex) (o : Outcome) : Type 0 where
+  pub found : table_called (tables_in state) i.table.name ≡ Some i.table
+  pub free : entry_named i.entry.name state.world.catalog.names ≡ None
+  pub catalog : o.next.world.catalog ≡ with_entry i.entry state.world.catalog
+  pub tables : tables_in o.next ≡ tables_in state
+  pub rows : o.next.world.tables ≡ state.world.tables
+  pub unique : i.unique ≡ true → has_doubles i.terms (rows_at state.world.tables i.table.number) ≡ false
+  pub counts : KeepsCounts state o
+
+-- The index's entry is gone; no table or row is changed.
+pub record DropsIndex (state : State) (name : List ℕ) (o : Outcome) : Type 0 where
+  pub catalog : o.next.world.catalog ≡ without_name space.Names name state.world.catalog
+  pub gone : entry_named name o.next.world.catalog.names ≡ None
+  pub tables : tables_in o.next ≡ tables_in state
+  pub rows : o.next.world.tables ≡ state.world.tables
   pub counts : KeepsCounts state o

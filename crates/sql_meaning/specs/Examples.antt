@@ -1,5 +1,5 @@
 -- Statements with what they come to, computed by the definitions.
-use Rattle.std.specs.Prelude.{◌≡◌, ℕ, true, false, Option, List, [], ◌∷◌, map, pos, negsuc, Some, None, codes, refl}
+use Rattle.std.specs.Prelude.{◌≡◌, ℕ, Bool, true, false, Option, List, [], ◌∷◌, map, pos, negsuc, Some, None, codes, refl}
 use Rattle.std.proofs.Common.{◌∙◌, ap}
 use Rattle.std.specs.FinSet as set
 use Rattle.std.specs.Fmt.{digits}
@@ -18,6 +18,9 @@ use Rattle.eng_value.specs.declared.cause.ConstraintKind.TheVariants as constrai
 use Rattle.eng_value.specs.declared.cause.NameKind.TheVariants as name_kind
 use Rattle.eng_value.specs.declared.value.Value.{Value}
 use Rattle.eng_value.specs.declared.value.Value.TheVariants as value
+use Rattle.eng_index.specs.declared.key_term.KeyTerm.{KeyTerm}
+use Rattle.eng_index.specs.declared.key_term.TermSource.TheVariants as term
+use Rattle.eng_value.specs.declared.built.Built.TheVariants as built
 use Rattle.sql_grammar.specs.Marks.{count}
 use Rattle.sql_grammar.specs.Statements.{all_statement_rules}
 use Rattle.sql_lex.specs.Pieces.{word_kind}
@@ -62,7 +65,7 @@ abbrev plain : Affinity → ℕ → PutColumn
 plain a place = record { affinity = a; place = Some place; default = None; not_null = false }
 
 abbrev put : BoundInsert
-put = record { table = 0; name = codes "t"; columns = plain affinity.Integer 0 ∷ plain affinity.Text 1 ∷ plain affinity.Blob 2 ∷ []; rowid = rowid.Drawn; checks = []; rows = [] }
+put = record { table = 0; name = codes "t"; columns = plain affinity.Integer 0 ∷ plain affinity.Text 1 ∷ plain affinity.Blob 2 ∷ []; rowid = rowid.Drawn; checks = []; keys = []; rows = [] }
 
 abbrev put_by : BoundInsert → List (List Value) → Outcome
 put_by b rows = closed created (rows_put (environment_at (context no_hosts created []) []) b rows (begun created))
@@ -159,7 +162,7 @@ seen_rows = (refl, refl)
 
 -- a query, also one where the column is ignored, which the rowid isn't by that
 abbrev shown_where : List (Option ℕ) → List Item
-shown_where places = items_of (context no_hosts with_a_row []) (record { from = record { table = table_with_key; width = 2; ignored = places } ∷ []; conjuncts = e.Column 0 0 ∷ []; results = e.Column 0 1 ∷ e.Rowid 0 ∷ [] })
+shown_where places = items_of (context no_hosts with_a_row []) (record { from = record { table = table_with_key; width = 2; ignored = places; indexes = [] } ∷ []; conjuncts = e.Column 0 0 ∷ []; results = e.Column 0 1 ∷ e.Rowid 0 ∷ [] })
 
 shown_rows_of_it : (shown_where [] ≡ Row (value.Integer (pos 7) ∷ value.Integer (pos 7) ∷ []) ∷ []) × (shown_where (Some 1 ∷ []) ≡ Row (value.Null ∷ value.Integer (pos 7) ∷ []) ∷ []) × (shown_where (None ∷ []) ≡ Row (value.Integer (pos 7) ∷ value.Null ∷ []) ∷ [])
 unfolding all_statement_rules count tokens_of word_kind the_text_test truth_of
@@ -173,13 +176,37 @@ refused_names : ((run created (codes "CREATE TABLE T(x)")).refusal ≡ Some (onl
 unfolding all_statement_rules count tokens_of word_kind the_text_test
 refused_names = (refl, refl, refl, refl)
 
-not_built : ((run new_state (codes "EXPLAIN SELECT 1")).refusal ≡ Some (only cause.NotYet)) × ((run new_state (codes "BEGIN")).refusal ≡ Some (only cause.NotYet)) × ((run new_state (codes "CREATE TABLE t(a UNIQUE)")).refusal ≡ Some (only cause.NotYet))
+not_built : ((run new_state (codes "EXPLAIN SELECT 1")).refusal ≡ Some (only cause.NotYet)) × ((run new_state (codes "BEGIN")).refusal ≡ Some (only cause.NotYet))
 unfolding all_statement_rules count tokens_of word_kind
-not_built = (refl, refl, refl)
+not_built = (refl, refl)
 
 no_statements : ((run new_state (codes "SELECT")).refusal ≡ Some (only (cause.Syntax 6))) × ((run new_state (codes "SELECT 1;;")).refusal ≡ Some (only (cause.Syntax 9))) × ((run new_state (codes "SELECT 1 x y;")).refusal ≡ Some (only (cause.Syntax 11)))
 unfolding all_statement_rules count tokens_of word_kind the_text_test
 no_statements = (refl, refl, refl)
+
+-- ---- keys and indexes
+
+-- rows that share a key, and such that differ by NULL; a key of two columns; and the rows in front go too
+abbrev by_unique : BoundInsert
+by_unique = record put { keys = (key 0 false ∷ []) ∷ (key 1 false ∷ key 2 true ∷ []) ∷ [] }
+  where
+    key : ℕ → Bool → KeyTerm
+    key column descending = record { source = term.Column column; collation = built.Binary; descending = descending }
+
+unique_keys : ((put_by by_unique (row one value.Null one ∷ row (value.Text (codes "1")) one one ∷ [])).refusal ≡ Some (named (only (cause.Constraint constraint.Unique (codes "t")))))
+    × ((put_by by_unique (row value.Null value.Null one ∷ row value.Null value.Null one ∷ [])).refusal ≡ None)
+    × ((put_by by_unique (row value.Null one one ∷ row value.Null one one ∷ [])).refusal ≡ Some (named (only (cause.Constraint constraint.Unique (codes "t")))))
+unfolding all_statement_rules count tokens_of word_kind the_text_test store_as text_kind digits
+unique_keys = (refl, refl, refl)
+
+-- an index has an entry of its own, which goes with its table
+abbrev indexed : State
+indexed = (run created (codes "CREATE UNIQUE INDEX i ON T(a)")).next
+
+indexes_of_it : ((run indexed (codes "CREATE INDEX I ON t(b)")).refusal ≡ Some (only (cause.Exists name_kind.Index (codes "i")))) × ((run indexed (codes "DROP INDEX I")).next ≡ created) × ((run created (codes "DROP INDEX i")).refusal ≡ Some (only (cause.Unknown name_kind.Index (codes "i"))))
+    × ((run indexed (codes "DROP TABLE t")).next.world.catalog.names ≡ []) × (tables_in indexed ≡ tables_in created)
+unfolding all_statement_rules count tokens_of word_kind the_text_test
+indexes_of_it = (refl, refl, refl, refl, refl)
 
 -- ---- DROP TABLE, IF [NOT] EXISTS and PRAGMA
 

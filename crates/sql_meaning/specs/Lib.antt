@@ -14,6 +14,7 @@ pub mod Steps
 pub mod Rows
 pub mod Statement
 pub mod Effects
+pub mod Searches
 pub mod Work
 pub mod Named
 pub mod Parts

@@ -13,7 +13,7 @@ use Rattle.bound_tree.specs.Exprs as e
 use Rattle.bound_tree.specs.Exprs.{BoundArms, BoundExpr, BoundExprs, BoundMatches, NoExprs, AnExpr, NoArms, AnArm, NoMatches, AMatch}
 use Rattle.sql_meaning.specs.declared.bound.BoundInsert.{BoundInsert}
 use Rattle.sql_meaning.specs.declared.bound.PutColumn.{PutColumn}
-use Rattle.sql_meaning.specs.Runnables.{Runnable, Creates, DoesNothing, Drops, Puts, Queries, Query, Shows}
+use Rattle.sql_meaning.specs.Runnables.{Runnable, Creates, DoesNothing, Drops, Indexes, Puts, Queries, Query, Shows, Unindexes}
 use Rattle.sql_meaning.specs.Statement.{bound_for}
 use Rattle.sql_meaning.specs.World.{Context}
 
@@ -86,6 +86,8 @@ named_by_insert b = flat_map named_by_row b.rows ++ flat_map named_by_column b.c
 abbrev pub named_by : Result Runnable Cause → Names
 named_by (Ok (Creates e)) = []
 named_by (Ok (Drops t)) = []
+named_by (Ok (Indexes i)) = []
+named_by (Ok (Unindexes name)) = []
 named_by (Ok (Puts p)) = named_by_insert p.insert
 named_by (Ok (Queries q)) = named_by_query q
 named_by (Ok (Shows rows)) = flat_map named_by_row rows

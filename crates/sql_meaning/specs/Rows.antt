@@ -1,7 +1,5 @@
 -- The change of one row: what its values become, which tests it passes, and where it comes (INSERT; CREATE TABLE, section 3; Rowid Tables).
-use Rattle.std.specs.Prelude.{ℕ, Bool, true, false, ◌&&◌, ◌||◌, List, [], ◌∷◌, ◌++◌, map, fold, ◌+◌, ℤ, int_lt, Option, Some, None, Result, Ok, Err, is_some, if◌then◌else◌, slice_index_or, slice_set}
-use Rattle.std.specs.List.{find}
-use Rattle.std.specs.Ordering.{int_eq}
+use Rattle.std.specs.Prelude.{ℕ, Bool, true, false, ◌&&◌, ◌||◌, List, [], ◌∷◌, ◌++◌, map, fold, ◌+◌, ℤ, Option, Some, None, Result, Ok, Err, is_some, if◌then◌else◌, slice_index_or, slice_set}
 use Rattle.eng_number.specs.Numbers.{fits_integer}
 use Rattle.eng_value.specs.Casts.{store_as}
 use Rattle.eng_value.specs.Causes.{CauseSet, only}
@@ -20,6 +18,9 @@ use Rattle.eng_value.specs.declared.truth.Truth.{Truth}
 use Rattle.eng_value.specs.declared.truth.Truth.TheVariants as truth
 use Rattle.eng_value.specs.declared.value.Value.{Value}
 use Rattle.eng_value.specs.declared.value.Value.TheVariants as value
+use Rattle.eng_index.specs.Keys.{row_in_way}
+use Rattle.eng_index.specs.Stored.{put_row}
+use Rattle.eng_index.specs.declared.key_term.KeyTerm.{KeyTerm}
 use Rattle.bound_tree.specs.Exprs.{BoundExpr}
 use Rattle.sql_meaning.specs.declared.bound.BoundInsert.{BoundInsert}
 use Rattle.sql_meaning.specs.declared.bound.PutColumn.{PutColumn}
@@ -82,17 +83,6 @@ new_row env b source =
     let beside = rowid_beside b.rowid source in
     new_by b.rowid outs beside (fold with_causes no_causes (outs ++ beside))
 
--- ---- the rows of a table
-
--- the row of a rowid
-abbrev pub row_of_rowid : List StoredRow → ℤ → Option StoredRow
-row_of_rowid rows n = find (λ (r : StoredRow). int_eq r.rowid n) rows
-
--- a row more, in front of the first of a greater rowid
-abbrev pub with_row_in : List StoredRow → StoredRow → List StoredRow
-with_row_in [] r = r ∷ []
-with_row_in (x ∷ rows) r = if int_lt r.rowid x.rowid then r ∷ x ∷ rows else x ∷ with_row_in rows r
-
 -- ---- the tests
 
 abbrev pub is_null : Value → Bool
@@ -132,8 +122,9 @@ passed table (truth.Failed causes) x = Fails causes x
 abbrev pub checked : List ℕ → List BoundExpr → Environment → Written → Effect
 checked table checks env x = each (λ c x. passed table (truth_in (truth_of (value_of c env))) x) checks x
 
-abbrev pub is_taken : List StoredRow → ℤ → Bool
-is_taken rows n = is_some (row_of_rowid rows n)
+-- some row is in the way: it has the rowid, or shares a key
+abbrev pub is_met : List (List KeyTerm) → List StoredRow → StoredRow → Bool
+is_met keys rows row = is_some (row_in_way keys rows row)
 
 -- ---- the steps of a row, in their order
 
@@ -141,20 +132,20 @@ is_taken rows n = is_some (row_of_rowid rows n)
 abbrev pub at_row : Environment → StoredRow → Environment
 at_row env row = record env { rows = table_row row ∷ [] }
 
--- beside these rows of its table the rowid is fixed; no column is NULL that may not be; the CHECKs pass; and no row has the rowid. The row is
--- tested as it is seen
+-- beside these rows of its table the rowid is fixed; no column is NULL that may not be; the CHECKs pass, for which the row is as it is seen; and no
+-- row is in the way
 abbrev pub fitted : Environment → BoundInsert → List StoredRow → NewRow → Written → Step StoredRow
 fitted env b rows new x =
     fixed b.name rows new.rowid x then λ n x.
     let row : StoredRow = seen (rowid_column b.rowid) (record { rowid = n; values = new.values }) in
     unless_broken (lacks_value b.columns row.values) (cause.Constraint constraint.NotNull b.name) x then λ u x.
     checked b.name b.checks (at_row env row) x then λ u x.
-    unless_broken (is_taken rows n) (cause.Constraint constraint.Unique b.name) x then λ u x.
+    unless_broken (is_met b.keys rows (stored (rowid_column b.rowid) row)) (cause.Constraint constraint.Unique b.name) x then λ u x.
     Done (stored (rowid_column b.rowid) row) x
 
 -- the row comes into its table, and counts
 abbrev pub with_row : Written → ℕ → StoredRow → Written
-with_row x table r = record x { world = slice_set x.world table (with_row_in (rows_at x.world table) r); changes = x.changes + 1; last_rowid = r.rowid }
+with_row x table r = record x { world = slice_set x.world table (put_row (rows_at x.world table) r); changes = x.changes + 1; last_rowid = r.rowid }
 
 abbrev pub row_changed : Environment → BoundInsert → NewRow → Written → Effect
 row_changed env b new x = fitted env b (rows_at x.world b.table) new x then λ row x. done (with_row x b.table row)

@@ -1,11 +1,12 @@
 -- The outcome of a statement.
-use Rattle.std.specs.Prelude.{◌≡◌, ⊤, ℕ, Bool, true, false, List, [], ◌∷◌, ◌++◌, length, map, fold, ◌+◌, Option, Some, None, Result, Ok, Err, option_map, drop, slice_set}
+use Rattle.std.specs.Prelude.{◌≡◌, ⊤, ℕ, Bool, true, false, List, [], ◌∷◌, ◌++◌, length, map, fold, ◌+◌, ◌&&◌, if◌then◌else◌, Option, Some, None, Result, Ok, Err, option_map, drop, slice_set}
 use Rattle.std.specs.FinSet as set
 use Rattle.std.specs.List.{flat_map}
 use Rattle.std.specs.Option.{option_to_list}
-use Rattle.eng_entry.specs.Entries.{Entries, with_entry, without_name}
+use Rattle.eng_entry.specs.Entries.{Entries, with_entry, without_indexes, without_name}
 use Rattle.eng_entry.specs.declared.entry.Entry.{Entry}
 use Rattle.eng_entry.specs.declared.entry.Space.TheVariants as space
+use Rattle.eng_index.specs.Keys.{has_doubles}
 use Rattle.eng_value.specs.Applied.{merged}
 use Rattle.eng_value.specs.Causes.{CauseSet, has_cause, named, only}
 use Rattle.eng_value.specs.Environments.{Environment, ItemRow, carried, ignoring, no_causes, table_row, with_causes}
@@ -13,6 +14,7 @@ use Rattle.eng_value.specs.Truths.{truth_in, truth_of}
 use Rattle.eng_value.specs.Written.{Told, Written, unwritten}
 use Rattle.eng_value.specs.declared.cause.Cause.{Cause}
 use Rattle.eng_value.specs.declared.cause.Cause.TheVariants as cause
+use Rattle.eng_value.specs.declared.cause.ConstraintKind.TheVariants as constraint
 use Rattle.eng_value.specs.declared.cause.LimitKind.{LimitKind}
 use Rattle.eng_value.specs.declared.cause.LimitKind.TheVariants as limit
 use Rattle.eng_value.specs.declared.out.Out.{Out}
@@ -35,7 +37,7 @@ use Rattle.sql_bound.specs.Scopes.{Around, Facts}
 use Rattle.sql_bound.specs.Statements.{bound_of}
 use Rattle.sql_meaning.specs.Permits.{Asking, asked_by, permitted}
 use Rattle.sql_meaning.specs.Running.{if_built, runnable_of}
-use Rattle.sql_meaning.specs.Runnables.{Runnable, Creates, DoesNothing, Drops, FromItem, Put, Puts, Queries, Query, Shows}
+use Rattle.sql_meaning.specs.Runnables.{Runnable, Creates, DoesNothing, Drops, FromItem, Indexes, NewIndex, Put, Puts, Queries, Query, Shows, Unindexes}
 use Rattle.sql_meaning.specs.Declarations.{tables_of}
 use Rattle.sql_meaning.specs.Built.{is_built}
 use Rattle.sql_meaning.specs.Expression.{value_of}
@@ -79,13 +81,27 @@ with_created state e =
 abbrev pub create_outcome : State → Entry → Outcome
 create_outcome state e = done [] (with_created state e)
 
--- without the table and its rows; no other table gets another number
+-- without the table, its indexes and its rows; no other table gets another number
 abbrev pub without_table : State → TableEntry → State
 without_table state t =
-    record state { world = record { catalog = without_name space.Names t.name state.world.catalog; tables = slice_set state.world.tables t.number [] } }
+    record state { world = record { catalog = without_name space.Names t.name (without_indexes t.name state.world.catalog); tables = slice_set state.world.tables t.number [] } }
 
 abbrev pub drop_outcome : State → TableEntry → Outcome
 drop_outcome state t = done [] (without_table state t)
+
+-- ---- CREATE INDEX and DROP INDEX
+
+abbrev pub with_catalog : State → Entries → State
+with_catalog state c = record state { world = record state.world { catalog = c } }
+
+-- an index holds nothing of its own; but of one that is unique, no two rows of its table may share the key
+abbrev pub index_outcome : State → NewIndex → Outcome
+index_outcome state i =
+    if i.unique && has_doubles i.terms (rows_at state.world.tables i.table.number) then failed state (only (cause.Constraint constraint.Unique i.table.name))
+    else done [] (with_catalog state (with_entry i.entry state.world.catalog))
+
+abbrev pub unindex_outcome : State → List ℕ → Outcome
+unindex_outcome state name = done [] (with_catalog state (without_name space.Names name state.world.catalog))
 
 -- ---- items: a row, or why it is bad
 
@@ -211,6 +227,8 @@ put_outcome ctx p = put_source ctx p (causes_of (source_of ctx p)) (given_of (so
 abbrev pub outcome_of : Context → Runnable → Outcome
 outcome_of ctx (Creates e) = create_outcome ctx.state e
 outcome_of ctx (Drops t) = drop_outcome ctx.state t
+outcome_of ctx (Indexes i) = index_outcome ctx.state i
+outcome_of ctx (Unindexes name) = unindex_outcome ctx.state name
 outcome_of ctx (Puts p) = put_outcome ctx p
 outcome_of ctx (Queries q) = query_outcome ctx.state (items_of ctx q)
 outcome_of ctx (Shows rows) = query_outcome ctx.state (shown_rows ctx rows)

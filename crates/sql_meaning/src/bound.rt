@@ -1,5 +1,6 @@
 // What is read and written.
 use bound_tree::BoundExpr;
+use eng_index::KeyTerm;
 use eng_value::{Affinity, Text};
 use sqlite_items::Items;
 
@@ -25,7 +26,7 @@ pub enum RowidFrom {
 }
 
 /// Rows of values for the table of this number: its name as declared, its columns, where the rowids come from, the CHECKs over a row as
-/// item 0, and the source.
+/// item 0, the keys that no two rows may share, oldest first, and the source.
 #[derive(Drop)]
 pub struct BoundInsert {
     pub table: u32,
@@ -33,13 +34,21 @@ pub struct BoundInsert {
     pub columns: Items<PutColumn>,
     pub rowid: RowidFrom,
     pub checks: Items<BoundExpr>,
+    pub keys: Items<Items<KeyTerm>>,
     pub rows: Items<Items<BoundExpr>>,
 }
 
-/// A query over the table of this number, or over none: what each row has to pass, and what is shown of it.
+/// The table that a query reads: its number, and the terms of the keys of its indexes, oldest first.
+#[derive(Drop)]
+pub struct FromTable {
+    pub table: u32,
+    pub indexes: Items<Items<KeyTerm>>,
+}
+
+/// A query over a table, or over none: what each row has to pass, and what is shown of it.
 #[derive(Drop)]
 pub struct BoundSelect {
-    pub table: Option<u32>,
+    pub from: Option<FromTable>,
     pub conjuncts: Items<BoundExpr>,
     pub results: Items<BoundExpr>,
 }

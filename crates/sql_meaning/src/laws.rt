@@ -1,14 +1,19 @@
 // What the definitions promise, in the subject's own words. Nothing here runs: each contract is a law.
-ghost use Rattle.std.specs.Prelude.{◌≡◌, ◌↔◌, ◌⊎◌, ℕ, List, [], ◌++◌, Any, Bool, Option, Some, None, take, true, false};
-ghost use Rattle.std.specs.List.{flat_map};
+ghost use Rattle.std.specs.Prelude.{◌≡◌, ◌≤◌, ◌↔◌, ◌⊎◌, ℕ, List, [], ◌++◌, length, Any, Bool, Option, Some, None, take, true, false};
+ghost use Rattle.std.specs.List.{All, flat_map, list_any};
+ghost use Rattle.bound_tree.specs.Exprs.{BoundExpr};
+ghost use Rattle.eng_index.specs.declared.key_term.KeyTerm.{KeyTerm};
 ghost use Rattle.eng_value.specs.Causes.{CauseSet};
+ghost use Rattle.eng_value.specs.Environments.{Surroundings};
 ghost use Rattle.eng_value.specs.HostMeanings.{HostMeanings, no_hosts};
+ghost use Rattle.eng_value.specs.StoredRows.{StoredRow};
 ghost use Rattle.eng_value.specs.declared.cause.Cause.{Cause};
 ghost use Rattle.eng_value.specs.declared.value.Value.{Value};
 ghost use Rattle.sql_meaning.specs.declared.script.Ending.{Ending};
 ghost use Rattle.sql_meaning.specs.declared.script.Options.{Options};
 ghost use Rattle.sql_meaning.specs.Parts.{bad_character, parts_from, parts_of};
 ghost use Rattle.sql_meaning.specs.Runs.{AreAsMeant, IsEnough, IsFrontOf};
+ghost use Rattle.sql_meaning.specs.Searches.{is_search, rows_counted, rows_met};
 ghost use Rattle.sql_meaning.specs.Segments.{AreSegments, Segment, bytes_of, parts_in};
 ghost use Rattle.sql_meaning.specs.Script.{AreOutcomes, Came, ends, is_failed, status_by};
 ghost use Rattle.sql_meaning.specs.Statement.{IsNamed, text_outcome};
@@ -43,6 +48,16 @@ pub fn enough_budget_leaves_the_meaning()
 /// Where there is no host, each statement names only hosts that tell: whatever a host's place or name, nothing stands there.
 pub fn without_hosts_all_is_told()
     ensures { (state : State) (params : List Value) (text : List ℕ) → TextIsTold (context no_hosts state params) text }
+{}
+
+/// By searches no more rows count than a table has, and no fewer than meet one of them; without a search all count.
+pub fn a_search_counts_the_rows_that_meet_it()
+    ensures within { (x : Surroundings) (indexes : List (List KeyTerm)) (conjuncts : List BoundExpr) (rows : List StoredRow)
+        → rows_counted x indexes conjuncts rows ≤ length rows }
+    ensures each { (x : Surroundings) (indexes : List (List KeyTerm)) (conjuncts : List BoundExpr) (rows : List StoredRow)
+        → All (λ (e : BoundExpr). is_search indexes x.params e ≡ true → rows_met x rows e ≤ rows_counted x indexes conjuncts rows) conjuncts }
+    ensures without { (x : Surroundings) (indexes : List (List KeyTerm)) (conjuncts : List BoundExpr) (rows : List StoredRow)
+        → list_any (is_search indexes x.params) conjuncts ≡ false → rows_counted x indexes conjuncts rows ≡ length rows }
 {}
 
 /// A part that has its end stays a part, whatever the script goes on with.

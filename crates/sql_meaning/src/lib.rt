@@ -12,12 +12,12 @@ mod laws;
 mod script;
 mod states;
 
-pub use bound::{BoundInsert, BoundSelect, PutColumn, RowidFrom};
+pub use bound::{BoundInsert, BoundSelect, FromTable, PutColumn, RowidFrom};
 pub use column::{Column, TableEntry};
 pub use laws::{
-    a_refusal_keeps_the_state, each_refusal_has_a_cause, enough_budget_leaves_the_meaning,
-    parts_stay, scripts_are_put_together, scripts_keep_their_outcomes, statuses_tell_of_failures,
-    without_hosts_all_is_told,
+    a_refusal_keeps_the_state, a_search_counts_the_rows_that_meet_it, each_refusal_has_a_cause,
+    enough_budget_leaves_the_meaning, parts_stay, scripts_are_put_together,
+    scripts_keep_their_outcomes, statuses_tell_of_failures, without_hosts_all_is_told,
 };
 pub use script::{Ending, Failure, Options};
 pub use states::{

@@ -12,9 +12,9 @@ ghost use Rattle.eng_value.specs.declared.value.Value.TheVariants as value;
 ghost use Rattle.bound_tree.specs.Exprs.{BoundExpr};
 ghost use Rattle.sql_meaning.specs.declared.bound.BoundInsert.{BoundInsert};
 ghost use Rattle.sql_meaning.specs.declared.column.TableEntry.{TableEntry};
-ghost use Rattle.sql_meaning.specs.Effects.{AddsRows, AddsTable, DropsTable, IsFull, IsOneMore, KeepsWritten};
+ghost use Rattle.sql_meaning.specs.Effects.{AddsIndex, AddsRows, AddsTable, DropsIndex, DropsTable, IsFull, IsOneMore, KeepsWritten};
 ghost use Rattle.sql_meaning.specs.Expression.{value_of};
-ghost use Rattle.sql_meaning.specs.Runnables.{Creates, Drops, Put, Puts, Queries, Query, Shows};
+ghost use Rattle.sql_meaning.specs.Runnables.{Creates, Drops, Indexes, NewIndex, Put, Puts, Queries, Query, Shows, Unindexes};
 ghost use Rattle.sql_meaning.specs.Rows.{NewRow, fitted, fixed};
 ghost use Rattle.sql_meaning.specs.Statement.{bound_for, items_at, text_outcome};
 ghost use Rattle.sql_meaning.specs.Steps.{Done, Fails};
@@ -29,8 +29,8 @@ pub fn states_stay_valid()
 {}
 
 /// What a statement that is not refused does: an INSERT adds its rows to its table, each under its rowid, which is one more than the
-/// largest where none is given, and none of them breaks a constraint; a CREATE TABLE adds a table without rows, and a DROP TABLE takes one out with its rows, and neither
-/// touches another table; queries change nothing.
+/// largest where none is given, and none of them breaks a constraint; a CREATE TABLE adds a table without rows, and a DROP TABLE takes one out with its rows and indexes, and neither
+/// touches another table; CREATE INDEX and DROP INDEX change nothing but the catalog; queries change nothing.
 pub fn statements_do_what_they_say()
     ensures inserts { (ctx : Context) (text : List ℕ) (p : Put)
         → IsValid ctx.state → bound_for ctx text ≡ Ok (Puts p) → (text_outcome ctx text).refusal ≡ None
@@ -39,6 +39,10 @@ pub fn statements_do_what_they_say()
         → IsValid ctx.state → bound_for ctx text ≡ Ok (Creates e) → AddsTable ctx.state e (text_outcome ctx text) }
     ensures drops { (ctx : Context) (text : List ℕ) (t : TableEntry)
         → IsValid ctx.state → bound_for ctx text ≡ Ok (Drops t) → DropsTable ctx.state t (text_outcome ctx text) }
+    ensures indexes { (ctx : Context) (text : List ℕ) (i : NewIndex)
+        → IsValid ctx.state → bound_for ctx text ≡ Ok (Indexes i) → (text_outcome ctx text).refusal ≡ None → AddsIndex ctx.state i (text_outcome ctx text) }
+    ensures unindexes { (ctx : Context) (text : List ℕ) (name : List ℕ)
+        → IsValid ctx.state → bound_for ctx text ≡ Ok (Unindexes name) → DropsIndex ctx.state name (text_outcome ctx text) }
     ensures selects { (ctx : Context) (text : List ℕ) (q : Query)
         → bound_for ctx text ≡ Ok (Queries q) → (text_outcome ctx text).next ≡ ctx.state }
     ensures shows { (ctx : Context) (text : List ℕ) (rows : List (List BoundExpr))

@@ -185,6 +185,9 @@ So is all else:~create_table t - ignore,insert t - ignore,drop_table t - ignore,
 |3
 Error 1: no such table: t
 ~1@
+A column of an index, by which nothing is found then:~read t a ignore~CREATE TABLE t(a INTEGER, b INTEGER UNIQUE); CREATE INDEX i ON t(a); INSERT INTO t VALUES(1, 2), (3, 4); SELECT b FROM t WHERE a = 1; SELECT b FROM t WHERE a IS NULL AND b = 4; SELECT a, b FROM t WHERE b > 2;~4
+|4
+~0@
 A row of another kind is no row:~update t b ignore,insert t b ignore,read u b ignore,read t c ignore~CREATE TABLE t(a INTEGER, b INTEGER); INSERT INTO t VALUES(1, 2); SELECT a, b FROM t;~1|2
 ~0@";
 

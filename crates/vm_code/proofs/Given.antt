@@ -1,22 +1,26 @@
 -- Rows that were given before change nothing of a run, and a run has one end.
-use Rattle.std.proofs.Common.{◌≡◌, ℕ, zero, suc, ◌+◌, ◌-◌, ◌<◌, List, [], ◌∷◌, Bool, true, false, Some, None, ℤ, map, refl, sym, ap, ◌∙◌, arith, append_assoc, append-nil, ⊎_elim, if◌then◌else◌}
+use Rattle.std.proofs.Common.{◌≡◌, ℕ, zero, suc, ◌+◌, ◌-◌, ◌<◌, List, [], ◌∷◌, Bool, true, false, not, Some, None, ℤ, map, refl, sym, ap, ◌∙◌, arith, append_assoc, append-nil, ⊎_elim, if◌then◌else◌}
 use Rattle.std.specs.Prelude.{slice_get}
 use Rattle.std.specs.declared.option.Option.{Option}
 use Rattle.std.proofs.lemmas.Bool.{cases_lt}
+use Rattle.eng_index.specs.Keys.{found, has_doubles, row_in_way}
+use Rattle.eng_index.specs.declared.key_term.KeyTerm.{KeyTerm}
+use Rattle.eng_index.specs.declared.range.Range.{Range}
 use Rattle.eng_key.specs.Values.{value_keys}
 use Rattle.eng_value.specs.Applied.{binary_of, function_by, unary_of}
 use Rattle.eng_value.specs.Causes.{CauseSet, is_skip, only}
 use Rattle.eng_value.specs.Collations.{keys_of}
 use Rattle.eng_value.specs.Comparisons.{like_escaped_of}
 use Rattle.eng_value.specs.StoredRows.{StoredRow, next_rowid}
-use Rattle.eng_value.specs.declared.cause.Cause.TheVariants.{Full, Mismatch}
+use Rattle.eng_value.specs.declared.cause.Cause.TheVariants.{Constraint, Full, Mismatch}
+use Rattle.eng_value.specs.declared.cause.ConstraintKind.TheVariants.{Unique}
 use Rattle.eng_value.specs.declared.out.Out.{Out}
 use Rattle.vm_code.specs.declared.op.Op.{Op}
 use Rattle.vm_code.specs.declared.op.Op.TheVariants as op
 use Rattle.vm_code.specs.declared.operand.Operand.{Operand}
 use Rattle.vm_code.specs.declared.operand.Operand.TheVariants as operand
 use Rattle.vm_code.specs.declared.program.Unit.{Unit}
-use Rattle.vm_code.specs.Machine.{Row, rows_of, Cursor, Closed, Open, Holding, Standing, Shared, Frame, State, Ending, Leaving, Halts, GivesUp, Setting, Next, On, End, act, step, go_on, after, code_of, unit_at, read, put, operand_of, outs_from, values_from, integer_in, is_missing, is_integer, skip_if, jump_if, is_accepted, is_rejected, is_null, is_known, is_bad, rewound, rewound_to, advanced, advanced_to, drawn, called, returned, given_up, leads_to, leaving_of, cursor_at, cursor_rows, row_behind, world_of}
+use Rattle.vm_code.specs.Machine.{Row, rows_of, Cursor, Closed, Open, Chosen, Holding, Standing, Shared, Frame, State, Ending, Leaving, Halts, GivesUp, Setting, Next, On, End, act, step, go_on, after, code_of, unit_at, read, put, operand_of, outs_from, values_from, integer_in, row_in, is_missing, is_integer, skip_if, jump_if, is_accepted, is_rejected, is_null, is_known, is_bad, range_in, rewound, rewound_to, searched, searched_to, conflicted, conflicted_to, built, advanced, advanced_to, drawn, called, returned, given_up, leads_to, leaving_of, cursor_at, cursor_rows, row_behind, world_of}
 use Rattle.vm_code.specs.Reading.{below, prepend, under}
 use Rattle.vm_code.proofs.Runs.{after_add}
 
@@ -56,8 +60,35 @@ module _ (g : List Row) where
   rewound_given : (x : Cursor) (s : State) (c target : ℕ) → rewound x (under g s) c target ≡ prepend g (rewound x s c target)
   rewound_given Closed s c target = refl
   rewound_given (Open t place) s c target = rewound_to_given s c target t (rows_of (world_of s.shared) t)
+  rewound_given (Chosen t n rest) s c target = rewound_to_given s c target t (rows_of (world_of s.shared) t)
   rewound_given (Holding rows) s c target = refl
   rewound_given (Standing row rest) s c target = refl
+
+  searched_to_given : (s : State) (c target t : ℕ) (rows : List StoredRow) → searched_to (under g s) c target t rows ≡ prepend g (searched_to s c target t rows)
+  searched_to_given s c target t [] = refl
+  searched_to_given s c target t (r ∷ rs) = refl
+
+  conflicted_to_given : (s : State) (c target t : ℕ) (o : Option StoredRow) → conflicted_to (under g s) c target t o ≡ prepend g (conflicted_to s c target t o)
+  conflicted_to_given s c target t None = refl
+  conflicted_to_given s c target t (Some r) = refl
+
+  conflicted_given : (x : Cursor) (s : State) (c target : ℕ) (keys : List (List KeyTerm)) (row : StoredRow) → conflicted x (under g s) c target keys row ≡ prepend g (conflicted x s c target keys row)
+  conflicted_given Closed s c target keys row = refl
+  conflicted_given (Open t place) s c target keys row = conflicted_to_given s c target t (row_in_way keys (rows_of (world_of s.shared) t) row)
+  conflicted_given (Chosen t n rest) s c target keys row = conflicted_to_given s c target t (row_in_way keys (rows_of (world_of s.shared) t) row)
+  conflicted_given (Holding rows) s c target keys row = refl
+  conflicted_given (Standing x rest) s c target keys row = refl
+
+  searched_given : (x : Cursor) (s : State) (c target : ℕ) (terms : List KeyTerm) (range : Range) → searched x (under g s) c target terms range ≡ prepend g (searched x s c target terms range)
+  searched_given Closed s c target terms range = refl
+  searched_given (Open t place) s c target terms range = searched_to_given s c target t (found terms range (rows_of (world_of s.shared) t))
+  searched_given (Chosen t n rest) s c target terms range = searched_to_given s c target t (found terms range (rows_of (world_of s.shared) t))
+  searched_given (Holding rows) s c target terms range = refl
+  searched_given (Standing row rest) s c target terms range = refl
+
+  built_given : (s : State) (unique : Option (List ℕ)) (terms : List KeyTerm) (rows : List StoredRow) → built (under g s) unique terms rows ≡ prepend g (built s unique terms rows)
+  built_given s None terms rows = refl
+  built_given s (Some table) terms rows = skip_if_given (not (has_doubles terms rows)) s (only (Constraint Unique table))
 
   advanced_to_given : (s : State) (c target t : ℕ) (r : Option StoredRow) → advanced_to (under g s) c target t r ≡ prepend g (advanced_to s c target t r)
   advanced_to_given s c target t None = refl
@@ -67,6 +98,8 @@ module _ (g : List Row) where
   advanced_given Closed s c target = refl
   advanced_given (Open t None) s c target = refl
   advanced_given (Open t (Some n)) s c target = advanced_to_given s c target t (row_behind (rows_of (world_of s.shared) t) n)
+  advanced_given (Chosen t n []) s c target = refl
+  advanced_given (Chosen t n (next ∷ rest)) s c target = refl
   advanced_given (Holding rows) s c target = refl
   advanced_given (Standing row []) s c target = refl
   advanced_given (Standing row (next ∷ rest)) s c target = refl
@@ -111,6 +144,7 @@ module _ (g : List Row) where
   act_given m (Some (op.Variable k to)) s = refl
   act_given m (Some (op.Copy from to)) s = refl
   act_given m (Some (op.Affinity r affinity)) s = refl
+  act_given m (Some (op.Beside r other own)) s = refl
   act_given m (Some (op.MustBeInt r)) s = skip_if_given (is_integer (read s.regs r)) s (only Mismatch)
   act_given m (Some (op.Unary o a to)) s = ap (λ v. put (under g s) to (unary_of o v)) (operand_given m s a)
   act_given m (Some (op.Binary o a b to)) s =
@@ -130,12 +164,18 @@ module _ (g : List Row) where
   act_given m (Some (op.CloseFrom c)) s = refl
   act_given m (Some (op.Rewind c target)) s = rewound_given (cursor_at s.scene.cursors c) s c target
   act_given m (Some (op.Next c target)) s = advanced_given (cursor_at s.scene.cursors c) s c target
+  act_given m (Some (op.Search c terms bounds first target)) s =
+      searched_given (cursor_at s.scene.cursors c) s c target terms (range_in s.regs first bounds)
   act_given m (Some (op.Column c k to)) s = refl
   act_given m (Some (op.Rowid c to)) s = refl
+  act_given m (Some (op.NoConflict c rowid first n keys target)) s =
+      conflicted_given (cursor_at s.scene.cursors c) s c target keys (row_in s.regs rowid first n)
   act_given m (Some (op.NotExists c rowid target)) s =
       jump_given (is_missing (cursor_rows (world_of s.shared) (cursor_at s.scene.cursors c)) (integer_in s.regs rowid)) s target
   act_given m (Some (op.NewRowid c to name)) s = drawn_given s to name (next_rowid (cursor_rows (world_of s.shared) (cursor_at s.scene.cursors c)))
   act_given m (Some (op.Insert c rowid first n)) s = refl
+  act_given m (Some (op.BuildIndex c terms unique)) s =
+      built_given s unique terms (cursor_rows (world_of s.shared) (cursor_at s.scene.cursors c))
   act_given m (Some (op.Schema change)) s = refl
 
   go_on_given : (m : Setting) (n : ℕ) (x : Next) → ((s : State) → after m n (under g s) ≡ prepend g (after m n s)) → go_on (prepend g x) (after m n) ≡ prepend g (go_on x (after m n))

@@ -3,17 +3,21 @@ use Rattle.std.proofs.Common.{◌≡◌, ℕ, zero, suc, ◌+◌, ◌<◌, List,
 use Rattle.std.specs.Prelude.{slice_get, slice_set}
 use Rattle.std.specs.declared.option.Option.{Option}
 use Rattle.std.proofs.lemmas.Bool.{and_parts}
+use Rattle.eng_index.specs.Keys.{found, has_doubles, row_in_way}
+use Rattle.eng_index.specs.declared.key_term.KeyTerm.{KeyTerm}
+use Rattle.eng_index.specs.declared.range.Range.{Range}
 use Rattle.eng_value.specs.Causes.{CauseSet, is_skip, only}
 use Rattle.eng_value.specs.StoredRows.{StoredRow, IsAscending, next_rowid}
 use Rattle.eng_value.specs.Written.{Written}
-use Rattle.eng_value.specs.declared.cause.Cause.TheVariants.{Full, Mismatch}
+use Rattle.eng_value.specs.declared.cause.Cause.TheVariants.{Constraint, Full, Mismatch}
+use Rattle.eng_value.specs.declared.cause.ConstraintKind.TheVariants.{Unique}
 use Rattle.eng_value.specs.declared.out.Out.{Out}
 use Rattle.vm_code.specs.declared.op.Op.{Op}
 use Rattle.vm_code.specs.declared.op.Op.TheVariants as op
 use Rattle.vm_code.specs.declared.program.Unit.{Unit}
 use Rattle.vm_code.specs.declared.schema_change.SchemaChange.{SchemaChange}
 use Rattle.vm_code.specs.declared.schema_change.SchemaChange.TheVariants.{AddTable, DropTable}
-use Rattle.vm_code.specs.Machine.{Row, World, IsSound, rows_of, row_under, put_row, is_free, Cursor, Closed, Open, Holding, Standing, Shared, Frame, State, Setting, Next, On, End, Leaving, Halts, GivesUp, Reaches, act, step, go_on, after, code_of, unit_at, read, outs_from, values_from, integer_in, row_in, skip_if, is_missing, is_integer, jump_if, is_accepted, is_rejected, is_null, is_known, is_bad, rewound, rewound_to, advanced, advanced_to, drawn, with_given, with_row, with_table, with_schema, inserted, called, returned, given_up, leads_to, leaving_of, cursor_at, cursor_rows, row_behind, world_of}
+use Rattle.vm_code.specs.Machine.{Row, World, IsSound, rows_of, row_under, put_row, is_free, Cursor, Closed, Open, Chosen, Holding, Standing, Shared, Frame, State, Setting, Next, On, End, Leaving, Halts, GivesUp, Reaches, act, step, go_on, after, code_of, unit_at, read, outs_from, values_from, integer_in, row_in, skip_if, is_missing, is_integer, jump_if, is_accepted, is_rejected, is_null, is_known, is_bad, range_in, rewound, rewound_to, searched, searched_to, conflicted, conflicted_to, built, advanced, advanced_to, drawn, with_given, with_row, with_table, with_schema, inserted, called, returned, given_up, leads_to, leaving_of, cursor_at, cursor_rows, row_behind, world_of}
 use Rattle.vm_code.proofs.Rows.{All-cons, All-nil, ascending_put, ascending_nil}
 
 -- what is shared behind an instruction
@@ -59,8 +63,35 @@ module _ (P : Shared → Type 0) (given : (x : Shared) (r : Row) → P x → P (
   rewound_keeps : (x : Cursor) (s : State) (c target : ℕ) → P s.shared → P (shared_of (rewound x s c target))
   rewound_keeps Closed s c target p = p
   rewound_keeps (Open t place) s c target p = rewound_to_keeps s c target t (rows_of (world_of s.shared) t) p
+  rewound_keeps (Chosen t n rest) s c target p = rewound_to_keeps s c target t (rows_of (world_of s.shared) t) p
   rewound_keeps (Holding rows) s c target p = p
   rewound_keeps (Standing row rest) s c target p = p
+
+  searched_to_keeps : (s : State) (c target t : ℕ) (rows : List StoredRow) → P s.shared → P (shared_of (searched_to s c target t rows))
+  searched_to_keeps s c target t [] p = p
+  searched_to_keeps s c target t (r ∷ rs) p = p
+
+  conflicted_to_keeps : (s : State) (c target t : ℕ) (o : Option StoredRow) → P s.shared → P (shared_of (conflicted_to s c target t o))
+  conflicted_to_keeps s c target t None p = p
+  conflicted_to_keeps s c target t (Some r) p = p
+
+  conflicted_keeps : (x : Cursor) (s : State) (c target : ℕ) (keys : List (List KeyTerm)) (row : StoredRow) → P s.shared → P (shared_of (conflicted x s c target keys row))
+  conflicted_keeps Closed s c target keys row p = p
+  conflicted_keeps (Open t place) s c target keys row p = conflicted_to_keeps s c target t (row_in_way keys (rows_of (world_of s.shared) t) row) p
+  conflicted_keeps (Chosen t n rest) s c target keys row p = conflicted_to_keeps s c target t (row_in_way keys (rows_of (world_of s.shared) t) row) p
+  conflicted_keeps (Holding rows) s c target keys row p = p
+  conflicted_keeps (Standing x rest) s c target keys row p = p
+
+  searched_keeps : (x : Cursor) (s : State) (c target : ℕ) (terms : List KeyTerm) (range : Range) → P s.shared → P (shared_of (searched x s c target terms range))
+  searched_keeps Closed s c target terms range p = p
+  searched_keeps (Open t place) s c target terms range p = searched_to_keeps s c target t (found terms range (rows_of (world_of s.shared) t)) p
+  searched_keeps (Chosen t n rest) s c target terms range p = searched_to_keeps s c target t (found terms range (rows_of (world_of s.shared) t)) p
+  searched_keeps (Holding rows) s c target terms range p = p
+  searched_keeps (Standing row rest) s c target terms range p = p
+
+  built_keeps : (s : State) (unique : Option (List ℕ)) (terms : List KeyTerm) (rows : List StoredRow) → P s.shared → P (shared_of (built s unique terms rows))
+  built_keeps s None terms rows p = p
+  built_keeps s (Some table) terms rows p = skip_if_keeps (not (has_doubles terms rows)) s (only (Constraint Unique table)) p
 
   advanced_to_keeps : (s : State) (c target t : ℕ) (r : Option StoredRow) → P s.shared → P (shared_of (advanced_to s c target t r))
   advanced_to_keeps s c target t None p = p
@@ -70,6 +101,8 @@ module _ (P : Shared → Type 0) (given : (x : Shared) (r : Row) → P x → P (
   advanced_keeps Closed s c target p = p
   advanced_keeps (Open t None) s c target p = p
   advanced_keeps (Open t (Some n)) s c target p = advanced_to_keeps s c target t (row_behind (rows_of (world_of s.shared) t) n) p
+  advanced_keeps (Chosen t n []) s c target p = p
+  advanced_keeps (Chosen t n (next ∷ rest)) s c target p = p
   advanced_keeps (Holding rows) s c target p = p
   advanced_keeps (Standing row []) s c target p = p
   advanced_keeps (Standing row (next ∷ rest)) s c target p = p
@@ -81,6 +114,7 @@ module _ (P : Shared → Type 0) (given : (x : Shared) (r : Row) → P x → P (
   inserted_keeps : (x : Cursor) (y : Shared) (r : StoredRow) → P y → P (record y { written = inserted x y.written r })
   inserted_keeps Closed y r p = p
   inserted_keeps (Open t place) y r p = row y t r p
+  inserted_keeps (Chosen t n rest) y r p = row y t r p
   inserted_keeps (Holding rows) y r p = p
   inserted_keeps (Standing at rest) y r p = p
 
@@ -106,6 +140,7 @@ module _ (P : Shared → Type 0) (given : (x : Shared) (r : Row) → P x → P (
   act_keeps m (Some (op.Variable k to)) s p = p
   act_keeps m (Some (op.Copy from to)) s p = p
   act_keeps m (Some (op.Affinity r affinity)) s p = p
+  act_keeps m (Some (op.Beside r other own)) s p = p
   act_keeps m (Some (op.MustBeInt r)) s p = skip_if_keeps (is_integer (read s.regs r)) s (only Mismatch) p
   act_keeps m (Some (op.Unary o a to)) s p = p
   act_keeps m (Some (op.Binary o a b to)) s p = p
@@ -119,12 +154,18 @@ module _ (P : Shared → Type 0) (given : (x : Shared) (r : Row) → P x → P (
   act_keeps m (Some (op.CloseFrom c)) s p = p
   act_keeps m (Some (op.Rewind c target)) s p = rewound_keeps (cursor_at s.scene.cursors c) s c target p
   act_keeps m (Some (op.Next c target)) s p = advanced_keeps (cursor_at s.scene.cursors c) s c target p
+  act_keeps m (Some (op.Search c terms bounds first target)) s p =
+      searched_keeps (cursor_at s.scene.cursors c) s c target terms (range_in s.regs first bounds) p
   act_keeps m (Some (op.Column c k to)) s p = p
   act_keeps m (Some (op.Rowid c to)) s p = p
+  act_keeps m (Some (op.NoConflict c rowid first n keys target)) s p =
+      conflicted_keeps (cursor_at s.scene.cursors c) s c target keys (row_in s.regs rowid first n) p
   act_keeps m (Some (op.NotExists c rowid target)) s p =
       jump_keeps (is_missing (cursor_rows (world_of s.shared) (cursor_at s.scene.cursors c)) (integer_in s.regs rowid)) s target p
   act_keeps m (Some (op.NewRowid c to name)) s p = drawn_keeps s to name (next_rowid (cursor_rows (world_of s.shared) (cursor_at s.scene.cursors c))) p
   act_keeps m (Some (op.Insert c rowid first n)) s p = inserted_keeps (cursor_at s.scene.cursors c) s.shared (row_in s.regs rowid first n) p
+  act_keeps m (Some (op.BuildIndex c terms unique)) s p =
+      built_keeps s unique terms (cursor_rows (world_of s.shared) (cursor_at s.scene.cursors c)) p
   act_keeps m (Some (op.Schema change)) s p = schema (s.shared, change) p
 
   go_on_keeps : (m : Setting) (n : ℕ) (x : Next) → ((s : State) → P s.shared → P (shared_of (after m n s))) → P (shared_of x) → P (shared_of (go_on x (after m n)))

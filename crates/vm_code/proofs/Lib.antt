@@ -25,14 +25,18 @@ pub mod Operands
 pub mod Fills
 -- Tests one after another, each of which may go to a label (`Sifts`: `sifts_then`):
 pub mod Sifting
--- A loop over the rows of a table, whose body does its work once for each row in their order (`t_loop`):
+-- A loop over the rows of a table, whose body does its work once for each row in their order (`t_loop`). It is a case of `t_rows`, and that of
+-- `t_turns`, a loop over whatever a cursor comes onto one after another:
 pub mod Loops
 -- A loop over rows that a cursor stands on, whose turns cost what they cost in the state that each of them finds, as those do whose bodies
 -- change the tables that later ones look at (`t_along`):
 pub mod Along
 -- What stands in front of a row that is put (`t_must_be_int`, `t_not_exists`), and a cursor on the row that registers hold (`t_row_of`; between it
--- and `Close` goes `st_opened`; `env_row_of`, `reads_row_of`, `reads_others`: what is read there):
+-- and `Close` goes `st_opened`; `env_row_of`, `reads_row_of`, `reads_others`: what is read there; `sees_moved`: what code goes by behind any move of a cursor):
 pub mod NewRows
+-- A loop over the rows that a search finds (`t_search`), and over those that it found, whatever becomes of the tables (`t_chosen`; `sees_chosen`: what
+-- code goes by on such a row); the building of indexes (`t_build_index`, `t_build_unique`):
+pub mod Searches
 -- Bodies that are left in their middle, and what stands behind them goes on (`caught_does`):
 pub mod Caught
 -- Calls of units that change what is shared (`t_work`):

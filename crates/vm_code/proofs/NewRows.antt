@@ -1,9 +1,12 @@
--- What stands in front of a row that is put: an integer is wanted, a rowid is looked for, and a cursor stands on the row that registers hold.
-use Rattle.std.proofs.Common.{◌≡◌, ◌≢◌, ℕ, zero, suc, ◌+◌, ◌<◌, List, [], ◌∷◌, length, map, not, ◌&&◌, nat_lt, true, false, Bool, Option, Some, None, ℤ, is_some, refl, sym, ap, ◌∙◌, subst, arith}
+-- What stands in front of a row that is put: an integer is wanted, a rowid or a row in the way is looked for, and a cursor stands on the row that registers hold.
+use Rattle.std.proofs.Common.{◌≡◌, ◌≢◌, ℕ, zero, suc, ◌+◌, ◌<◌, List, [], ◌∷◌, ◌++◌, cond, int_eq, slice_get, length, map, not, ◌&&◌, nat_lt, true, false, Bool, Option, Some, None, ℤ, is_some, refl, sym, ap, ◌∙◌, subst, arith}
 use Rattle.std.specs.Prelude.{slice_index_or, slice_set}
 use Rattle.std.proofs.lemmas.Bool.{lt-ltb}
 use Rattle.std.proofs.lemmas.List.{get_or-set_same, get_or-set_other, map-set, set-set, set-get_or}
 use Rattle.std.proofs.Math.ListN.{length-set}
+use Rattle.std.specs.List.{filter}
+use Rattle.eng_index.specs.Keys.{has_same_rowid, row_in_way, standing}
+use Rattle.eng_index.specs.declared.key_term.KeyTerm.{KeyTerm}
 use Rattle.eng_number.specs.Numbers.{fits_integer}
 use Rattle.eng_value.specs.Causes.{CauseSet, only}
 use Rattle.eng_value.specs.Environments.{column_of, row_at, table_row}
@@ -14,11 +17,11 @@ use Rattle.eng_value.specs.declared.out.Out.TheVariants.{Good, Bad}
 use Rattle.eng_value.specs.declared.value.Value.{Value}
 use Rattle.eng_value.specs.declared.value.Value.TheVariants.{Null, Integer, Text, Blob}
 use Rattle.vm_code.specs.declared.op.Op.{Op}
-use Rattle.vm_code.specs.declared.op.Op.TheVariants.{MustBeInt, NotExists, RowOf}
+use Rattle.vm_code.specs.declared.op.Op.TheVariants.{MustBeInt, NoConflict, NotExists, RowOf}
 use Rattle.vm_code.specs.Draft.{Draft, with_op}
-use Rattle.vm_code.specs.Machine.{World, rows_of, row_under, is_free, is_missing, Cursor, Closed, Open, State, Setting, On, GivesUp, act, skip_if, given_up, read, integer_in, is_integer, row_in, standing_on, current, cursor_at, cursor_rows, held, world_of, Reaches}
+use Rattle.vm_code.specs.Machine.{World, rows_of, row_under, is_free, is_missing, Cursor, Closed, Open, State, Setting, On, GivesUp, act, skip_if, given_up, read, integer_in, is_integer, row_in, standing_on, current, conflicted, conflicted_to, cursor_at, cursor_rows, held, world_of, Reaches}
 use Rattle.vm_code.specs.Frames.{placed, Holds, Here, here, Ready, environment_of, sight_of}
-use Rattle.vm_code.specs.Claims.{Claim, Labels, Last, Exits, on, ends, Triple}
+use Rattle.vm_code.specs.Claims.{Claim, Labels, Last, Exits, on, off, ends, Triple}
 use Rattle.vm_code.proofs.Drafts.{extends, g_op, at_op, long_op}
 use Rattle.vm_code.proofs.Loops.{moved}
 use Rattle.vm_code.proofs.Registers.{row_now}
@@ -104,6 +107,86 @@ t_not_exists m d c r l t g e p q opened jumps goes =
     seen h0 h pre b is =
         ap (λ x. is_missing (cursor_rows (world_of h.shared) x) (integer_in h.regs r)) (sym (opened h0 h pre).1) ∙ is
 
+-- ---- rows in the way
+
+none_under : (rows : List StoredRow) (r : StoredRow) → filter (has_same_rowid r) rows ≡ [] → row_under rows r.rowid ≡ None
+none_under [] r e = refl
+none_under (x ∷ xs) r e = by (int_eq x.rowid r.rowid) e (none_under xs r)
+  where
+    by : (b : Bool) → cond b (x ∷ filter (has_same_rowid r) xs) (filter (has_same_rowid r) xs) ≡ [] → (filter (has_same_rowid r) xs ≡ [] → row_under xs r.rowid ≡ None) → cond b (Some x) (row_under xs r.rowid) ≡ None
+    by true f others = absurd (cc)
+    by false f others = others f
+
+none_same : (rows : List StoredRow) (r : StoredRow) → row_under rows r.rowid ≡ None → filter (has_same_rowid r) rows ≡ []
+none_same [] r e = refl
+none_same (x ∷ xs) r e = by (int_eq x.rowid r.rowid) e (none_same xs r)
+  where
+    by : (b : Bool) → cond b (Some x) (row_under xs r.rowid) ≡ None → (row_under xs r.rowid ≡ None → filter (has_same_rowid r) xs ≡ []) → cond b (x ∷ filter (has_same_rowid r) xs) (filter (has_same_rowid r) xs) ≡ []
+    by true f others = absurd (cc)
+    by false f others = others f
+
+-- where none is in the way, no row has the rowid
+pub missing_unless_met : (keys : List (List KeyTerm)) (rows : List StoredRow) (r : StoredRow) → row_in_way keys rows r ≡ None → row_under rows r.rowid ≡ None
+missing_unless_met keys rows r e = none_under rows r (by (filter (has_same_rowid r) rows) _ e)
+  where
+    by : (xs ys : List StoredRow) → slice_get (xs ++ ys) 0 ≡ None → xs ≡ []
+    by [] ys f = refl
+    by (x ∷ xs) ys f = absurd (cc)
+
+-- of a table that is there, the rowid of a row is free where none stands in its way
+pub free_unless_met : (w : World) (t : ℕ) (keys : List (List KeyTerm)) (r : StoredRow) → t < length w → standing keys (rows_of w t) r ≡ [] → is_free w t r.rowid ≡ true
+free_unless_met w t keys r lt none =
+    free_if_none w t r.rowid lt (missing_unless_met keys (rows_of w t) r (ap (λ (l : List StoredRow). slice_get l 0) none))
+
+-- without keys, none is where no row has the rowid
+pub unmet_without_keys : (rows : List StoredRow) (r : StoredRow) → row_under rows r.rowid ≡ None → row_in_way [] rows r ≡ None
+unmet_without_keys rows r e = ap (λ (l : List StoredRow). slice_get (l ++ []) 0) (none_same rows r e)
+
+-- a jump where no row of a cursor's table is in the way of the one that registers hold; else the cursor comes onto the first that is
+pub t_no_conflict : (m : Setting) (d : Draft) (c r first n : ℕ) (keys : List (List KeyTerm)) (l t : ℕ) (g : Labels) (e : Last) (p q : Claim) → ((h0 h : Here) → p h0 h → (place : Option ℤ) × (cursor_at h.scene.cursors c ≡ Open t place)) → ((h0 h : Here) → p h0 h → row_in_way keys (rows_of (world_of h.shared) t) (row_in h.regs r first n) ≡ None → g l h0 h) → ((h0 h : Here) (x : StoredRow) → p h0 h → row_in_way keys (rows_of (world_of h.shared) t) (row_in h.regs r first n) ≡ Some x → q h0 (moved h c (Open t (Some x.rowid)))) → Triple m d (with_op d (NoConflict c r first n keys l)) (λ h0. 1) g e p q
+t_no_conflict m d c r first n keys l t g e p q opened jumps goes = record {
+  extends = extends (g_op d test);
+  runs = λ u at h h0 s room start pre. by u at h h0 s room start pre (in_way s) refl;
+}
+  where
+    test : Op
+    test = NoConflict c r first n keys l
+
+    in_way : State → Option StoredRow
+    in_way s = row_in_way keys (rows_of (world_of s.shared) t) (row_in s.regs r first n)
+
+    law : (at : ℕ → ℕ) (h0 : Here) (s : State) (o : Option StoredRow) → p h0 (here s) → in_way s ≡ o → act m (Some (placed at test)) s ≡ conflicted_to s c (at l) t o
+    law at h0 s o pre is =
+        ap (λ x. conflicted x s c (at l) keys (row_in s.regs r first n)) (opened h0 (here s) pre).1
+        ∙ ap (conflicted_to s c (at l) t) is
+
+    by : (u : ℕ) (at : ℕ → ℕ) → Holds (with_op d test) m.prog u at → (h0 : Here) (s : State) → Ready (with_op d test) u s → s.pc ≡ length d.code → p h0 (here s) → (o : Option StoredRow) → in_way s ≡ o → Exits m at 1 (λ k. g k h0) (e h0) s (length (with_op d test).code) (q h0)
+    by u at h h0 s room start pre None is =
+        off l (record {
+          regs = s.regs;
+          scene = s.scene;
+          store = s.store;
+          shared = s.shared;
+          way = reaches_op m s (record s { pc = at l }) u (length d.code) (placed at test) room.unit start (at_op d test m.prog u at h) (law at h0 s None pre is);
+          long = refl;
+          wide = refl;
+          holds = jumps h0 (here s) pre is;
+        })
+    by u at h h0 s room start pre (Some x) is =
+        let scene = record s.scene { cursors = slice_set s.scene.cursors c (Open t (Some x.rowid)) } in
+        let go = law at h0 s (Some x) pre is ∙ ap (λ k. On (record s { pc = k + 1; scene = scene })) start in
+        let way = reaches_op m s (record s { pc = length d.code + 1; scene = scene }) u (length d.code) (placed at test) room.unit start (at_op d test m.prog u at h) go in
+        on (record {
+          regs = s.regs;
+          scene = scene;
+          store = s.store;
+          shared = s.shared;
+          way = subst (λ k. Reaches m 1 s (record s { pc = k; scene = scene })) (sym (long_op d test)) way;
+          long = refl;
+          wide = length-set s.scene.cursors c (Open t (Some x.rowid));
+          holds = goes h0 (here s) x pre is;
+        })
+
 -- ---- a cursor on the row that registers hold
 
 -- the cursor stands there, and nothing else changes
@@ -144,14 +227,18 @@ pub env_row_of : (m : Setting) (h : Here) (c : ℕ) (r : StoredRow) → environm
 env_row_of m h c r =
     ap (λ l. record (environment_of m h) { rows = l }) (map-set (current (world_of h.shared)) h.scene.cursors c (standing_on r))
 
--- one that stands there holds no rows, as before
-held_row_of : (c : ℕ) (r : StoredRow) (cursors : List Cursor) → cursor_at cursors c ≡ Closed → map held (slice_set cursors c (standing_on r)) ≡ map held cursors
-held_row_of c r [] is = refl
-held_row_of zero r (x ∷ cursors) is = ap (λ y. held y ∷ map held cursors) (sym is)
-held_row_of (suc c) r (x ∷ cursors) is = ap (λ l. held x ∷ l) (held_row_of c r cursors is)
+-- a cursor that holds the same rows as before
+held_moved : (c : ℕ) (x : Cursor) (cursors : List Cursor) → held (cursor_at cursors c) ≡ held x → map held (slice_set cursors c x) ≡ map held cursors
+held_moved c x [] is = refl
+held_moved zero x (y ∷ cursors) is = ap (λ l. l ∷ map held cursors) (sym is)
+held_moved (suc c) x (y ∷ cursors) is = ap (λ l. held y ∷ l) (held_moved c x cursors is)
+
+-- what code goes by behind a move of a cursor to a row
+pub sees_moved : (m : Setting) (h : Here) (c : ℕ) (x : Cursor) → held (cursor_at h.scene.cursors c) ≡ held x → sight_of m (moved h c x) ≡ record (sight_of m h) { env = record (environment_of m h) { rows = slice_set (environment_of m h).rows c (current (world_of h.shared) x) } }
+sees_moved m h c x is =
+    ap (λ l. record (sight_of m (moved h c x)) { env = record (environment_of m h) { rows = l } }) (map-set (current (world_of h.shared)) h.scene.cursors c x)
+    ∙ ap (λ l. record (sight_of m h) { env = record (environment_of m h) { rows = slice_set (environment_of m h).rows c (current (world_of h.shared) x) }; held = l }) (held_moved c x h.scene.cursors is)
 
 -- what code goes by there, where the cursor was closed
 pub sees_row_of : (m : Setting) (h : Here) (c : ℕ) (r : StoredRow) → cursor_at h.scene.cursors c ≡ Closed → sight_of m (moved h c (standing_on r)) ≡ record (sight_of m h) { env = record (environment_of m h) { rows = slice_set (environment_of m h).rows c (table_row r) } }
-sees_row_of m h c r closed =
-    ap (λ v. record (sight_of m (moved h c (standing_on r))) { env = v }) (env_row_of m h c r)
-    ∙ ap (λ l. record (sight_of m h) { env = record (environment_of m h) { rows = slice_set (environment_of m h).rows c (table_row r) }; held = l }) (held_row_of c r h.scene.cursors closed)
+sees_row_of m h c r closed = sees_moved m h c (standing_on r) (ap held closed)

@@ -4,6 +4,9 @@ use Rattle.std.specs.Prelude.{replicate, slice_get, slice_set}
 use Rattle.std.specs.declared.option.Option.{Option}
 use Rattle.std.proofs.lemmas.Bool.{cases_lt, lt-ltb}
 use Rattle.std.proofs.lemmas.Option.{slice_get_within, get_or_from_slice_get}
+use Rattle.eng_index.specs.Keys.{found, has_doubles, row_in_way}
+use Rattle.eng_index.specs.declared.key_term.KeyTerm.{KeyTerm}
+use Rattle.eng_index.specs.declared.range.Range.{Range}
 use Rattle.eng_key.specs.Values.{value_keys}
 use Rattle.eng_value.specs.Applied.{binary_of, function_by, unary_of}
 use Rattle.eng_value.specs.Causes.{CauseSet, is_skip, named, only}
@@ -12,7 +15,8 @@ use Rattle.eng_value.specs.Comparisons.{like_escaped_of}
 use Rattle.eng_value.specs.Environments.{ItemRow, column_of}
 use Rattle.eng_value.specs.StoredRows.{StoredRow, next_rowid}
 use Rattle.eng_value.specs.Written.{Written}
-use Rattle.eng_value.specs.declared.cause.Cause.TheVariants.{Full, Mismatch}
+use Rattle.eng_value.specs.declared.cause.Cause.TheVariants.{Constraint, Full, Mismatch}
+use Rattle.eng_value.specs.declared.cause.ConstraintKind.TheVariants.{Unique}
 use Rattle.eng_value.specs.declared.out.Out.{Out}
 use Rattle.eng_value.specs.declared.out.Out.TheVariants.{Good}
 use Rattle.eng_value.specs.declared.value.Value.TheVariants.{Integer}
@@ -23,7 +27,7 @@ use Rattle.vm_code.specs.declared.operand.Operand.TheVariants as operand
 use Rattle.vm_code.specs.declared.program.Unit.{Unit}
 use Rattle.vm_code.specs.declared.schema_change.SchemaChange.{SchemaChange}
 use Rattle.vm_code.specs.declared.schema_change.SchemaChange.TheVariants.{AddTable, DropTable}
-use Rattle.vm_code.specs.Machine.{World, rows_of, row_under, row_behind, put_row, is_free, Cursor, Closed, Open, Holding, Standing, Frame, State, Ending, Finished, Failed, Leaving, Halts, GivesUp, Setting, Next, On, End, act, step, go_on, after, code_of, unit_at, read, put, skip, jump, operand_of, outs_from, integer_in, row_in, is_missing, is_integer, skip_if, standing_on, jump_if, is_accepted, is_rejected, is_null, is_known, is_bad, rewound, rewound_to, advanced, advanced_to, drawn, with_row, with_schema, with_cursor, with_cursors, inserted, wrote, called, frame_of, returned, resumed, given_up, leads_to, leaving_of, closed_from, current, cursor_at, cursor_rows, row_read, world_of}
+use Rattle.vm_code.specs.Machine.{World, rows_of, row_under, row_behind, put_row, is_free, Cursor, Closed, Open, Chosen, Holding, Standing, Frame, State, Ending, Finished, Failed, Leaving, Halts, GivesUp, Setting, Next, On, End, act, step, go_on, after, code_of, unit_at, read, put, skip, jump, operand_of, outs_from, integer_in, row_in, is_missing, is_integer, skip_if, standing_on, jump_if, is_accepted, is_rejected, is_null, is_known, is_bad, range_in, rewound, rewound_to, rowids_of, searched, searched_to, conflicted, conflicted_to, built, advanced, advanced_to, drawn, with_row, with_schema, with_cursor, with_cursors, inserted, wrote, called, frame_of, returned, resumed, given_up, leads_to, leaving_of, closed_from, current, cursor_at, cursor_rows, row_read, world_of}
 use Rattle.vm_code.proofs.Drafts.{get-append, get-set, get-set_other}
 use Rattle.vm_code.proofs.Rows.{All-cons, All-head, All-tail}
 use Rattle.vm_code.specs.Reading.{opened_by, OpensOnly, IsIn, AreIn, StaysIn, Agree, shared_over, over, Alike}
@@ -115,12 +119,14 @@ module _ (tables : List ℕ) where
     current_alike Closed inside = refl
     current_alike (Open t None) inside = refl
     current_alike (Open t (Some n)) inside = ap (λ rows. row_read (row_under rows n)) (sym (agree_rows w v t inside same))
+    current_alike (Chosen t n rest) inside = ap (λ rows. row_read (row_under rows n)) (sym (agree_rows w v t inside same))
     current_alike (Holding rows) inside = refl
     current_alike (Standing row rest) inside = refl
 
     cursor_rows_alike : (x : Cursor) → IsIn tables x → cursor_rows v x ≡ cursor_rows w x
     cursor_rows_alike Closed inside = refl
     cursor_rows_alike (Open t place) inside = sym (agree_rows w v t inside same)
+    cursor_rows_alike (Chosen t n rest) inside = sym (agree_rows w v t inside same)
     cursor_rows_alike (Holding rows) inside = refl
     cursor_rows_alike (Standing row rest) inside = refl
 
@@ -144,8 +150,40 @@ module _ (tables : List ℕ) where
     rewound_alike Closed c target inside = jump_alike target
     rewound_alike (Open t place) c target inside =
         subst (λ rows. Alike tables (rewound_to s c target t (rows_of w t)) (rewound_to (over v s) c target t rows)) (agree_rows w v t inside same) (rewound_to_alike c target t (rows_of w t) inside)
+    rewound_alike (Chosen t n rest) c target inside =
+        subst (λ rows. Alike tables (rewound_to s c target t (rows_of w t)) (rewound_to (over v s) c target t rows)) (agree_rows w v t inside same) (rewound_to_alike c target t (rows_of w t) inside)
     rewound_alike (Holding rows) c target inside = jump_alike target
     rewound_alike (Standing row rest) c target inside = jump_alike target
+
+    searched_to_alike : (c target t : ℕ) (rows : List StoredRow) → Contains tables t → Alike tables (searched_to s c target t rows) (searched_to (over v s) c target t rows)
+    searched_to_alike c target t [] inside = move_alike target c (Open t None) inside
+    searched_to_alike c target t (r ∷ rs) inside = move_alike (s.pc + 1) c (Chosen t r.rowid (rowids_of rs)) inside
+
+    table_searched_alike : (c target t : ℕ) (terms : List KeyTerm) (range : Range) → Contains tables t → Alike tables (searched_to s c target t (found terms range (rows_of w t))) (searched_to (over v s) c target t (found terms range (rows_of v t)))
+    table_searched_alike c target t terms range inside =
+        subst (λ rows. Alike tables (searched_to s c target t (found terms range (rows_of w t))) (searched_to (over v s) c target t (found terms range rows))) (agree_rows w v t inside same) (searched_to_alike c target t (found terms range (rows_of w t)) inside)
+
+    conflicted_to_alike : (c target t : ℕ) (o : Option StoredRow) → Contains tables t → Alike tables (conflicted_to s c target t o) (conflicted_to (over v s) c target t o)
+    conflicted_to_alike c target t None inside = jump_alike target
+    conflicted_to_alike c target t (Some r) inside = move_alike (s.pc + 1) c (Open t (Some r.rowid)) inside
+
+    table_conflicted_alike : (c target t : ℕ) (keys : List (List KeyTerm)) (row : StoredRow) → Contains tables t → Alike tables (conflicted_to s c target t (row_in_way keys (rows_of w t) row)) (conflicted_to (over v s) c target t (row_in_way keys (rows_of v t) row))
+    table_conflicted_alike c target t keys row inside =
+        subst (λ rows. Alike tables (conflicted_to s c target t (row_in_way keys (rows_of w t) row)) (conflicted_to (over v s) c target t (row_in_way keys rows row))) (agree_rows w v t inside same) (conflicted_to_alike c target t (row_in_way keys (rows_of w t) row) inside)
+
+    conflicted_alike : (x : Cursor) (c target : ℕ) (keys : List (List KeyTerm)) (row : StoredRow) → IsIn tables x → Alike tables (conflicted x s c target keys row) (conflicted x (over v s) c target keys row)
+    conflicted_alike Closed c target keys row inside = jump_alike target
+    conflicted_alike (Open t place) c target keys row inside = table_conflicted_alike c target t keys row inside
+    conflicted_alike (Chosen t n rest) c target keys row inside = table_conflicted_alike c target t keys row inside
+    conflicted_alike (Holding rows) c target keys row inside = jump_alike target
+    conflicted_alike (Standing x rest) c target keys row inside = jump_alike target
+
+    searched_alike : (x : Cursor) (c target : ℕ) (terms : List KeyTerm) (range : Range) → IsIn tables x → Alike tables (searched x s c target terms range) (searched x (over v s) c target terms range)
+    searched_alike Closed c target terms range inside = jump_alike target
+    searched_alike (Open t place) c target terms range inside = table_searched_alike c target t terms range inside
+    searched_alike (Chosen t n rest) c target terms range inside = table_searched_alike c target t terms range inside
+    searched_alike (Holding rows) c target terms range inside = jump_alike target
+    searched_alike (Standing row rest) c target terms range inside = jump_alike target
 
     advanced_to_alike : (c target t : ℕ) (r : Option StoredRow) → Contains tables t → Alike tables (advanced_to s c target t r) (advanced_to (over v s) c target t r)
     advanced_to_alike c target t None inside = move_alike (s.pc + 1) c (Open t None) inside
@@ -156,6 +194,8 @@ module _ (tables : List ℕ) where
     advanced_alike (Open t None) c target inside = skip_alike
     advanced_alike (Open t (Some n)) c target inside =
         subst (λ rows. Alike tables (advanced_to s c target t (row_behind (rows_of w t) n)) (advanced_to (over v s) c target t (row_behind rows n))) (agree_rows w v t inside same) (advanced_to_alike c target t (row_behind (rows_of w t) n) inside)
+    advanced_alike (Chosen t n []) c target inside = move_alike (s.pc + 1) c (Open t None) inside
+    advanced_alike (Chosen t n (next ∷ rest)) c target inside = move_alike target c (Chosen t next rest) inside
     advanced_alike (Holding rows) c target inside = skip_alike
     advanced_alike (Standing row []) c target inside = move_alike (s.pc + 1) c Closed tt
     advanced_alike (Standing row (next ∷ rest)) c target inside = move_alike target c (Standing next rest) tt
@@ -180,6 +220,10 @@ module _ (tables : List ℕ) where
     skip_if_alike : (b : Bool) (causes : CauseSet) → Alike tables (skip_if b s causes) (skip_if b (over v s) causes)
     skip_if_alike true causes = skip_alike
     skip_if_alike false causes = given_up_alike s.stack causes refl
+
+    built_alike : (unique : Option (List ℕ)) (terms : List KeyTerm) (rows : List StoredRow) → Alike tables (built s unique terms rows) (built (over v s) unique terms rows)
+    built_alike None terms rows = skip_alike
+    built_alike (Some table) terms rows = skip_if_alike (not (has_doubles terms rows)) (only (Constraint Unique table))
 
     leads_to_alike : (o : Leaving) → Alike tables (leads_to o s.stack s.shared) (leads_to o s.stack (shared_over v s.shared))
     leads_to_alike Halts = end_alike Finished
@@ -224,6 +268,7 @@ module _ (tables : List ℕ) where
     inserted_alike : (x : Cursor) (r : StoredRow) → IsIn tables x → Alike tables (wrote s (inserted x s.shared.written r)) (wrote (over v s) (inserted x (record s.shared.written { world = v }) r))
     inserted_alike Closed r inside = wrote_alike s.shared.written v same
     inserted_alike (Open t place) r inside = with_row_alike t r inside
+    inserted_alike (Chosen t n rest) r inside = with_row_alike t r inside
     inserted_alike (Holding rows) r inside = wrote_alike s.shared.written v same
     inserted_alike (Standing row rest) r inside = wrote_alike s.shared.written v same
 
@@ -253,6 +298,7 @@ module _ (tables : List ℕ) where
     act_alike (op.Variable k to) opens = put_alike to _ _ refl
     act_alike (op.Copy from to) opens = put_alike to _ _ refl
     act_alike (op.Affinity r affinity) opens = put_alike r _ _ refl
+    act_alike (op.Beside r other own) opens = put_alike r _ _ refl
     act_alike (op.MustBeInt r) opens = skip_if_alike (is_integer (read s.regs r)) (only Mismatch)
     act_alike (op.Unary o a to) opens = put_alike to _ _ (ap (unary_of o) (operand_alike a))
     act_alike (op.Binary o a b to) opens =
@@ -269,16 +315,22 @@ module _ (tables : List ℕ) where
     act_alike (op.CloseFrom c) opens = cursors_alike (s.pc + 1) (closed_from c s.scene.cursors) (closed_from_in c s.scene.cursors stays.cursors)
     act_alike (op.Rewind c target) opens = rewound_alike (cursor_at s.scene.cursors c) c target (stays.cursors c)
     act_alike (op.Next c target) opens = advanced_alike (cursor_at s.scene.cursors c) c target (stays.cursors c)
+    act_alike (op.Search c terms bounds first target) opens =
+        searched_alike (cursor_at s.scene.cursors c) c target terms (range_in s.regs first bounds) (stays.cursors c)
     act_alike (op.Column c k to) opens =
         put_alike to _ _ (ap (λ row. column_of row k) (current_alike (cursor_at s.scene.cursors c) (stays.cursors c)))
     act_alike (op.Rowid c to) opens =
         put_alike to _ _ (ap (λ (row : ItemRow). row.rowid) (current_alike (cursor_at s.scene.cursors c) (stays.cursors c)))
+    act_alike (op.NoConflict c rowid first n keys target) opens =
+        conflicted_alike (cursor_at s.scene.cursors c) c target keys (row_in s.regs rowid first n) (stays.cursors c)
     act_alike (op.NotExists c rowid target) opens =
         subst (λ rows. Alike tables (jump_if (is_missing (cursor_rows w (cursor_at s.scene.cursors c)) (integer_in s.regs rowid)) s target) (jump_if (is_missing rows (integer_in s.regs rowid)) (over v s) target)) (sym (cursor_rows_alike (cursor_at s.scene.cursors c) (stays.cursors c))) (jump_if_alike (is_missing (cursor_rows w (cursor_at s.scene.cursors c)) (integer_in s.regs rowid)) target)
     act_alike (op.NewRowid c to name) opens =
         subst (λ rows. Alike tables (drawn s to name (next_rowid (cursor_rows w (cursor_at s.scene.cursors c)))) (drawn (over v s) to name (next_rowid rows))) (sym (cursor_rows_alike (cursor_at s.scene.cursors c) (stays.cursors c))) (drawn_alike to name (next_rowid (cursor_rows w (cursor_at s.scene.cursors c))))
     act_alike (op.Insert c rowid first n) opens =
         inserted_alike (cursor_at s.scene.cursors c) (row_in s.regs rowid first n) (stays.cursors c)
+    act_alike (op.BuildIndex c terms unique) opens =
+        subst (λ rows. Alike tables (built s unique terms (cursor_rows w (cursor_at s.scene.cursors c))) (built (over v s) unique terms rows)) (sym (cursor_rows_alike (cursor_at s.scene.cursors c) (stays.cursors c))) (built_alike unique terms (cursor_rows w (cursor_at s.scene.cursors c)))
     act_alike (op.Schema change) opens = schema_alike change
 
     step_alike : OpensOnly tables m.prog → Alike tables (step m s) (step m (over v s))

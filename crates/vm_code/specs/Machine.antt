@@ -1,12 +1,18 @@
 -- The machine over lists: what a program does with tables that are lists of rows.
-use Rattle.std.specs.Prelude.{◌≡◌, ℕ, zero, suc, ◌+◌, ◌≤◌, length, Bool, true, false, not, ◌&&◌, List, [], ◌∷◌, ◌++◌, ℤ, pos, int_lt, nat_lt, map, replicate, Result, Some, None, All, is_some, if◌then◌else◌, slice_get, slice_index_or, slice_set}
+use Rattle.std.specs.Prelude.{◌≡◌, ℕ, zero, suc, ◌+◌, ◌≤◌, length, Bool, true, false, not, ◌&&◌, List, [], ◌∷◌, ◌++◌, ℤ, pos, int_lt, nat_lt, map, replicate, Result, Some, None, All, refl, is_some, if◌then◌else◌, slice_get, slice_index_or, slice_set}
 use Rattle.std.specs.List.{find}
-use Rattle.std.specs.Ordering.{int_eq}
 use Rattle.std.specs.declared.option.Option.{Option}
+use Rattle.eng_index.specs.Keys.{found, has_doubles, row_in_way}
+pub use Rattle.eng_index.specs.Stored.{put_row, row_under, rowids_of}
+use Rattle.eng_index.specs.declared.key_term.KeyTerm.{KeyTerm}
+use Rattle.eng_index.specs.declared.range.Bounds.{Bounds}
+use Rattle.eng_index.specs.declared.range.Edge.TheVariants.{Included, Excluded}
+use Rattle.eng_index.specs.declared.range.Range.{Range}
+use Rattle.eng_index.specs.Searching.{bound_count, range_of}
 use Rattle.eng_key.specs.Values.{value_keys}
 use Rattle.eng_number.specs.Numbers.{fits_integer}
 use Rattle.eng_value.specs.Applied.{unary_of, binary_of, function_by, merged}
-use Rattle.eng_value.specs.Casts.{store_as}
+use Rattle.eng_value.specs.Casts.{beside, store_as}
 use Rattle.eng_value.specs.Causes.{CauseSet, is_skip, named, only}
 use Rattle.eng_value.specs.Collations.{keys_of}
 use Rattle.eng_value.specs.Comparisons.{like_escaped_of}
@@ -17,7 +23,8 @@ use Rattle.eng_value.specs.Outs.{bad, turned}
 use Rattle.eng_value.specs.Truths.{truth_in, truth_of}
 use Rattle.eng_value.specs.StoredRows.{StoredRow, IsAscending, next_rowid}
 use Rattle.eng_value.specs.Written.{Written, unwritten}
-use Rattle.eng_value.specs.declared.cause.Cause.TheVariants.{Full, Mismatch}
+use Rattle.eng_value.specs.declared.cause.Cause.TheVariants.{Constraint, Full, Mismatch}
+use Rattle.eng_value.specs.declared.cause.ConstraintKind.TheVariants.{Unique}
 use Rattle.eng_value.specs.declared.out.Out.{Out}
 use Rattle.eng_value.specs.declared.out.Out.TheVariants.{Good, Bad}
 use Rattle.eng_value.specs.declared.truth.Truth.{Truth}
@@ -50,10 +57,6 @@ pub record IsSound (w : World) : Type 0 where
 abbrev pub rows_of : World → ℕ → List StoredRow
 rows_of w table = slice_index_or w table []
 
--- the row of this rowid
-abbrev pub row_under : List StoredRow → ℤ → Option StoredRow
-row_under rows rowid = find (λ r. int_eq r.rowid rowid) rows
-
 -- there is none
 abbrev pub is_missing : List StoredRow → ℤ → Bool
 is_missing rows rowid = not (is_some (row_under rows rowid))
@@ -62,21 +65,17 @@ is_missing rows rowid = not (is_some (row_under rows rowid))
 abbrev pub row_behind : List StoredRow → ℤ → Option StoredRow
 row_behind rows rowid = find (λ r. int_lt rowid r.rowid) rows
 
--- the row in front of the first of a greater rowid
-abbrev pub put_row : List StoredRow → StoredRow → List StoredRow
-put_row [] r = r ∷ []
-put_row (x ∷ xs) r = if int_lt r.rowid x.rowid then r ∷ x ∷ xs else x ∷ put_row xs r
-
 -- there is the table, and it has no row of this rowid
 abbrev pub is_free : World → ℕ → ℤ → Bool
 is_free w table rowid = nat_lt table (length w) && is_missing (rows_of w table) rowid
 
 -- ---- cursors
 
--- closed; open on a table, and there on the row of a rowid or on none; holding rows for others to walk; or standing on a row that is no table's, with the rows behind it
+-- closed; open on a table, and there on the row of a rowid or on none; on a row of a table that was chosen with others, with the rowids of those behind it; holding rows for others to walk; or standing on a row that is no table's, with the rows behind it
 pub data Cursor : Type 0 where
   Closed : Cursor
   Open : ℕ → Option ℤ → Cursor
+  Chosen : ℕ → ℤ → List ℤ → Cursor
   Holding : List ItemRow → Cursor
   Standing : ItemRow → List ItemRow → Cursor
 
@@ -90,6 +89,7 @@ abbrev pub current : World → Cursor → ItemRow
 current w Closed = null_row
 current w (Open table None) = null_row
 current w (Open table (Some rowid)) = row_read (row_under (rows_of w table) rowid)
+current w (Chosen table rowid rest) = row_read (row_under (rows_of w table) rowid)
 current w (Holding rows) = null_row
 current w (Standing row rest) = row
 
@@ -97,6 +97,7 @@ current w (Standing row rest) = row
 abbrev pub cursor_rows : World → Cursor → List StoredRow
 cursor_rows w Closed = []
 cursor_rows w (Open table place) = rows_of w table
+cursor_rows w (Chosen table rowid rest) = rows_of w table
 cursor_rows w (Holding rows) = []
 cursor_rows w (Standing row rest) = []
 
@@ -104,6 +105,7 @@ cursor_rows w (Standing row rest) = []
 abbrev pub held : Cursor → List ItemRow
 held Closed = []
 held (Open table place) = []
+held (Chosen table rowid rest) = []
 held (Holding rows) = rows
 held (Standing row rest) = []
 
@@ -302,6 +304,14 @@ integer_in regs r = integer_of (good_or_null (read regs r))
 abbrev pub row_in : List Out → ℕ → ℕ → ℕ → StoredRow
 row_in regs rowid first n = record { rowid = integer_in regs rowid; values = values_from regs first n }
 
+-- what a search looks for, by the registers from one on
+abbrev pub range_in : List Out → ℕ → Bounds → Range
+range_in regs first bounds = range_of bounds (outs_from regs first (bound_count bounds))
+
+-- three registers behind the first: a value, and two limits of which the second is not known
+registers_bound : (c : CauseSet) → range_in (Good Null ∷ Good (Integer (pos 4)) ∷ Good (Integer (pos 5)) ∷ Bad c ∷ Good (Integer (pos 7)) ∷ []) 1 (record { equal = 1; lower = Some Included; upper = Some Excluded }) ≡ record { equal = Integer (pos 4) ∷ []; lower = Some (record { value = Integer (pos 5); edge = Included }); upper = None }
+registers_bound c = refl
+
 abbrev pub with_cursors : State → List Cursor → State
 with_cursors s cursors = record s { scene = record s.scene { cursors = cursors } }
 
@@ -316,8 +326,21 @@ rewound_to s c target table (r ∷ rs) = skip (with_cursor s c (Open table (Some
 abbrev pub rewound : Cursor → State → ℕ → ℕ → Next
 rewound Closed s c target = jump s target
 rewound (Open table place) s c target = rewound_to s c target table (rows_of (world_of s.shared) table)
+rewound (Chosen table rowid rest) s c target = rewound_to s c target table (rows_of (world_of s.shared) table)
 rewound (Holding rows) s c target = jump s target
 rewound (Standing row rest) s c target = jump s target
+
+-- on the first of the rows that are found, with the others behind it
+abbrev pub searched_to : State → ℕ → ℕ → ℕ → List StoredRow → Next
+searched_to s c target table [] = jump (with_cursor s c (Open table None)) target
+searched_to s c target table (r ∷ rs) = skip (with_cursor s c (Chosen table r.rowid (rowids_of rs)))
+
+abbrev pub searched : Cursor → State → ℕ → ℕ → List KeyTerm → Range → Next
+searched Closed s c target terms range = jump s target
+searched (Open table place) s c target terms range = searched_to s c target table (found terms range (rows_of (world_of s.shared) table))
+searched (Chosen table rowid rest) s c target terms range = searched_to s c target table (found terms range (rows_of (world_of s.shared) table))
+searched (Holding rows) s c target terms range = jump s target
+searched (Standing row rest) s c target terms range = jump s target
 
 -- on the row behind its own
 abbrev pub advanced_to : State → ℕ → ℕ → ℕ → Option StoredRow → Next
@@ -328,9 +351,23 @@ abbrev pub advanced : Cursor → State → ℕ → ℕ → Next
 advanced Closed s c target = skip s
 advanced (Open table None) s c target = skip s
 advanced (Open table (Some rowid)) s c target = advanced_to s c target table (row_behind (rows_of (world_of s.shared) table) rowid)
+advanced (Chosen table rowid []) s c target = skip (with_cursor s c (Open table None))
+advanced (Chosen table rowid (next ∷ rest)) s c target = jump (with_cursor s c (Chosen table next rest)) target
 advanced (Holding rows) s c target = skip s
 advanced (Standing row []) s c target = skip (with_cursor s c Closed)
 advanced (Standing row (next ∷ rest)) s c target = jump (with_cursor s c (Standing next rest)) target
+
+-- where no row is in the way of one that is to come it jumps, and else it goes on, on the first that is
+abbrev pub conflicted_to : State → ℕ → ℕ → ℕ → Option StoredRow → Next
+conflicted_to s c target table None = jump s target
+conflicted_to s c target table (Some r) = skip (with_cursor s c (Open table (Some r.rowid)))
+
+abbrev pub conflicted : Cursor → State → ℕ → ℕ → List (List KeyTerm) → StoredRow → Next
+conflicted Closed s c target keys row = jump s target
+conflicted (Open table place) s c target keys row = conflicted_to s c target table (row_in_way keys (rows_of (world_of s.shared) table) row)
+conflicted (Chosen table rowid rest) s c target keys row = conflicted_to s c target table (row_in_way keys (rows_of (world_of s.shared) table) row)
+conflicted (Holding rows) s c target keys row = jump s target
+conflicted (Standing row rest) s c target keys new = jump s target
 
 -- what an operand reads
 abbrev pub operand_in : Setting → List Out → Inputs → Scene → Shared → Operand → Out
@@ -354,6 +391,7 @@ with_row x table r =
 abbrev pub inserted : Cursor → Written → StoredRow → Written
 inserted Closed x r = x
 inserted (Open table place) x r = with_row x table r
+inserted (Chosen table rowid rest) x r = with_row x table r
 inserted (Holding rows) x r = x
 inserted (Standing row rest) x r = x
 
@@ -453,6 +491,11 @@ abbrev pub drawn : State → ℕ → List ℕ → Option ℤ → Next
 drawn s r table None = given_up s.stack s.shared (only (Full table))
 drawn s r table (Some rowid) = put s r (Good (Integer rowid))
 
+-- whether an index may be built of rows: a unique one, for which a table is named, of rows without doubles alone
+abbrev pub built : State → Option (List ℕ) → List KeyTerm → List StoredRow → Next
+built s None terms rows = skip s
+built s (Some table) terms rows = skip_if (not (has_doubles terms rows)) s (only (Constraint Unique table))
+
 -- on a row that is no table's, with none behind it
 abbrev pub standing_on : StoredRow → Cursor
 standing_on r = Standing (table_row r) []
@@ -481,6 +524,7 @@ act m (Some (op.Bad cause to)) s = put s to (bad cause)
 act m (Some (op.Variable k to)) s = put s to (parameter_at m.params k)
 act m (Some (op.Copy from to)) s = put s to (read s.regs from)
 act m (Some (op.Affinity r affinity)) s = put s r (turned (store_as affinity) (read s.regs r))
+act m (Some (op.Beside r other own)) s = put s r (turned (λ v. Good (beside other own v)) (read s.regs r))
 act m (Some (op.MustBeInt r)) s = skip_if (is_integer (read s.regs r)) s (only Mismatch)
 act m (Some (op.Unary o a to)) s = put s to (unary_of o (operand_of m s a))
 act m (Some (op.Binary o a b to)) s = put s to (binary_of (keys_of m.hosts) o (operand_of m s a) (operand_of m s b))
@@ -494,11 +538,14 @@ act m (Some (op.Close c)) s = skip (with_cursor s c Closed)
 act m (Some (op.CloseFrom c)) s = skip (with_cursors s (closed_from c s.scene.cursors))
 act m (Some (op.Rewind c target)) s = rewound (cursor_at s.scene.cursors c) s c target
 act m (Some (op.Next c target)) s = advanced (cursor_at s.scene.cursors c) s c target
+act m (Some (op.Search c terms bounds first target)) s = searched (cursor_at s.scene.cursors c) s c target terms (range_in s.regs first bounds)
 act m (Some (op.Column c k to)) s = put s to (column_of (current (world_of s.shared) (cursor_at s.scene.cursors c)) k)
 act m (Some (op.Rowid c to)) s = put s to (current (world_of s.shared) (cursor_at s.scene.cursors c)).rowid
+act m (Some (op.NoConflict c rowid first n keys target)) s = conflicted (cursor_at s.scene.cursors c) s c target keys (row_in s.regs rowid first n)
 act m (Some (op.NotExists c rowid target)) s = jump_if (is_missing (cursor_rows (world_of s.shared) (cursor_at s.scene.cursors c)) (integer_in s.regs rowid)) s target
 act m (Some (op.NewRowid c to table)) s = drawn s to table (next_rowid (cursor_rows (world_of s.shared) (cursor_at s.scene.cursors c)))
 act m (Some (op.Insert c rowid first n)) s = wrote s (inserted (cursor_at s.scene.cursors c) s.shared.written (row_in s.regs rowid first n))
+act m (Some (op.BuildIndex c terms unique)) s = built s unique terms (cursor_rows (world_of s.shared) (cursor_at s.scene.cursors c))
 act m (Some (op.Schema change)) s = wrote s (with_schema change s.shared.written)
 
 -- ---- runs
@@ -551,4 +598,10 @@ pub record Run : Type 0 where
 abbrev pub Performs : Program → (Surroundings → ℤ → Run) → (Surroundings → ℕ) → Type 0
 Performs p run most =
     (x : Surroundings) (last_rowid : ℤ) → IsSound x.world
+    → Ends (setting x.hosts x.ask x.params p) (most x) (start p x.world last_rowid) (run x last_rowid).ending (run x last_rowid).shared
+
+-- the same, where the parameters are these
+abbrev pub PerformsWith : List Value → Program → (Surroundings → ℤ → Run) → (Surroundings → ℕ) → Type 0
+PerformsWith params p run most =
+    (x : Surroundings) (last_rowid : ℤ) → x.params ≡ params → IsSound x.world
     → Ends (setting x.hosts x.ask x.params p) (most x) (start p x.world last_rowid) (run x last_rowid).ending (run x last_rowid).shared

@@ -39,7 +39,9 @@ way_of (op.Close c) = way.Closes c
 way_of (op.CloseFrom c) = way.ClosesFrom c
 way_of (op.Rewind c target) = way.Forks target
 way_of (op.Next c target) = way.Forks target
+way_of (op.Search c terms bounds first target) = way.Forks target
 way_of (op.NotExists c rowid target) = way.Forks target
+way_of (op.NoConflict c rowid first n keys target) = way.Forks target
 way_of other = way.Continues
 
 -- the cursors that an instruction moves, closes or writes by, or whose table it looks at
@@ -47,9 +49,12 @@ abbrev pub used_by : Op → List ℕ
 used_by (op.Close c) = c ∷ []
 used_by (op.Rewind c target) = c ∷ []
 used_by (op.Next c target) = c ∷ []
+used_by (op.Search c terms bounds first target) = c ∷ []
 used_by (op.NotExists c rowid target) = c ∷ []
+used_by (op.NoConflict c rowid first n keys target) = c ∷ []
 used_by (op.NewRowid c to table) = c ∷ []
 used_by (op.Insert c rowid first n) = c ∷ []
+used_by (op.BuildIndex c terms unique) = c ∷ []
 used_by other = []
 
 -- what is open behind an instruction, if it goes on there

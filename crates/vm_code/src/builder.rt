@@ -267,7 +267,9 @@ fn place_op(op: &mut Op, labels: &[Option<usize>])
         Op::IsBad { target, .. } => *target = place(labels, *target),
         Op::Rewind { target, .. } => *target = place(labels, *target),
         Op::Next { target, .. } => *target = place(labels, *target),
+        Op::Search { target, .. } => *target = place(labels, *target),
         Op::NotExists { target, .. } => *target = place(labels, *target),
+        Op::NoConflict { target, .. } => *target = place(labels, *target),
         _ => {}
     }
 }

@@ -1,5 +1,6 @@
 // The instructions.
 use crate::{Operand, SchemaChange};
+use eng_index::{Bounds, KeyTerm};
 use eng_value::{Affinity, BinaryOperator, Blob, Builtin, Cause, Collation, Text, UnaryOperator};
 use sqlite_items::Items;
 
@@ -117,6 +118,13 @@ pub enum Op {
         register: u32,
         affinity: Affinity,
     },
+    /// r[`register`] (p1) becomes what a comparison takes it for whose side has the affinity `own` beside one of the affinity `other` (Datatypes
+    /// In SQLite, section 4.2), as the value that a search goes by. What is bad stays as it is.
+    Beside {
+        register: u32,
+        other: Affinity,
+        own: Affinity,
+    },
     /// Goes on where r[`register`] (p1) holds an integer. Else the unit gives up for `Mismatch`, also where the register is bad.
     MustBeInt {
         register: u32,
@@ -191,6 +199,18 @@ pub enum Op {
         cursor: u32,
         target: usize,
     },
+    /// Searches the cursor's (p1) table by the terms of a key (p4), as an index does: the cursor comes to the first row that is found, and `Next`
+    /// leads through the others in the order of their rowids, which are fixed from now on. Jumps to `target` (p2) where no row is found, with
+    /// the cursor on none; and where the cursor is open on no table. What rows must have is in the registers from `first` (p3) on: as many
+    /// values as `bounds` says for the first terms, then the lower limit of the next term where there is one, then the upper limit where
+    /// there is one. The first of them that is bad, and those behind it, bound nothing.
+    Search {
+        cursor: u32,
+        terms: Items<KeyTerm>,
+        bounds: Bounds,
+        first: u32,
+        target: usize,
+    },
     /// r[`to`] (p3) is the column of number `column` (p2) of the cursor's (p1) row.
     Column {
         cursor: u32,
@@ -209,6 +229,18 @@ pub enum Op {
         rowid: u32,
         target: usize,
     },
+    /// Jumps to `target` (p2) where no row of the cursor's (p1) table is in the way of the row that is the `count` registers from `first` (p3)
+    /// on under the rowid in r[`rowid`]: none has that rowid, and none is equal to it in all terms of one of the `keys` (p4), of which none is
+    /// NULL. Else it goes on, with the cursor on the first row in the way: that of the rowid, or that of the first such key. A cursor that is
+    /// open on no table has no row.
+    NoConflict {
+        cursor: u32,
+        rowid: u32,
+        first: u32,
+        count: u32,
+        keys: Items<Items<KeyTerm>>,
+        target: usize,
+    },
     /// r[`to`] (p2) is the rowid behind the last of the cursor's (p1) table. Where there is none the unit gives up for `Full`, which
     /// names the table (p4).
     NewRowid {
@@ -223,6 +255,13 @@ pub enum Op {
         rowid: u32,
         first: u32,
         count: u32,
+    },
+    /// Builds an index of the cursor's (p1) table by the terms of a key (p4). Where `unique` (p5) names the table and two of its rows are equal in
+    /// all terms, none of which is NULL, the unit gives up for `Constraint`, which names the table. Else nothing changes that an instruction reads.
+    BuildIndex {
+        cursor: u32,
+        terms: Items<KeyTerm>,
+        unique: Option<Text>,
     },
     /// Changes which tables there are as `change` (p4) says: adds one without rows behind the others, or takes all rows from one. What
     /// the catalog keeps of them is the engine's own work. It counts no row as changed.

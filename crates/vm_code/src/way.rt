@@ -45,7 +45,9 @@ pub(crate) fn way_of(op: &Op) -> Way
         Op::CloseFrom { cursor } => Way::ClosesFrom(*cursor),
         Op::Rewind { target, .. } => Way::Forks(*target),
         Op::Next { target, .. } => Way::Forks(*target),
+        Op::Search { target, .. } => Way::Forks(*target),
         Op::NotExists { target, .. } => Way::Forks(*target),
+        Op::NoConflict { target, .. } => Way::Forks(*target),
         _ => Way::Continues,
     }
 }

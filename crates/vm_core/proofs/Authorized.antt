@@ -64,6 +64,7 @@ module _ (told : Option (Option (Action → Verdict))) (ask : Oracle) (params : 
   op_beside s (op.Variable k to) = refl
   op_beside s (op.Copy from to) = refl
   op_beside s (op.Affinity r affinity) = refl
+  op_beside s (op.Beside r other own) = refl
   op_beside s (op.MustBeInt r) = refl
   op_beside s (op.Unary o a to) = ap (λ x. put s to (unary_of o x)) (operand_beside s a)
   op_beside s (op.Binary o a b to) =
@@ -85,11 +86,14 @@ module _ (told : Option (Option (Action → Verdict))) (ask : Oracle) (params : 
   op_beside s (op.CloseFrom c) = refl
   op_beside s (op.Rewind c target) = refl
   op_beside s (op.Next c target) = refl
+  op_beside s (op.Search c terms bounds first target) = refl
   op_beside s (op.Column c k to) = refl
   op_beside s (op.Rowid c to) = refl
   op_beside s (op.NotExists c rowid target) = refl
+  op_beside s (op.NoConflict c rowid first n keys target) = refl
   op_beside s (op.NewRowid c to table) = refl
   op_beside s (op.Insert c rowid first n) = refl
+  op_beside s (op.BuildIndex c terms unique) = refl
   op_beside s (op.Schema change) = refl
 
   act_beside : (s : State) (o : Option Op) → act lent o s ≡ act bare o s

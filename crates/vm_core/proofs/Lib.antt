@@ -6,3 +6,4 @@ mod RegisterLaws
 mod OperandLaws
 mod Closing
 mod Rowids
+mod SearchLaws

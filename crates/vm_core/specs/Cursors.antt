@@ -4,12 +4,14 @@ use Rattle.std.specs.declared.option.Option.{Option}
 use Rattle.eng_value.specs.declared.out.Out.{Out}
 use Rattle.eng_value.specs.declared.out.Out.TheVariants.{Good}
 use Rattle.eng_value.specs.declared.value.Value.TheVariants.{Null, Integer}
-use Rattle.vm_code.specs.Machine.{World, Cursor, Closed, Open, Holding, Standing, rows_of, row_behind}
+use Rattle.vm_code.specs.Machine.{World, Cursor, Closed, Open, Chosen, Holding, Standing, rows_of, row_behind}
+use Rattle.vm_store.specs.Cursors.{has_chosen, on_chosen}
 use Rattle.vm_tables.specs.Rows.{on_row}
 
 abbrev pub table_of : Cursor → Option ℕ
 table_of Closed = None
 table_of (Open table place) = Some table
+table_of (Chosen table rowid rest) = Some table
 table_of (Holding rows) = None
 table_of (Standing row rest) = None
 
@@ -22,6 +24,7 @@ rowid_read (Some rowid) = Good (Integer rowid)
 abbrev pub on_first : World → Cursor → Cursor
 on_first w Closed = Closed
 on_first w (Open table place) = Open table (on_row (slice_get (rows_of w table) 0))
+on_first w (Chosen table rowid rest) = Open table (on_row (slice_get (rows_of w table) 0))
 on_first w (Holding rows) = Holding rows
 on_first w (Standing row rest) = Standing row rest
 
@@ -29,6 +32,7 @@ on_first w (Standing row rest) = Standing row rest
 abbrev pub has_first : World → Cursor → Bool
 has_first w Closed = false
 has_first w (Open table place) = is_some (slice_get (rows_of w table) 0)
+has_first w (Chosen table rowid rest) = is_some (slice_get (rows_of w table) 0)
 has_first w (Holding rows) = false
 has_first w (Standing row rest) = false
 
@@ -37,6 +41,7 @@ abbrev pub on_next : World → Cursor → Cursor
 on_next w Closed = Closed
 on_next w (Open table None) = Open table None
 on_next w (Open table (Some rowid)) = Open table (on_row (row_behind (rows_of w table) rowid))
+on_next w (Chosen table rowid rest) = on_chosen table rest
 on_next w (Holding rows) = Holding rows
 on_next w (Standing row []) = Closed
 on_next w (Standing row (next ∷ rest)) = Standing next rest
@@ -46,6 +51,7 @@ abbrev pub has_next : World → Cursor → Bool
 has_next w Closed = false
 has_next w (Open table None) = false
 has_next w (Open table (Some rowid)) = is_some (row_behind (rows_of w table) rowid)
+has_next w (Chosen table rowid rest) = has_chosen (Chosen table rowid rest)
 has_next w (Holding rows) = false
 has_next w (Standing row []) = false
 has_next w (Standing row (next ∷ rest)) = true

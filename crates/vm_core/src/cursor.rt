@@ -1,10 +1,10 @@
 // Cursors over the tables.
-ghost use Rattle.std.specs.Prelude.{◌≡◌, replicate, IfOk};
+ghost use Rattle.std.specs.Prelude.{◌≡◌, is_some, replicate, slice_get, IfOk};
 ghost use Rattle.eng_value.specs.Environments.{column_of, table_row};
 ghost use Rattle.eng_value.specs.StoredRows.{next_rowid};
 ghost use Rattle.eng_value.specs.declared.out.Out.TheVariants.{Good};
-ghost use Rattle.vm_code.specs.Machine.{Closed, closed_from, current, cursor_at, cursor_rows, is_missing, row_read, row_under, rows_of};
-ghost use Rattle.vm_tables.specs.Rows.{LendsColumn};
+ghost use Rattle.vm_code.specs.Machine.{Closed, Open, closed_from, current, cursor_at, cursor_rows, is_missing, row_read, row_under, rows_of};
+ghost use Rattle.vm_tables.specs.Rows.{LendsColumn, on_row};
 ghost use Rattle.vm_core.specs.Cursors.{has_first, has_next, on_first, on_next, rowid_read, table_of};
 
 use eng_record::Lent;
@@ -29,6 +29,11 @@ fn table(cursor: &Cursor) -> Option<u32>
     match cursor.spot() {
         Spot::Closed => None,
         Spot::Open { table, place: _ } => Some(*table),
+        Spot::Chosen {
+            table,
+            place: _,
+            rest: _,
+        } => Some(*table),
         Spot::Standing { row: _ } => None,
     }
 }
@@ -40,6 +45,11 @@ pub(crate) fn misses(cursor: &Cursor, tables: &Tables, rowid: i64) -> bool
     match cursor.spot() {
         Spot::Closed => true,
         Spot::Open { table, place: _ } => !tables.has(*table, rowid),
+        Spot::Chosen {
+            table,
+            place: _,
+            rest: _,
+        } => !tables.has(*table, rowid),
         Spot::Standing { row: _ } => true,
     }
 }
@@ -51,6 +61,11 @@ pub(crate) fn next_rowid(cursor: &Cursor, tables: &Tables) -> Option<i64>
     match cursor.spot() {
         Spot::Closed => Some(1),
         Spot::Open { table, place: _ } => tables.next_rowid(*table),
+        Spot::Chosen {
+            table,
+            place: _,
+            rest: _,
+        } => tables.next_rowid(*table),
         Spot::Standing { row: _ } => Some(1),
     }
 }
@@ -73,6 +88,11 @@ pub(crate) fn column(
         Spot::Open {
             table,
             place: Some(place),
+        } => column_of_table(alloc, tables, *table, place, number),
+        Spot::Chosen {
+            table,
+            place,
+            rest: _,
         } => column_of_table(alloc, tables, *table, place, number),
         Spot::Standing { row } => column_of_row(row, number),
     }
@@ -131,6 +151,11 @@ fn lent<'t>(cursor: &'t Cursor, tables: &'t Tables, number: usize) -> Lent<'t>
             table,
             place: Some(place),
         } => tables.lent(*table, place.rowid, number, place.near),
+        Spot::Chosen {
+            table,
+            place,
+            rest: _,
+        } => tables.lent(*table, place.rowid, number, place.near),
         Spot::Standing { row } => lent_of_row(row, number),
     }
 }
@@ -170,6 +195,11 @@ pub(crate) fn rowid(cursor: &Cursor, tables: &Tables) -> Option<i64>
             table,
             place: Some(place),
         } => rowid_of_table(tables, *table, place),
+        Spot::Chosen {
+            table,
+            place,
+            rest: _,
+        } => rowid_of_table(tables, *table, place),
         Spot::Standing { row } => Some(row.rowid()),
     }
 }
@@ -191,13 +221,29 @@ pub(crate) fn rewind(cursor: &mut Cursor, tables: &Tables) -> bool
         Spot::Closed => false,
         Spot::Open { table, place: _ } => {
             let table = *table;
-            let mut near = 0;
-            let rowid = tables.first(table, &mut near);
-            cursor.come_to(table, rowid, near);
-            rowid.is_some()
+            come_to_first(cursor, tables, table)
+        }
+        Spot::Chosen {
+            table,
+            place: _,
+            rest: _,
+        } => {
+            let table = *table;
+            come_to_first(cursor, tables, table)
         }
         Spot::Standing { row: _ } => false,
     }
+}
+
+/// Brings a cursor to the first row of a table, and says whether there is one.
+fn come_to_first(cursor: &mut Cursor, tables: &Tables, table: u32) -> bool
+    ensures cursor { cursor.new ≡ Open table (on_row (slice_get (rows_of tables.now.world table) 0)) }
+    ensures found { result ≡ is_some (slice_get (rows_of tables.now.world table) 0) }
+{
+    let mut near = 0;
+    let rowid = tables.first(table, &mut near);
+    cursor.come_to(table, rowid, near);
+    rowid.is_some()
 }
 
 /// Brings a cursor to the row behind its own, and says whether there is one.
@@ -216,6 +262,11 @@ pub(crate) fn advance(cursor: &mut Cursor, tables: &Tables) -> bool
             cursor.come_to(table, rowid, near);
             rowid.is_some()
         }
+        Spot::Chosen {
+            table: _,
+            place: _,
+            rest: _,
+        } => cursor.next_chosen(),
         Spot::Standing { row: _ } => {
             cursor.close();
             false

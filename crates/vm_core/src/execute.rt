@@ -117,6 +117,11 @@ fn execute(
         Op::Variable { number, to } => running.put_parameter(alloc, params, *number, *to),
         Op::Copy { from, to } => running.put_copy(*from, *to),
         Op::Affinity { register, affinity } => running.store_as(alloc, *register, *affinity),
+        Op::Beside {
+            register,
+            other,
+            own,
+        } => running.compare_as(alloc, *register, *other, *own),
         Op::MustBeInt { register } => running.must_be_int(alloc, *register, event),
         Op::Unary {
             operator,
@@ -162,6 +167,21 @@ fn execute(
         Op::CloseFrom { cursor } => running.close_from(*cursor),
         Op::Rewind { cursor, target } => running.jump_where_empty(tables, *cursor, *target),
         Op::Next { cursor, target } => running.jump_where_next(tables, *cursor, *target),
+        Op::Search {
+            cursor,
+            terms,
+            bounds,
+            first,
+            target,
+        } => running.search(
+            alloc,
+            tables,
+            *cursor,
+            terms.as_slice(),
+            *bounds,
+            *first,
+            *target,
+        ),
         Op::Column { cursor, column, to } => running.put_column(
             alloc, tables, *cursor, *column, *to,
         ),
@@ -171,6 +191,23 @@ fn execute(
             rowid,
             target,
         } => running.jump_where_missing(tables, *cursor, *rowid, *target),
+        Op::NoConflict {
+            cursor,
+            rowid,
+            first,
+            count,
+            keys,
+            target,
+        } => running.jump_without_conflict(
+            alloc,
+            tables,
+            *cursor,
+            *rowid,
+            *first,
+            *count,
+            keys.as_slice(),
+            *target,
+        ),
         Op::NewRowid { cursor, to, table } => new_rowid(
             running, alloc, tables, *cursor, *to, table, event,
         ),
@@ -180,6 +217,11 @@ fn execute(
             first,
             count,
         } => running.insert_registers(alloc, tables, *cursor, *rowid, *first, *count),
+        Op::BuildIndex {
+            cursor,
+            terms,
+            unique,
+        } => running.build_index(alloc, tables, *cursor, terms.as_slice(), unique, event),
         Op::Schema { change } => running.change_schema(alloc, tables, *change),
     }
 }

@@ -4,8 +4,8 @@
 //! tables in memory, and the contract of `Machine::step` says that it is the same, event by event: the event is the next one
 //! of the machine over lists after exactly as many instructions as were counted. An instruction counts when it was done: one that
 //! finds no memory counts nothing. The tables are vm_tables', which keep marks, and go back to the last whatever a run did since.
-//! Begin with `machine`; `execute` has one arm for each instruction, whose method stands in `jumping`, `writing`, `calling` or
-//! `running`, and `operands`, `values` and `cursor` do the work; what registers, cursors and frames hold is vm_store's.
+//! Begin with `machine`; `execute` has one arm for each instruction, whose method stands in `jumping`, `searching`,
+//! `writing`, `calling` or `running`, and `operands`, `values` and `cursor` do the work; what registers, cursors and frames hold is vm_store's.
 #![tactic(auto)]
 
 mod calling;
@@ -18,6 +18,7 @@ mod machine;
 mod operands;
 mod pace;
 mod running;
+mod searching;
 mod values;
 mod writing;
 

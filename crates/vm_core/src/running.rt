@@ -1,7 +1,7 @@
 // What a run has come to, and the parts of which instructions are made.
 ghost use Rattle.std.specs.Prelude.{◌≡◌, ◌+◌, ◌^◌, ◌<◌, if◌then◌else◌, [], ◌∷◌, ◌++◌, None, slice_get, slice_index_or, slice_set, IfOk, OnOk, OnSome};
 ghost use Rattle.std.specs.Option.{option_copied};
-ghost use Rattle.eng_value.specs.Casts.{store_as};
+ghost use Rattle.eng_value.specs.Casts.{beside, store_as};
 ghost use Rattle.eng_value.specs.Environments.{column_of};
 ghost use Rattle.eng_value.specs.Outs.{turned};
 ghost use Rattle.eng_value.specs.StoredRows.{next_rowid};
@@ -23,7 +23,7 @@ use crate::cursor::{
 };
 use crate::jumping::Test;
 use crate::pace::Pace;
-use crate::values::stored;
+use crate::values::{compared, stored};
 use eng_record::Lent;
 use eng_value::{Affinity, Out, Row, StoredRow, Value};
 use std::alloc::{AllocError, Global};
@@ -273,6 +273,25 @@ impl Running {
     {
         let out = self.registers.take(register);
         let out = stored(alloc, affinity, out)?;
+        self.put(register, out);
+        Ok(Pace::Going)
+    }
+
+    /// Turns a register into what a comparison takes it for, and goes on.
+    #[tactic(auto, using(crate::proofs::RegisterLaws::written_twice))]
+    #[inline(never)]
+    pub fn compare_as(
+        &mut self,
+        alloc: Global,
+        register: u32,
+        other: Affinity,
+        own: Affinity,
+    ) -> Result<Pace, AllocError>
+        requires { self.old.pc + 1 < 2 ^ 64 }
+        ensures { Acts result self.old self.new (λ s. put s register (turned (λ v. Good (beside other own v)) (read_of s.regs register))) }
+    {
+        let out = self.registers.take(register);
+        let out = compared(alloc, other, own, out)?;
         self.put(register, out);
         Ok(Pace::Going)
     }

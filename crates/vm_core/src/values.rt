@@ -2,15 +2,16 @@
 ghost use Rattle.std.specs.Prelude.{◌≡◌, IfOk, slice_index_or};
 ghost use Rattle.std.specs.Option.{option_copied};
 ghost use Rattle.eng_value.specs.Applied.{merged};
-ghost use Rattle.eng_value.specs.Casts.{store_as};
+ghost use Rattle.eng_value.specs.Casts.{beside, store_as};
 ghost use Rattle.eng_value.specs.Operators.{length_of, made};
 ghost use Rattle.eng_value.specs.Outs.{turned};
+ghost use Rattle.eng_value.specs.declared.out.Out.TheVariants.{Good};
 ghost use Rattle.eng_value.specs.declared.value.Value.TheVariants as sql;
 ghost use Rattle.eng_value.specs.declared.value.Value.TheVariants.{Null};
 ghost use Rattle.vm_code.specs.Machine.{parameter_at, read as read_of};
 ghost use Rattle.vm_store.specs.Held.{held_integer, held_text};
 
-use eng_value::{Affinity, Cause, MAX_VALUE_BYTES, Out, Text, Value, store_as};
+use eng_value::{Affinity, Cause, MAX_VALUE_BYTES, Out, Text, Value, changed_beside, store_as};
 use std::alloc::{AllocError, Global};
 use vm_store::Registers;
 
@@ -39,6 +40,35 @@ pub(crate) fn stored(alloc: Global, affinity: Affinity, out: Out) -> Result<Out,
     match out {
         Out::Good(value) => store_as(alloc, affinity, value),
         Out::Bad(causes) => Ok(Out::Bad(causes)),
+    }
+}
+
+/// What a comparison takes this for whose side has the affinity `own` beside one of the affinity `other`.
+pub(crate) fn compared(
+    alloc: Global,
+    other: Affinity,
+    own: Affinity,
+    out: Out,
+) -> Result<Out, AllocError>
+    ensures { IfOk result (λ new. new ≡ turned (λ v. Good (beside other own v)) out) }
+{
+    match out {
+        Out::Good(value) => Ok(Out::Good(compared_value(alloc, other, own, value)?)),
+        Out::Bad(causes) => Ok(Out::Bad(causes)),
+    }
+}
+
+fn compared_value(
+    alloc: Global,
+    other: Affinity,
+    own: Affinity,
+    value: Value,
+) -> Result<Value, AllocError>
+    ensures { IfOk result (λ new. new ≡ beside other own value) }
+{
+    match changed_beside(alloc, other, own, &value)? {
+        Some(changed) => Ok(changed),
+        None => Ok(value),
     }
 }
 

@@ -1,14 +1,15 @@
 // Cursors.
-ghost use Rattle.std.specs.Prelude.{◌≡◌, None};
+ghost use Rattle.std.specs.Prelude.{◌≡◌, ◌∷◌, [], None, is_some, slice_get, true, false};
 ghost use Rattle.vm_code.specs.Machine.{Closed, Open, standing_on};
-ghost use Rattle.vm_store.specs.Cursors.{cursor_of};
+ghost use Rattle.vm_store.specs.Cursors.{cursor_of, has_chosen, on_chosen, on_next_chosen};
 ghost use Rattle.vm_store.specs.declared.cursor.Spot.TheVariants as spots;
 
+use crate::Rowids;
 use eng_value::StoredRow;
 use std::marker::Model;
 
-/// A cursor: closed, open on a table and there on a row or on none, or on a row that is no table's. Contracts see the cursor of the
-/// machine over lists.
+/// A cursor: closed, open on a table and there on a row or on none, on a row that was chosen with others, or on a row that is no table's.
+/// Contracts see the cursor of the machine over lists.
 #[derive(Drop)]
 pub struct Cursor {
     spot: Spot,
@@ -18,9 +19,20 @@ pub struct Cursor {
 #[derive(Drop)]
 pub enum Spot {
     Closed,
-    Open { table: u32, place: Option<Place> },
+    Open {
+        table: u32,
+        place: Option<Place>,
+    },
+    /// On a row of a table that was chosen with others, with the rowids of those behind it.
+    Chosen {
+        table: u32,
+        place: Place,
+        rest: Rowids,
+    },
     /// On a row that is no table's, with none behind it.
-    Standing { row: StoredRow },
+    Standing {
+        row: StoredRow,
+    },
 }
 
 /// A row by its rowid, and where the search for it came to, which makes the next search near it short. The row may stand
@@ -86,6 +98,35 @@ impl Cursor {
         move_to(&mut self.spot, table, place);
     }
 
+    /// Goes to the first of these rows of a table, with the others behind it, and says whether there is one. Where there is none it is on no
+    /// row of the table.
+    pub fn choose(&mut self, table: u32, rowids: Vec<i64>) -> bool
+        ensures cursor { self.new ≡ on_chosen table rowids.items }
+        ensures found { result ≡ is_some (slice_get rowids.items 0) }
+    {
+        let mut rest = Rowids::new(rowids);
+        match rest.next() {
+            None => {
+                self.come_to(table, None, 0);
+                false
+            }
+            Some(rowid) => {
+                let place = Place { rowid, near: 0 };
+                self.spot = Spot::Chosen { table, place, rest };
+                true
+            }
+        }
+    }
+
+    /// Goes to the next of the rows that were chosen, and says whether there is one. Behind the last one it comes off its row; where none were
+    /// chosen it stays as it is.
+    pub fn next_chosen(&mut self) -> bool
+        ensures cursor { self.new ≡ on_next_chosen self.old }
+        ensures found { result ≡ has_chosen self.old }
+    {
+        next_chosen(&mut self.spot)
+    }
+
     /// Comes off its row and its table.
     pub fn close(&mut self)
         ensures { self.new ≡ Closed }
@@ -107,5 +148,37 @@ fn move_to(spot: &mut Spot, table: u32, place: Option<Place>)
             *old_place = place;
         }
         _ => *spot = Spot::Open { table, place },
+    }
+}
+
+/// Goes to the next of the rows that were chosen.
+fn next_chosen(spot: &mut Spot) -> bool
+    ensures cursor { cursor_of spot.new ≡ on_next_chosen (cursor_of spot.old) }
+    ensures found { result ≡ has_chosen (cursor_of spot.old) }
+{
+    match spot {
+        Spot::Chosen { table, place, rest } => {
+            if next_rowid(place, rest) {
+                return true;
+            }
+            let table = *table;
+            *spot = Spot::Open { table, place: None };
+            false
+        }
+        _ => false,
+    }
+}
+
+/// Takes the first of the rowids that are left for a place, and says whether there is one.
+fn next_rowid(place: &mut Place, rest: &mut Rowids) -> bool
+    ensures more { result ≡ true → rest.old ≡ place.new.rowid ∷ rest.new }
+    ensures none { result ≡ false → rest.old ≡ [] }
+{
+    match rest.next() {
+        None => false,
+        Some(rowid) => {
+            place.rowid = rowid;
+            true
+        }
     }
 }

@@ -11,9 +11,11 @@ mod frame;
 mod held;
 mod jumps;
 mod registers;
+mod rowids;
 
 pub use cursor::{Cursor, Place, Spot};
 pub use frame::{Frame, Frames};
 pub use held::{held_integer, held_text};
 pub use jumps::{is_accepted, is_bad, is_integer, is_known, is_null, is_rejected};
 pub use registers::Registers;
+pub use rowids::Rowids;

@@ -1,11 +1,12 @@
 // Registers.
-ghost use Rattle.std.specs.Prelude.{◌≡◌, ◌+◌, [], replicate, slice_get, slice_index_or, slice_set, IfOk, OnOk};
+ghost use Rattle.std.specs.Prelude.{◌≡◌, ◌+◌, ◌<◌, ◌^◌, [], replicate, slice_get, slice_index_or, slice_set, IfOk, OnOk};
 ghost use Rattle.std.specs.Option.{option_copied};
+ghost use Rattle.eng_index.specs.Searching.{front_values};
 ghost use Rattle.eng_value.specs.declared.out.Out.TheVariants.{Good};
 ghost use Rattle.eng_value.specs.declared.value.Value.TheVariants as sql;
 ghost use Rattle.eng_value.specs.declared.value.Value.TheVariants.{Integer, Null};
 ghost use Rattle.vm_code.specs.Machine.{good_or_null, integer_in, integer_of, outs_from, put_all, read as read_of, values_from};
-ghost use Rattle.vm_store.specs.Held.{held_integer, held_text};
+ghost use Rattle.vm_store.specs.Held.{held_integer, held_text, held_value};
 
 use crate::{held_integer, held_text};
 use eng_value::{Out, Row, Text, Value};
@@ -109,6 +110,26 @@ impl Registers {
             row.push(value(&self.outs, first as usize + i as usize)?)?;
         }
         Ok(row)
+    }
+
+    /// Copies of the values of so many registers, from the first on, in front of the first that is bad.
+    pub fn front_values(
+        &self,
+        alloc: Global,
+        first: u32,
+        count: usize,
+    ) -> Result<Vec<Value>, AllocError>
+        requires { count < 2 ^ 63 }
+        ensures { IfOk result (λ values. values.items ≡ front_values (outs_from self.now first count)) }
+    {
+        let mut values = Vec::new(alloc);
+        for i in 0..count {
+            match good_at(&self.outs, first as usize + i)? {
+                None => return Ok(values),
+                Some(value) => values.push(value)?,
+            }
+        }
+        Ok(values)
     }
 
     /// The integer that a register holds; 0 where it holds none.
@@ -299,6 +320,17 @@ fn value(outs: &[Out], register: usize) -> Result<Value, AllocError>
     match outs.get(register) {
         Some(Out::Good(value)) => Ok(value.clone()?),
         _ => Ok(Value::Null),
+    }
+}
+
+/// A copy of the value that a register holds; none where it is bad.
+fn good_at(outs: &[Out], register: usize) -> Result<Option<Value>, AllocError>
+    ensures { IfOk result (λ value. value ≡ held_value (read_of outs.now register)) }
+{
+    match outs.get(register) {
+        None => Ok(Some(Value::Null)),
+        Some(Out::Good(value)) => Ok(Some(value.clone()?)),
+        Some(Out::Bad(_)) => Ok(None),
     }
 }
 

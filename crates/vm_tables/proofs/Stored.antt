@@ -36,7 +36,7 @@ greater : (a b : ℤ) → int_cmp a b ≡ Greater → b <ℤ a
 greater a b e = grind (arith, ints)
 
 -- no row has a rowid below those of all
-absent_below : (rows : List StoredRow) (n : ℤ) → IsBelow n rows → row_under rows n ≡ None
+pub absent_below : (rows : List StoredRow) (n : ℤ) → IsBelow n rows → row_under rows n ≡ None
 absent_below [] n low = refl
 absent_below (x ∷ xs) n low =
     let lt : n <ℤ x.rowid = All-head (λ (y : StoredRow). n <ℤ y.rowid) x xs low in

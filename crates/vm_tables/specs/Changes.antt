@@ -1,15 +1,10 @@
 -- How changes are taken back, and what the tables were at each mark.
-use Rattle.std.specs.Prelude.{ℕ, ◌-◌, ◌≤◌, ⊤, List, [], ◌∷◌, ℤ, All, not, drop, length, map, reverse, take, slice_set}
-use Rattle.std.specs.List.{filter}
-use Rattle.std.specs.Ordering.{int_eq}
-use Rattle.eng_value.specs.StoredRows.{StoredRow, IsAscending}
+use Rattle.std.specs.Prelude.{ℕ, ◌-◌, ◌≤◌, ⊤, List, [], ◌∷◌, All, drop, length, map, reverse, take, slice_set}
+pub use Rattle.eng_index.specs.Stored.{drop_row}
+use Rattle.eng_value.specs.StoredRows.{IsAscending}
 use Rattle.vm_code.specs.Machine.{IsSound, World, rows_of}
 use Rattle.vm_tables.specs.declared.change.Change.{Change}
 use Rattle.vm_tables.specs.declared.change.Change.TheVariants.{RowPut, TableAdded, RowsDropped}
-
--- the rows of other rowids
-abbrev pub drop_row : List StoredRow → ℤ → List StoredRow
-drop_row rows rowid = filter (λ r. not (int_eq r.rowid rowid)) rows
 
 abbrev pub undone : Change → World → World
 undone (RowPut table rowid) w = slice_set w table (drop_row (rows_of w table) rowid)

@@ -2,3 +2,4 @@ pub mod Stored
 pub mod Rows
 pub mod Changes
 pub mod Marked
+pub mod Indexes

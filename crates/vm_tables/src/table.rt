@@ -1,37 +1,40 @@
-// The rows of one table.
-ghost use Rattle.std.specs.Prelude.{◌≡◌, ◌-◌, [], true, length, None, Ok, OnOk, OnErr, IfOk, is_some, option_map, slice_get, slice_index_or};
-ghost use Rattle.eng_record.specs.Reading.{reading};
-ghost use Rattle.eng_value.specs.Environments.{column_of};
-ghost use Rattle.eng_value.specs.StoredRows.{IsAscending, next_rowid};
-ghost use Rattle.eng_value.specs.declared.value.Value.TheVariants.{Null};
-ghost use Rattle.vm_code.specs.Machine.{Row as MeantRow, put_row, row_behind, row_read, row_under};
+// A table: its rows, and the indexes of them.
+ghost use Rattle.std.specs.Prelude.{◌≡◌, [], Some, None, OnOk, OnErr, IfOk, IfSome, MatchOption, ⊤, length, slice_get};
+ghost use Rattle.std.specs.List.{filter};
+ghost use Rattle.eng_index.specs.Keys.{found, has_doubles, is_double, key_values, row_in_way};
+ghost use Rattle.eng_index.specs.Stored.{put_row, row_under, rowids_of};
+ghost use Rattle.eng_value.specs.StoredRows.{IsAscending};
+ghost use Rattle.eng_value.specs.declared.value.Value.TheVariants.{Integer};
 ghost use Rattle.vm_tables.specs.Changes.{drop_row};
-ghost use Rattle.vm_tables.specs.Rows.{LendsColumn, on_row, values_of};
-ghost use Rattle.vm_tables.specs.Stored.{IsRecord, StandsAt, row_from};
+ghost use Rattle.vm_tables.specs.Indexes.{SeeksRowid};
+ghost use Rattle.vm_tables.specs.Rows.{on_row};
 
-use eng_key::{rowid_key, rowid_of_key};
-use eng_record::{Lent, column, decode, encode, lent_column};
-use eng_tree::{Bytes, Tree};
-use eng_value::{MAX_ROWID, Row, StoredRow, Value};
+use crate::indexes::Indexes;
+use crate::row_tree::RowTree;
+use eng_index::{KeyTerm, Range, TermSource};
+use eng_value::{Row, StoredRow, Value};
+use sqlite_items::Items;
 use std::alloc::{AllocError, Global};
 use std::marker::Model;
 
-/// The rows of a table: a tree that keeps each row's record under the key of its rowid. Contracts see the list of the rows.
+/// A table: the tree of its rows, and the indexes of them that searches have built. Contracts see the list of the rows alone, since each
+/// index is one of these rows, whatever was changed.
 #[derive(Drop)]
 pub(crate) struct Table {
-    tree: Tree,
+    tree: RowTree,
+    indexes: Indexes,
 }
 
 impl Model for Table {
     ghost use Rattle.std.specs.Prelude.{List};
     ghost use Rattle.eng_value.specs.StoredRows.{StoredRow as MeantRow};
-    ghost use Rattle.vm_tables.specs.Stored.{rows_in, IsStored};
+    ghost use Rattle.vm_tables.specs.Indexes.{AreIndexesOf};
 
     ghost Value = { List MeantRow };
 
-    ghost view = { λ t. rows_in t.tree.pairs };
+    ghost view = { λ t. t.tree };
 
-    ghost invariant = { λ t. IsStored t.tree.pairs };
+    ghost invariant = { λ t. AreIndexesOf t.indexes t.tree };
 }
 
 impl Table {
@@ -39,7 +42,8 @@ impl Table {
         ensures { result ≡ [] }
     {
         Table {
-            tree: Tree::new(alloc),
+            tree: RowTree::new(alloc),
+            indexes: Indexes::none(alloc),
         }
     }
 
@@ -47,218 +51,144 @@ impl Table {
     pub fn order(&self)
         ensures { IsAscending self.now }
     {
-        let _tree = &self.tree;
+        self.tree.order();
     }
 
-    /// The rowid of the first row. `near` is where the last search came to, and only a hint.
-    pub fn first(&self, near: &mut usize) -> Option<i64>
-        ensures { result ≡ on_row (slice_get self.now 0) }
-    {
-        let _tree = &self.tree;
-        self.rowid_from(i64::MIN, near)
-    }
-
-    /// The rowid of the first row behind a rowid.
-    pub fn behind(&self, rowid: i64, near: &mut usize) -> Option<i64>
-        ensures { result ≡ on_row (row_behind self.now rowid) }
-    {
-        self.order();
-        match near.checked_add(1) {
-            Some(next) if self.stands_at(rowid, *near) => {
-                *near = next;
-                self.rowid_at(next)
-            }
-            _ => self.behind_key(rowid, near),
-        }
-    }
-
-    /// Whether the row of this rowid stands at a place.
-    fn stands_at(&self, rowid: i64, place: usize) -> bool
-        ensures { result ≡ true → StandsAt self.now place rowid }
-    {
-        self.rowid_at(place) == Some(rowid)
-    }
-
-    /// The rowid of the row at a place.
-    fn rowid_at(&self, place: usize) -> Option<i64>
-        ensures { result ≡ on_row (slice_get self.now place) }
-    {
-        match self.tree.pair_at(place) {
-            None => None,
-            Some((key, _)) => rowid_of_key(key),
-        }
-    }
-
-    /// The rowid of the first row behind a rowid, by its key.
-    #[inline(never)]
-    fn behind_key(&self, rowid: i64, near: &mut usize) -> Option<i64>
-        ensures { result ≡ on_row (row_behind self.now rowid) }
-    {
-        let _tree = &self.tree;
-        match rowid.checked_add(1) {
-            None => None,
-            Some(least) => {
-                *near = near.saturating_add(1);
-                self.rowid_from(least, near)
-            }
-        }
-    }
-
-    /// The rowid of the first row whose rowid is not below `least`.
-    fn rowid_from(&self, least: i64, near: &mut usize) -> Option<i64>
-        ensures { result ≡ on_row (row_from self.now least) }
-    {
-        match self.tree.seek_near(&rowid_key(least), near) {
-            None => None,
-            Some((key, _)) => rowid_of_key(key),
-        }
-    }
-
-    /// The rowid behind that of the last row: 1 in an empty table, and none behind the largest of all.
-    pub fn next_rowid(&self) -> Option<i64>
-        ensures { result ≡ next_rowid self.now }
-    {
-        match self.last() {
-            None => Some(1),
-            Some(last) if last < MAX_ROWID => Some(last + 1),
-            Some(_) => None,
-        }
-    }
-
-    /// The rowid of the last row.
-    fn last(&self) -> Option<i64>
-        ensures { result ≡ on_row (slice_get self.now (length self.now - 1)) }
-    {
-        match self.tree.last() {
-            None => None,
-            Some((key, _)) => rowid_of_key(key),
-        }
-    }
-
-    /// Whether there is a row of this rowid. In constant time for one that is not below the last row's, as new rows mostly have.
-    pub fn has(&self, rowid: i64) -> bool
-        ensures { result ≡ is_some (row_under self.now rowid) }
-    {
-        let last = self.tree.len().saturating_sub(1);
-        self.tree.get_near(&rowid_key(rowid), last).is_some()
-    }
-
-    /// The record of the row of this rowid, if there is one. In constant time where the row stands at the place `near`.
-    fn record(&self, rowid: i64, near: usize) -> Option<&[u8]>
-        ensures { IsRecord (option_map (λ v. v.now) result) (row_under self.now rowid) }
-    {
-        match self.tree.pair_at(near) {
-            Some((key, record)) if rowid_of_key(key) == Some(rowid) => Some(record),
-            _ => self.record_by_key(rowid, near),
-        }
-    }
-
-    /// The same by its key.
-    #[inline(never)]
-    fn record_by_key(&self, rowid: i64, near: usize) -> Option<&[u8]>
-        ensures { IsRecord (option_map (λ v. v.now) result) (row_under self.now rowid) }
-    {
-        self.tree.get_near(&rowid_key(rowid), near)
-    }
-
-    /// The value in a column of the row of this rowid, NULL where there is none.
-    pub fn column(
-        &self,
-        alloc: Global,
-        rowid: i64,
-        place: usize,
-        near: usize,
-    ) -> Result<Value, AllocError>
-        ensures { IfOk result (λ v. v ≡ slice_index_or (values_of (row_under self.now rowid)) place Null) }
-    {
-        match self.record(rowid, near) {
-            None => Ok(Value::Null),
-            Some(record) => column_of(alloc, record, place),
-        }
-    }
-
-    /// The integer or the text in a column of the row of this rowid, where there is one.
+    /// Its rows, to be read.
     #[inline(always)]
-    pub fn lent(&self, rowid: i64, place: usize, near: usize) -> Lent<'_>
-        ensures { LendsColumn result (column_of (row_read (row_under self.now rowid)) place) }
+    pub fn tree(&self) -> &RowTree
+        ensures { result.now ≡ self.now }
     {
-        match self.record(rowid, near) {
-            None => Lent::Other,
-            Some(record) => lent_column(record, place),
-        }
+        &self.tree
     }
 
-    /// The rowid of the row of this rowid, if there is one. In constant time where the row stands at the place `near`.
-    pub fn rowid(&self, rowid: i64, near: usize) -> Option<i64>
-        ensures { result ≡ on_row (row_under self.now rowid) }
-    {
-        match self.record(rowid, near) {
-            None => None,
-            Some(_) => Some(rowid),
-        }
-    }
-
-    /// The rows in the order of their rowids.
-    pub fn rows(&self, alloc: Global) -> Result<Vec<StoredRow>, AllocError>
-        ensures { IfOk result (λ rows. rows.items ≡ self.now) }
-    {
-        self.order();
-        let mut rows = Vec::new(alloc);
-        let mut near = 0;
-        let mut next = self.first(&mut near);
-        while let Some(rowid) = next {
-            rows.push(StoredRow::new(rowid, self.values(alloc, rowid, near)?))?;
-            next = self.behind(rowid, &mut near);
-        }
-        Ok(rows)
-    }
-
-    /// The values of the row of this rowid; none where there is no such row.
-    fn values(&self, alloc: Global, rowid: i64, near: usize) -> Result<Row, AllocError>
-        ensures { IfOk result (λ row. row ≡ values_of (row_under self.now rowid)) }
-    {
-        match self.record(rowid, near) {
-            None => Ok(Row::empty(alloc)),
-            Some(record) => row_of(alloc, record),
-        }
-    }
-
-    /// Puts a row under its rowid, which is free. The row's record and key are made before anything changes.
+    /// Puts a row under its rowid, which is free, and its entry into each index.
     pub fn put(&mut self, alloc: Global, row: &StoredRow) -> Result<(), AllocError>
         requires { row_under self.old row.now.rowid ≡ None }
         ensures ok { OnOk result (self.new ≡ put_row self.old row.now) }
         ensures err { OnErr result (self.new ≡ self.old) }
     {
-        let record = encode(alloc, row.values())?;
-        let key = Bytes::from_slice(alloc, &rowid_key(row.rowid()))?;
-        self.tree.insert(key, Bytes::new(record.into_vec()))?;
+        self.tree.put(alloc, row)?;
+        self.indexes.insert(row);
         Ok(())
     }
 
-    /// Takes the row of this rowid out, if there is one. Takes no memory.
+    /// Takes the row of this rowid out, if there is one. Takes no memory. It leaves the table without indexes, which are built again once they
+    /// are searched: where an entry stands is known by its key alone, and to make that takes memory.
     pub fn drop_row(&mut self, rowid: i64)
         ensures { self.new ≡ drop_row self.old rowid }
     {
-        self.tree.remove(&rowid_key(rowid));
+        self.tree.drop_row(rowid);
+        self.indexes.clear();
+    }
+
+    /// The rowids of the rows within a range of a key's terms, in their order: by the rows' tree where the range is of one rowid, and else by an
+    /// index, which is built where there is none.
+    pub fn search(
+        &mut self,
+        alloc: Global,
+        terms: &[KeyTerm],
+        range: &Range,
+    ) -> Result<Vec<i64>, AllocError>
+        ensures same { self.new ≡ self.old }
+        ensures found { IfOk result (λ rowids. rowids.items ≡ rowids_of (found terms.now range.now self.old)) }
+    {
+        match sought_rowid(terms, range) {
+            Some(rowid) => self.tree.rowids(alloc, rowid),
+            None => self.indexes.search(alloc, &self.tree, terms, range),
+        }
+    }
+
+    /// How many rows are within a range of a key's terms, as far as that is known without a walk over them: by the rows' tree where the range is
+    /// of one rowid, and else by an index that stands. None where there is none, or memory is wanting.
+    pub fn count(&self, alloc: Global, terms: &[KeyTerm], range: &Range) -> Option<usize>
+        ensures { IfSome result (λ count. count ≡ length (found terms.now range.now self.now)) }
+    {
+        match sought_rowid(terms, range) {
+            Some(rowid) => Some(self.tree.count(rowid)),
+            None => self.indexes.count(alloc, terms, range),
+        }
+    }
+
+    /// Whether two rows have the same value in each term, none of them NULL.
+    pub fn has_doubles(&mut self, alloc: Global, terms: &[KeyTerm]) -> Result<bool, AllocError>
+        ensures same { self.new ≡ self.old }
+        ensures doubles { IfOk result (λ doubles. doubles ≡ has_doubles terms.now self.old) }
+    {
+        self.indexes.has_doubles(alloc, &self.tree, terms)
+    }
+
+    /// The rowid of the first row in the way of one that is to come: the one that has its rowid, or is equal to it in each term of a key.
+    pub fn row_in_way(
+        &mut self,
+        alloc: Global,
+        keys: &[Items<KeyTerm>],
+        row: &StoredRow,
+    ) -> Result<Option<i64>, AllocError>
+        ensures same { self.new ≡ self.old }
+        ensures found { IfOk result (λ rowid. rowid ≡ on_row (row_in_way keys.now self.old row.now)) }
+    {
+        if self.tree.has(row.rowid()) {
+            return Ok(Some(row.rowid()));
+        }
+        for terms in keys {
+            let double = self.first_double(alloc, terms.as_slice(), row)?;
+            if double.is_some() {
+                return Ok(double);
+            }
+        }
+        Ok(None)
+    }
+
+    /// The rowid of the first row that is equal to this one in each term, none of them NULL.
+    fn first_double(
+        &mut self,
+        alloc: Global,
+        terms: &[KeyTerm],
+        row: &StoredRow,
+    ) -> Result<Option<i64>, AllocError>
+        ensures same { self.new ≡ self.old }
+        ensures found { IfOk result (λ rowid. rowid ≡ on_row (slice_get (filter (is_double terms.now row.now) self.old) 0)) }
+    {
+        let range = Range {
+            equal: key_values(alloc, terms, row)?,
+            lower: None,
+            upper: None,
+        };
+        let rowids = self.search(alloc, terms, &range)?;
+        Ok(rowids.first().copied())
     }
 }
 
-/// The row of a record that can be read.
-fn row_of(alloc: Global, bytes: &[u8]) -> Result<Row, AllocError>
-    ensures { (row : MeantRow) → reading bytes.now ≡ Ok row → IfOk result (λ found. found ≡ row) }
+/// What the terms of a key read of a row.
+fn key_values(alloc: Global, terms: &[KeyTerm], row: &StoredRow) -> Result<Row, AllocError>
+    ensures { IfOk result (λ values. values ≡ key_values terms.now row.now) }
 {
-    match decode(alloc, bytes) {
-        Ok(row) => Ok(row),
-        Err(_) => Err(AllocError),
+    let mut values = Row::empty(alloc);
+    for term in terms {
+        values.push(term.value(row)?)?;
+    }
+    Ok(values)
+}
+
+/// The rowid of which a range is, where the rowid is the only term.
+fn sought_rowid(terms: &[KeyTerm], range: &Range) -> Option<i64>
+    ensures { MatchOption result ⊤ (λ rowid. SeeksRowid terms.now range.now rowid) }
+{
+    match terms.get(0) {
+        Some(term) if terms.len() == 1 && term.source == TermSource::Rowid => {
+            first_integer(range.equal.as_slice())
+        }
+        _ => None,
     }
 }
 
-/// The value in a column of a record that can be read, NULL where there is none.
-fn column_of(alloc: Global, bytes: &[u8], place: usize) -> Result<Value, AllocError>
-    ensures { (row : MeantRow) → reading bytes.now ≡ Ok row → IfOk result (λ v. v ≡ slice_index_or row place Null) }
+/// The first of these values, where that is an integer.
+fn first_integer(values: &[Value]) -> Option<i64>
+    ensures { MatchOption result ⊤ (λ n. slice_get values.now 0 ≡ Some (Integer n)) }
 {
-    match column(alloc, bytes, place) {
-        Ok(value) => Ok(value),
-        Err(_) => Err(AllocError),
+    match values.get(0) {
+        Some(Value::Integer(n)) => Some(*n),
+        _ => None,
     }
 }

@@ -1,5 +1,7 @@
 // The tables.
-ghost use Rattle.std.specs.Prelude.{◌≡◌, ◌++◌, ◌∷◌, ◌<◌, [], true, drop, is_some, length, slice_get, slice_index_or, slice_set, IfOk, OnOk, OnErr};
+ghost use Rattle.std.specs.Prelude.{◌≡◌, ◌++◌, ◌∷◌, ◌<◌, [], true, drop, is_some, length, slice_get, slice_index_or, slice_set, IfOk, IfSome, OnOk, OnErr};
+ghost use Rattle.eng_index.specs.Keys.{found, has_doubles, row_in_way};
+ghost use Rattle.eng_index.specs.Stored.{rowids_of};
 ghost use Rattle.eng_value.specs.Environments.{column_of};
 ghost use Rattle.eng_value.specs.StoredRows.{next_rowid};
 ghost use Rattle.eng_value.specs.declared.value.Value.TheVariants.{Null};
@@ -8,8 +10,10 @@ ghost use Rattle.vm_tables.specs.Rows.{LendsColumn, on_row, values_of};
 
 use crate::change::{Change, take_back};
 use crate::table::Table;
+use eng_index::{KeyTerm, Range};
 use eng_record::Lent;
 use eng_value::{StoredRow, Value};
+use sqlite_items::Items;
 use std::alloc::{AllocError, Global};
 use std::marker::Model;
 use std::mem;
@@ -63,7 +67,7 @@ impl Tables {
         ensures { IfOk result (λ rows. rows.items ≡ rows_of self.now.world table) }
     {
         match self.tables.get(table) {
-            Some(table) => table.rows(alloc),
+            Some(table) => table.tree().rows(alloc),
             None => Ok(Vec::new(alloc)),
         }
     }
@@ -111,14 +115,14 @@ impl Tables {
     pub fn first(&self, table: u32, near: &mut usize) -> Option<i64>
         ensures { result ≡ on_row (slice_get (rows_of self.now.world table) 0) }
     {
-        self.tables.get(table as usize)?.first(near)
+        self.tables.get(table as usize)?.tree().first(near)
     }
 
     /// The rowid of a table's first row behind a rowid.
     pub fn behind(&self, table: u32, rowid: i64, near: &mut usize) -> Option<i64>
         ensures { result ≡ on_row (row_behind (rows_of self.now.world table) rowid) }
     {
-        self.tables.get(table as usize)?.behind(rowid, near)
+        self.tables.get(table as usize)?.tree().behind(rowid, near)
     }
 
     /// The rowid behind a table's last row, if there is one.
@@ -127,7 +131,7 @@ impl Tables {
     {
         match self.tables.get(table as usize) {
             None => Some(1),
-            Some(table) => table.next_rowid(),
+            Some(table) => table.tree().next_rowid(),
         }
     }
 
@@ -144,7 +148,7 @@ impl Tables {
     {
         match self.tables.get(table as usize) {
             None => Ok(Value::Null),
-            Some(table) => table.column(alloc, rowid, place, near),
+            Some(table) => table.tree().column(alloc, rowid, place, near),
         }
     }
 
@@ -155,7 +159,7 @@ impl Tables {
     {
         match self.tables.get(table as usize) {
             None => Lent::Other,
-            Some(table) => table.lent(rowid, place, near),
+            Some(table) => table.tree().lent(rowid, place, near),
         }
     }
 
@@ -163,7 +167,7 @@ impl Tables {
     pub fn rowid(&self, table: u32, rowid: i64, near: usize) -> Option<i64>
         ensures { result ≡ on_row (row_under (rows_of self.now.world table) rowid) }
     {
-        self.tables.get(table as usize)?.rowid(rowid, near)
+        self.tables.get(table as usize)?.tree().rowid(rowid, near)
     }
 
     /// Whether a table has a row of this rowid. In constant time for one that is not below the last row's.
@@ -172,7 +176,7 @@ impl Tables {
     {
         match self.tables.get(table as usize) {
             None => false,
-            Some(table) => table.has(rowid),
+            Some(table) => table.tree().has(rowid),
         }
     }
 
@@ -182,8 +186,79 @@ impl Tables {
     {
         match self.tables.get(table as usize) {
             None => false,
-            Some(table) => !table.has(rowid),
+            Some(table) => !table.tree().has(rowid),
         }
+    }
+
+    /// The rowids of a table's rows within a range of a key's terms, in their order; none where there is no such table. Time for what is found,
+    /// and to find where it begins; the first search by these terms builds an index of the rows, which stays and is kept up. Only memory can
+    /// fail, and what an instruction reads is the same whatever happens.
+    pub fn search(
+        &mut self,
+        alloc: Global,
+        table: u32,
+        terms: &[KeyTerm],
+        range: &Range,
+    ) -> Result<Vec<i64>, AllocError>
+        ensures same { self.new ≡ self.old }
+        ensures found { IfOk result (λ rowids. rowids.items ≡ rowids_of (found terms.now range.now (rows_of self.old.world table))) }
+    {
+        let place = table as usize;
+        if place >= self.tables.len() {
+            return Ok(Vec::new(alloc));
+        }
+        self.tables[place].search(alloc, terms, range)
+    }
+
+    /// How many of a table's rows a search finds, as far as an index of them stands already: it builds none. Time to find where the range begins
+    /// and where it ends. None where there is no such index or no such table, or memory is wanting.
+    pub fn count(
+        &self,
+        alloc: Global,
+        table: u32,
+        terms: &[KeyTerm],
+        range: &Range,
+    ) -> Option<usize>
+        ensures { IfSome result (λ count. count ≡ length (found terms.now range.now (rows_of self.now.world table))) }
+    {
+        self.tables.get(table as usize)?.count(alloc, terms, range)
+    }
+
+    /// The rowid of the first of a table's rows that is in the way of one that is to come: the one that has its rowid, or is equal to it in each
+    /// term of one of the keys, none of them NULL. Builds an index of the rows for each key that has none yet.
+    pub fn row_in_way(
+        &mut self,
+        alloc: Global,
+        table: u32,
+        keys: &[Items<KeyTerm>],
+        row: &StoredRow,
+    ) -> Result<Option<i64>, AllocError>
+        ensures same { self.new ≡ self.old }
+        ensures found { IfOk result (λ rowid. rowid ≡ on_row (row_in_way keys.now (rows_of self.old.world table) row.now)) }
+    {
+        let place = table as usize;
+        if place >= self.tables.len() {
+            return Ok(None);
+        }
+        self.tables[place].row_in_way(alloc, keys, row)
+    }
+
+    /// Whether two of a table's rows have the same value in each term of a key, none of them NULL. Builds the index by these terms, where there
+    /// is none yet.
+    pub fn has_doubles(
+        &mut self,
+        alloc: Global,
+        table: u32,
+        terms: &[KeyTerm],
+    ) -> Result<bool, AllocError>
+        ensures same { self.new ≡ self.old }
+        ensures doubles { IfOk result (λ doubles. doubles ≡ has_doubles terms.now (rows_of self.old.world table)) }
+    {
+        let place = table as usize;
+        if place >= self.tables.len() {
+            return Ok(false);
+        }
+        self.tables[place].has_doubles(alloc, terms)
     }
 
     /// Puts a row into a table where its rowid is free.

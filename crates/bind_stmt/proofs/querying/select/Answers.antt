@@ -1,5 +1,5 @@
 use Rattle.std.proofs.Common.{◌≡◌, true, map, arith, ap, ◌∙◌, flat_map}
-use Rattle.bound_ignored.specs.Erased.{Marks, erased, marks_of}
+use Rattle.bound_ignored.specs.Erased.{Marks, erased}
 use Rattle.bound_ignored.proofs.ErasedLaws.{flat_map-conditions_of-erased}
 use Rattle.bound_tree.specs.Conditions.{conditions_of}
 use Rattle.std.proofs.lemmas.Grind.{common_steps}
@@ -10,7 +10,7 @@ use Rattle.bind_stmt.proofs.querying.select.Goals as goal
 
 pub returns : goal.returns
 returns c =
-    let w = c.in_ok-table.ensures in
+    let w = c.in_ok-from.ensures in
     let core = c.args.core.now in
     let plain : is_plain_core core ≡ true = grind (arith, common_steps) in
     let conjuncts = c.replace.ensures.value ∙ c.in_ok-erase.ensures.conjuncts in

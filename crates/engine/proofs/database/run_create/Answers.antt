@@ -4,6 +4,7 @@ use Rattle.eng_value.specs.HostMeanings.{nobody}
 use Rattle.gen_write.specs.Writes.{create_run, create_steps}
 use Rattle.host_traits.specs.Faults.{Rose}
 use Rattle.eng_entry.specs.Entries.{with_entry, without_name}
+use Rattle.eng_entry.specs.Spaces.{space_of}
 use Rattle.eng_entry.specs.declared.entry.Space.TheVariants as space
 use Rattle.sql_meaning.specs.Statement.{create_outcome}
 use Rattle.vm_code.specs.Machine.{Failed, Finished, setting}
@@ -38,7 +39,7 @@ returns-in-Ok-execute-clause-carried g c =
 pub returns-clause-kept : goal.returns-clause-kept
 returns-clause-kept g c =
     let db = c.args.database.now in
-    let back = c.remove.ensures ∙ ap (without_name space.Names c.as_str.result.now) c.in-Ok-add.ensures.ok ∙ ap (λ name. without_name space.Names name (with_entry c.into_inner-entry.result.entry db.schema)) (c.as_str.ensures ∙ c.in_ok-name.ensures.cases) ∙ ap (λ (n : NewEntry). without_name space.Names n.entry.name (with_entry n.entry db.schema)) c.into_inner-entry.ensures ∙ taken_back c.args.new.entry db.schema c.requires.new.kind c.requires.new.free in
+    let back = c.remove.ensures ∙ ap (without_name space.Names c.as_str.result.now) c.in-Ok-add.ensures.ok ∙ ap (λ name. without_name space.Names name (with_entry c.into_inner-entry.result.entry db.schema)) (c.as_str.ensures ∙ c.in_ok-name.ensures.cases) ∙ ap (λ (n : NewEntry). without_name space.Names n.entry.name (with_entry n.entry db.schema)) c.into_inner-entry.ensures ∙ taken_back c.args.new.entry db.schema (ap space_of c.requires.new.kind) c.requires.new.free in
     rw (c.in-Err.ensures.kept, back) refl
 
 pub returns-clause-carried : goal.returns-clause-carried
@@ -52,7 +53,7 @@ returns-clause-carried g c =
     let same : to_z w64 (of_z w64 db.last_rowid) ≡ db.last_rowid = search rules in
     let ends = from_copy (setting g.M.Meanings.hosts nobody [] c.in-Ok.program) most c.in-Ok.program db.tables.world run.ending run.shared same (c.in-Ok.ensures.performs around db.last_rowid c.requires.sound) in
     let a = c.in-Err.ensures.runs told nobody most run.ending run.shared ends in
-    let back = c.remove.ensures ∙ ap (without_name space.Names c.as_str.result.now) c.in-Ok-add.ensures.ok ∙ ap (λ name. without_name space.Names name (with_entry c.into_inner-entry.result.entry db.schema)) (c.as_str.ensures ∙ c.in_ok-name.ensures.cases) ∙ ap (λ (n : NewEntry). without_name space.Names n.entry.name (with_entry n.entry db.schema)) c.into_inner-entry.ensures ∙ taken_back c.args.new.entry db.schema c.requires.new.kind c.requires.new.free in
+    let back = c.remove.ensures ∙ ap (without_name space.Names c.as_str.result.now) c.in-Ok-add.ensures.ok ∙ ap (λ name. without_name space.Names name (with_entry c.into_inner-entry.result.entry db.schema)) (c.as_str.ensures ∙ c.in_ok-name.ensures.cases) ∙ ap (λ (n : NewEntry). without_name space.Names n.entry.name (with_entry n.entry db.schema)) c.into_inner-entry.ensures ∙ taken_back c.args.new.entry db.schema (ap space_of c.requires.new.kind) c.requires.new.free in
     carries_Err old (create_outcome old c.args.new.entry) run.ending run.shared (record { ended = refl; given = refl; kept = λ causes is. absurd (let bad : Finished ≡ Failed causes = is in cc) }) most most c.args.budget (c.execute.new.steps - c.args.steps.now) c.execute.new.tables.world (g.R.RowSink.taken c.args.rows.now) (g.R.RowSink.taken c.execute.new.rows) (Rose (g.R.RowSink.fault_count c.args.rows.now) (g.R.RowSink.fault_count c.execute.new.rows)) (omega arith) (state_of c.remove.new.self c.execute.new.tables.world db.changes db.last_rowid) c.in-Err.cause (rw (c.in-Err.ensures.kept, back) refl) a
 
 pub returns-in_default-add-clause-carried : goal.returns-in_default-add-clause-carried

@@ -10,3 +10,9 @@ returns-in-CreateTable c lists entries many asked binds =
     let size = size_of_statement c.args.statement in
     let meant = statement_bound asked entries c.args.number c.args.body.now c.args.statement in
     c.created.ensures lists entries many asked (subst (λ (b : Bound). BindsTo size meant (Ok b)) c.in-CreateTable.is binds)
+
+pub returns-in-CreateIndex : goal.returns-in-CreateIndex
+returns-in-CreateIndex c lists entries many asked binds =
+    let size = size_of_statement c.args.statement in
+    let meant = statement_bound asked entries c.args.number c.args.body.now c.args.statement in
+    c.indexed.ensures c.args.number entries asked (subst (λ (b : Bound). BindsTo size meant (Ok b)) c.in-CreateIndex.is binds)

@@ -1,7 +1,8 @@
 use Rattle.std.proofs.Common.{◌≡◌, ◌+◌, [], ◌∷◌, ◌++◌, length, sum_by, take, sym, ap, ◌∙◌, subst, arith, rules}
 use Rattle.std.proofs.lemmas.List.{take_all, take_more}
 use Rattle.gen_expr.specs.Steps.{steps_of}
-use Rattle.gen_query.proofs.Gathering.{fills_result, values_in}
+use Rattle.gen_query.proofs.Gathering.{fills_last, values_in}
+use Rattle.sql_meaning.specs.Expression.{value_of}
 use Rattle.vm_code.specs.Draft.{Draft}
 use Rattle.vm_code.specs.Frames.{Fills, no_calls}
 use Rattle.vm_code.proofs.Fills.{fills_none}
@@ -18,7 +19,7 @@ loop-result-preserved c =
     let more : take (i + 1) all ≡ take i all ++ one ∷ [] = take_more all i one c.loop-result-test.true ∙ ap (λ x. take i all ++ x ∷ []) (sym c.result-item.is) in
     let leaves = rw c.in_ok-to.ensures.1 at c.in_ok-emit.ensures.leaves in
     record {
-      fills = subst (λ l. Fills no_calls c.args.b.now c.emit.new.b (length l) (λ env. values_in l env) (λ env. sum_by steps_of l)) (sym more) (fills_result (take i all) one c.in_ok-to.to c.in_ok-to.ensures.0 c.loop-result.invariant.fills leaves);
+      fills = subst (λ l. Fills no_calls c.args.b.now c.emit.new.b (length l) (λ env. values_in l env) (λ env. sum_by steps_of l)) (sym more) (fills_last value_of steps_of (take i all) one c.in_ok-to.to c.in_ok-to.ensures.0 c.loop-result.invariant.fills leaves);
       cursors = c.in_ok-emit.ensures.cursors ∙ ap (λ (d : Draft). d.cursors) c.in_ok-to.ensures.1 ∙ c.loop-result.invariant.cursors;
     }
 

@@ -1,4 +1,4 @@
-use Rattle.sql_meaning.proofs.DoneLaws.{creates, drops, inserts, selects, shows}
+use Rattle.sql_meaning.proofs.DoneLaws.{creates, drops, indexes, inserts, selects, shows, unindexes}
 use Rattle.sql_meaning.proofs.states.statements_do_what_they_say.Goals as goal
 
 pub returns-clause-inserts : goal.returns-clause-inserts
@@ -15,3 +15,9 @@ returns-clause-drops c = drops
 
 pub returns-clause-shows : goal.returns-clause-shows
 returns-clause-shows c = shows
+
+pub returns-clause-indexes : goal.returns-clause-indexes
+returns-clause-indexes c = indexes
+
+pub returns-clause-unindexes : goal.returns-clause-unindexes
+returns-clause-unindexes c = unindexes

@@ -74,6 +74,9 @@ returns-in-Copy-clause-leads c ask = rw c.in-Copy.is (c.put_copy.ensures c.args.
 pub returns-in-Affinity-clause-leads : goal.returns-in-Affinity-clause-leads
 returns-in-Affinity-clause-leads c ask = rw c.in-Affinity.is (c.store_as.ensures c.args.event.now c.args.tables.now.world)
 
+pub returns-in-Beside-clause-leads : goal.returns-in-Beside-clause-leads
+returns-in-Beside-clause-leads c ask = rw c.in-Beside.is (c.compare_as.ensures c.args.event.now c.args.tables.now.world)
+
 pub returns-in-MustBeInt-clause-leads : goal.returns-in-MustBeInt-clause-leads
 returns-in-MustBeInt-clause-leads c ask = rw c.in-MustBeInt.is (c.must_be_int.ensures c.args.tables.now.world)
 
@@ -134,6 +137,9 @@ returns-in-Rewind-clause-leads c ask = rw c.in-Rewind.is (c.jump_where_empty.ens
 pub returns-in-Next-clause-leads : goal.returns-in-Next-clause-leads
 returns-in-Next-clause-leads c ask = rw c.in-Next.is (c.jump_where_next.ensures c.args.event.now)
 
+pub returns-in-Search-clause-leads : goal.returns-in-Search-clause-leads
+returns-in-Search-clause-leads c ask = rw c.in-Search.is (rw c.as_slice-in-Search.ensures at (c.search.ensures.leads c.args.event.now))
+
 pub returns-in-Column-clause-leads : goal.returns-in-Column-clause-leads
 returns-in-Column-clause-leads c ask = rw c.in-Column.is (c.put_column.ensures c.args.event.now)
 
@@ -143,11 +149,17 @@ returns-in-Rowid-clause-leads c ask = rw c.in-Rowid.is (c.put_rowid.ensures c.ar
 pub returns-in-NotExists-clause-leads : goal.returns-in-NotExists-clause-leads
 returns-in-NotExists-clause-leads c ask = rw c.in-NotExists.is (c.jump_where_missing.ensures c.args.event.now)
 
+pub returns-in-NoConflict-clause-leads : goal.returns-in-NoConflict-clause-leads
+returns-in-NoConflict-clause-leads c ask = rw c.in-NoConflict.is (rw c.as_slice-in-NoConflict.ensures at (c.jump_without_conflict.ensures.leads c.args.event.now))
+
 pub returns-in-NewRowid-clause-leads : goal.returns-in-NewRowid-clause-leads
 returns-in-NewRowid-clause-leads c ask = rw c.in-NewRowid.is c.new_rowid.ensures
 
 pub returns-in-Insert-clause-leads : goal.returns-in-Insert-clause-leads
 returns-in-Insert-clause-leads c ask = rw c.in-Insert.is (c.insert_registers.ensures.leads c.args.event.now)
+
+pub returns-in-BuildIndex-clause-leads : goal.returns-in-BuildIndex-clause-leads
+returns-in-BuildIndex-clause-leads c ask = rw c.in-BuildIndex.is (rw c.as_slice-in-BuildIndex.ensures at c.build_index.ensures.leads)
 
 pub returns-in-Schema-clause-leads : goal.returns-in-Schema-clause-leads
 returns-in-Schema-clause-leads c ask = rw c.in-Schema.is (c.change_schema.ensures.leads c.args.event.now)

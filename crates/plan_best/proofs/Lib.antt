@@ -1,0 +1,9 @@
+pub mod Standing
+pub mod Reading
+pub mod Conjuncts
+pub mod Ranging
+pub mod Serving
+pub mod Adding
+pub mod Following
+pub mod Choices
+pub mod Fitting

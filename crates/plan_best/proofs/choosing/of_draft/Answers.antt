@@ -1,0 +1,6 @@
+use Rattle.plan_best.proofs.Fitting.{draft_fits}
+use Rattle.plan_tree.specs.declared.access.Order.TheVariants.{Rowid}
+use Rattle.plan_best.proofs.choosing.of_draft.Goals as goal
+
+pub returns : goal.returns
+returns c = λ params indexes conjuncts serves x same. draft_fits x indexes conjuncts c.args.draft Rowid (serves x same)

@@ -1,0 +1,3 @@
+pub mod Sides
+pub mod Comparing
+pub mod Drafts

@@ -1,0 +1,47 @@
+// How the rows of a table are accessed.
+use bound_tree::ExprTree;
+use eng_index::{Bounds, KeyTerm};
+use eng_value::Affinity;
+use sqlite_items::Items;
+
+/// What a search goes by: the value of an expression that reads no row, as it is compared (Datatypes In SQLite, section 4.2).
+#[derive(Clone, Copy)]
+pub struct Key<'a> {
+    pub value: &'a ExprTree,
+    /// The affinity of the other side of the comparison, which is the column's.
+    pub other: Affinity,
+    /// Its own affinity.
+    pub own: Affinity,
+}
+
+/// A search of the rows by the terms of an index, or by their rowid.
+#[derive(Drop)]
+pub struct Search<'a> {
+    pub terms: Items<KeyTerm>,
+    pub bounds: Bounds,
+    /// So many equal ones as the bounds say, then the lower limit, then the upper one.
+    pub keys: Items<Key<'a>>,
+}
+
+/// Which rows are visited.
+#[derive(Drop)]
+pub enum Path<'a> {
+    /// All of them.
+    Scan,
+    Search(Search<'a>),
+}
+
+/// In which order rows are visited.
+#[derive(Clone, Copy, PartialEq, Eq)]
+pub enum Order {
+    Rowid,
+}
+
+/// How the rows of a table are accessed.
+#[derive(Drop)]
+pub struct Access<'a> {
+    pub path: Path<'a>,
+    pub order: Order,
+    /// Of each conjunct, whether it is true at each row that is visited, so that it need not be tested.
+    pub consumed: Items<bool>,
+}

@@ -1,0 +1,16 @@
+use Rattle.std.proofs.Common.{◌≡◌, ap, sym, subst, ◌∙◌, Some, None, IfOk, rules, w64, to_z, of_z}
+use Rattle.vm_code.specs.Machine.{row_under}
+use Rattle.vm_tables.specs.Rows.{values_of}
+use Rattle.vm_tables.specs.Stored.{IsRecord}
+use Rattle.vm_tables.proofs.row_tree.RowTree.values.Goals as goal
+
+pub returns-in-None : goal.returns-in-None
+returns-in-None c =
+    let n : to_z w64 (of_z w64 c.args.rowid) ≡ c.args.rowid = search rules in
+    c.empty.ensures ∙ sym (ap values_of (subst (λ m. IsRecord None (row_under c.args.self.now m)) n c.in-None.ensures))
+
+pub returns-in-Some : goal.returns-in-Some
+returns-in-Some c =
+    let n : to_z w64 (of_z w64 c.args.rowid) ≡ c.args.rowid = search rules in
+    let found = subst (λ m. IsRecord (Some c.in-Some.record.now) (row_under c.args.self.now m)) n c.in-Some.ensures in
+    subst (λ row. IfOk c.row_of.result (λ found. found ≡ values_of row)) (sym found.1) (c.row_of.ensures found.0.values found.2)
