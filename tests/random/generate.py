@@ -1,6 +1,6 @@
 #!/usr/bin/env python3
-"""Writes scripts of random expressions over a small table, of tables that come and go, and of tables with constraints, each with the
-lines that the definitions give it.
+"""Writes scripts of random expressions over a small table, of tables that come and go, of tables with constraints, and of keys
+and indexes, each with the lines that the definitions give it.
 
 `generate.py > scripts.jsonl` made the file beside it: a script a line, with a list for each line that is due, of what it may be.
 """
@@ -12,6 +12,7 @@ from meaning import lines_of
 SCRIPTS = 300
 TABLE_SCRIPTS = 100
 CONSTRAINT_SCRIPTS = 100
+INDEX_SCRIPTS = 100
 SEED = 20251
 NAMES = ["t", "T", '"u"', "[U]", "`v`", "é", "É", "sqlite_t"]
 TYPES = ["INTEGER", "INT", "TEXT", "VARCHAR(10)", "BLOB", "NUMERIC", "", "CLOB", "DECIMAL(10, 5)"]
@@ -28,12 +29,12 @@ KEYS = ["INTEGER", "INTEGER", "integer", '"INTEGER"']
 ALIKE = ["'a'", "'A'", "'a  '", "'ab'", "'AB'", "'Ab '"]
 # What is refused of a CREATE TABLE, unless a table has the name.
 WRONG_TABLES = [
-    "w(a INT PRIMARY KEY)", "w(a INTEGER(4) PRIMARY KEY)", "w(a INTEGER UNIQUE)", "w(a, b, UNIQUE(a, b))", "w(a INTEGER, PRIMARY KEY(z))",
-    "w(a INTEGER, b, PRIMARY KEY(a, b))", "w(a INTEGER PRIMARY KEY, b INTEGER PRIMARY KEY)", "w(a INT PRIMARY KEY, b INTEGER PRIMARY KEY)",
+    "w(a INTEGER, PRIMARY KEY(z))", "w(a INTEGER PRIMARY KEY, b INTEGER PRIMARY KEY)", "w(a INT PRIMARY KEY, b INTEGER PRIMARY KEY)",
     "w(a INTEGER PRIMARY KEY, PRIMARY KEY(z))", "w(a INTEGER, PRIMARY KEY(a COLLATE other))", "w(a DEFAULT (B), b)", "w(a DEFAULT (1 + rowid))",
     "w(a DEFAULT (x.a))", "w(a CHECK(z))", "w(a CHECK(nosuch(z)))", "w(a CHECK(abs(a, z)))", "w(a CHECK(w.a < x.a))", "w(a CHECK(z), a)",
     "w(a CHECK(b > 0), b DOUBLE)", "w(a DOUBLE CHECK(z))", "w(a COLLATE other)", "w(a CHECK(a COLLATE other = 1) COLLATE another)",
-    "w(a CHECK(z), CHECK(y))", "w(a, CONSTRAINT k CHECK(y))", "sqlite_w(a CHECK(z))", "t(z CHECK(y))", "T(z UNIQUE)",
+    "w(a CHECK(z), CHECK(y))", "w(a, CONSTRAINT k CHECK(y))", "sqlite_w(a CHECK(z))", "t(z CHECK(y))", "T(z UNIQUE, y DOUBLE)",
+    "w(a UNIQUE, UNIQUE(z))", "w(a, b, UNIQUE(b COLLATE other, z))", "w(a, UNIQUE(a), UNIQUE(rowid))", "w(a UNIQUE PRIMARY KEY, PRIMARY KEY(a))",
 ]
 
 
@@ -344,14 +345,50 @@ class ConstraintWriter:
     def dot_line(self):
         return self.r.choice([".changes", ".rowid"] * 8 + [".tables"])
 
-    def script(self):
-        kinds = [(10, self.insert), (4, self.select), (3, self.dot_line), (0.8, self.wrong), (0.3, self.anew)]
+    def script(self, others=()):
+        kinds = [(10, self.insert), (4, self.select), (3, self.dot_line), (0.8, self.wrong), (0.3, self.anew), *others]
         found = [self.create() for i in range(self.r.choice([1, 1, 2]))]
         found += [self.weighed(*kinds)() for i in range(self.r.randrange(12, 26))]
         for name, (columns, key) in self.known.items():
             found.append("SELECT %s FROM %s" % (", ".join(["rowid, *"] + [self.alike(c) for c in columns]), name))
         found += [".changes", ".rowid"]
         return "".join(text + ("\n" if text.startswith(".") else ";\n") for text in found)
+
+
+class IndexWriter(ConstraintWriter):
+    """Statements about tables with keys, and indexes that come and go."""
+
+    def create(self):
+        text = super().create()
+        columns, key = self.known[list(self.known)[-1]]
+        keys = ["UNIQUE" + self.parts(columns, [""]) for i in range(self.r.choice([0, 1, 1, 2]))]
+        if not key and self.r.random() < 0.5:
+            keys.append("PRIMARY KEY" + self.parts(columns, [""]))
+        self.r.shuffle(keys)
+        return "%s)" % ", ".join([text[:-1]] + self.named(keys))
+
+    def column(self, name, columns, column, is_key, own):
+        return super().column(name, columns, column, is_key, own) + self.r.choice([""] * 5 + [" UNIQUE"])
+
+    def parts(self, columns, orders):
+        collations = ["", "", "", " COLLATE NOCASE", " COLLATE RTRIM"]
+        some = self.r.sample(columns, min(len(columns), self.r.choice([1, 1, 2, 2, 3])))
+        return "(%s)" % ", ".join(c + self.r.choice(collations) + self.r.choice(orders) for c in some)
+
+    def index(self):
+        return self.r.choice(["i", "i", "j", "I", '"k"', "t", "sqlite_i"])
+
+    def create_index(self):
+        name, columns, key = self.name()
+        columns = columns + self.maybe(0.1, self.r.choice(["z", "rowid"]))
+        return "CREATE %sINDEX %s%s ON %s%s" % (self.r.choice(["", "UNIQUE "]), self.r.choice(["", "", "IF NOT EXISTS "]), self.index(),
+                                                self.weighed((12, name), (1, "w")), self.parts(columns, ["", "", " ASC", " DESC"]))
+
+    def drop_index(self):
+        return "DROP INDEX %s%s" % (self.r.choice(["", "", "IF EXISTS "]), self.index())
+
+    def script(self):
+        return super().script([(2.5, self.create_index), (1, self.drop_index), (0.3, self.anew)])
 
 
 # Each operand of a BETWEEN stands twice in what it means, and so do its causes.
@@ -362,7 +399,8 @@ def scripts():
     source = random.Random(SEED)
     found = [script(source) for number in range(SCRIPTS)] + [NESTED]
     found += [TableWriter(source).script() for number in range(TABLE_SCRIPTS)]
-    return found + [ConstraintWriter(source).script() for number in range(CONSTRAINT_SCRIPTS)]
+    found += [ConstraintWriter(source).script() for number in range(CONSTRAINT_SCRIPTS)]
+    return found + [IndexWriter(source).script() for number in range(INDEX_SCRIPTS)]
 
 
 if __name__ == "__main__":
