@@ -1,5 +1,6 @@
 pub mod BuiltLaws
 pub mod Steps
+pub mod Froms
 pub mod Sizing
 pub mod MarkedRuns
 pub mod IgnoredLaws

@@ -1,11 +1,12 @@
 -- What runs of a statement of which something is ignored is what would run of it else, but for what its items ignore.
-use Rattle.std.proofs.Common.{◌≡◌, ◌≤◌, ◌+◌, ◌*◌, ℕ, nat_eq, Bool, true, false, not, ◌&&◌, List, [], ◌∷◌, length, map, is_some, option_map, Option, Some, None, Result, Ok, Err, slice_get, flat_map, refl, sym, ap, subst, ◌∙◌}
+use Rattle.std.proofs.Common.{◌≡◌, ◌≤◌, ◌+◌, ◌*◌, ℕ, suc, nat_eq, Bool, true, false, not, ◌&&◌, List, [], ◌∷◌, ◌++◌, length, map, is_some, option_map, Option, Some, None, Result, Ok, Err, slice_get, flat_map, refl, sym, ap, subst, ◌∙◌}
 use Rattle.std.proofs.lemmas.List.{length-map}
 use Rattle.std.proofs.lemmas.Option.{slice_get-map}
 use Rattle.eng_value.specs.declared.authorizing.Action.{Action}
 use Rattle.eng_value.specs.declared.cause.Cause.{Cause}
 use Rattle.sql_tree.specs.declared.statement.Statement.{Statement}
 use Rattle.bound_tree.specs.Conditions.{conditions_of}
+use Rattle.bound_tree.specs.Exprs.{BoundExpr}
 use Rattle.bound_tree.specs.declared.statements.BoundCommand.{BoundCommand}
 use Rattle.bound_tree.specs.declared.statements.BoundCommand.TheVariants as made
 use Rattle.bound_tree.specs.declared.statements.BoundStatement.{BoundStatement}
@@ -21,13 +22,14 @@ use Rattle.bound_tree.specs.declared.writes.BoundChange.TheVariants as change
 use Rattle.bound_tree.specs.declared.writes.BoundTarget.{BoundTarget}
 use Rattle.bound_tree.specs.declared.writes.BoundWrite.{BoundWrite}
 use Rattle.bound_actions.specs.Froms.{table_of}
-use Rattle.bound_ignored.specs.Marked.{ignoring, marked, marked_as, marked_command, marked_compound, marked_core, marked_part, marked_unit, marked_write}
+use Rattle.bound_ignored.specs.Marked.{ignoring, marked, marked_as, marked_command, marked_compound, marked_core, marked_part, marked_unit, marked_write, places_in}
 use Rattle.sql_meaning.specs.declared.column.TableEntry.{TableEntry}
-use Rattle.sql_meaning.specs.Running.{command_of, first_part, from_of, has_own_keys, if_built, is_plain_core, is_plain_query, item_of_table, part_of, put_at, put_into, put_of, query_of, rows_of_part, runnable_of, select_of, table_of_source}
+use Rattle.sql_meaning.specs.Running.{command_of, first_part, from_of, has_own_keys, if_built, is_plain_core, is_plain_query, item_of_table, part_of, put_at, put_into, put_of, query_of, rejecting, rows_of_part, runnable_of, select_of, table_of_source, tested_by}
 use Rattle.sql_meaning.specs.Runnables.{Creates, DoesNothing, Drops, FromItem, Indexes, Puts, Queries, Runnable, Shows, Unindexes}
 use Rattle.sql_meaning.proofs.ValidLaws.{same-ok}
 use Rattle.sql_words.specs.Refusals.{◌>>=◌}
 use Rattle.bind_stmt.specs.Small.{IsSmall, columns_in, from_size}
+use Rattle.bind_stmt.specs.Steps.{inner_ons}
 
 -- ---- without what is ignored
 
@@ -54,36 +56,57 @@ bared f (Err why) = Err why
 -- ---- FROM
 
 module _ (tables : List TableEntry) (ignored : List Action) (within : Option (List ℕ)) where
-  item-bare : (i : BoundItem) (r : Result TableEntry Cause) (p q : List (Option ℕ))
-      → bared bare_from (r >>= λ t. Ok (item_of_table (record i { ignored = p }) t ∷ [])) ≡ bared bare_from (r >>= λ t. Ok (item_of_table (record i { ignored = q }) t ∷ []))
-  item-bare i (Ok t) p q = refl
-  item-bare i (Err why) p q = refl
+  cons-bare : (i : FromItem) (r : Result (List FromItem) Cause) → bared bare_from (r >>= λ others. Ok (i ∷ others)) ≡ (bared bare_from r >>= λ others. Ok (bare_item i ∷ others))
+  cons-bare i (Ok others) = refl
+  cons-bare i (Err why) = refl
 
-  item-alike : (i : BoundItem) (t : Option (List ℕ)) → bared bare_from (from_of tables (marked_as ignored within t i ∷ [])) ≡ bared bare_from (from_of tables (i ∷ []))
-  item-alike i None = refl
-  item-alike i (Some t) = item-bare i (table_of_source tables i.source) _ i.ignored
+  -- items that differ in what they ignore, in front of others that are alike
+  item-alike : (i : BoundItem) (t : Result TableEntry Cause) (p q : List (Option ℕ)) (x y : Result (List FromItem) Cause) → bared bare_from x ≡ bared bare_from y
+      → bared bare_from (t >>= λ u. x >>= λ others. Ok (item_of_table (record i { ignored = p }) u ∷ others)) ≡ bared bare_from (t >>= λ u. y >>= λ others. Ok (item_of_table (record i { ignored = q }) u ∷ others))
+  item-alike i (Ok u) p q x y alike =
+      let behind : Result (List FromItem) Cause → Result (List FromItem) Cause = λ r. r >>= λ others. Ok (bare_item (item_of_table i u) ∷ others) in
+      cons-bare (item_of_table (record i { ignored = p }) u) x ∙ ap behind alike ∙ sym (cons-bare (item_of_table (record i { ignored = q }) u) y)
+  item-alike i (Err why) p q x y alike = refl
 
   from-alike : (items : List BoundItem) → bared bare_from (from_of tables (map (marked ignored within) items)) ≡ bared bare_from (from_of tables items)
   from-alike [] = refl
-  from-alike (i ∷ []) = item-alike i (table_of i.source)
-  from-alike (i ∷ j ∷ items) = refl
+  from-alike (i ∷ items) = by (table_of i.source) (from-alike items)
+    where
+      by : (table : Option (List ℕ)) → bared bare_from (from_of tables (map (marked ignored within) items)) ≡ bared bare_from (from_of tables items)
+          → bared bare_from (table_of_source tables (marked_as ignored within table i).source >>= λ t. from_of tables (map (marked ignored within) items) >>= λ others. Ok (item_of_table (marked_as ignored within table i) t ∷ others))
+          ≡ bared bare_from (from_of tables (i ∷ items))
+      by None alike = item-alike i (table_of_source tables i.source) i.ignored i.ignored (from_of tables (map (marked ignored within) items)) (from_of tables items) alike
+      by (Some table) alike = item-alike i (table_of_source tables i.source) (places_in ignored within table i.columns) i.ignored (from_of tables (map (marked ignored within) items)) (from_of tables items) alike
 
   -- ---- queries
 
-  over-bare : (c : BoundCore) (r : Result (List FromItem) Cause) → bared bare (r >>= λ from. Ok (Queries (record { from = from; conjuncts = flat_map conditions_of c.conjuncts; results = c.results })))
-      ≡ (bared bare_from r >>= λ from. Ok (Queries (record { from = from; conjuncts = flat_map conditions_of c.conjuncts; results = c.results })))
-  over-bare c (Ok from) = refl
-  over-bare c (Err why) = refl
+  -- what is ignored changes nothing of what ONs say
+  tested-alike : (i : BoundItem) (table : Option (List ℕ)) → tested_by (marked_as ignored within table i).join (marked_as ignored within table i).ons ≡ tested_by i.join i.ons
+  tested-alike i None = refl
+  tested-alike i (Some table) = refl
+
+  ons-alike : (items : List BoundItem) → inner_ons (map (marked ignored within) items) ≡ inner_ons items
+  ons-alike [] = refl
+  ons-alike (i ∷ items) =
+      ap (λ ons. ons ++ inner_ons (map (marked ignored within) items)) (tested-alike i (table_of i.source)) ∙ ap (λ others. tested_by i.join i.ons ++ others) (ons-alike items)
+
+  abbrev over : List BoundExpr → List BoundExpr → List FromItem → Result Runnable Cause
+  over conjuncts results from = Ok (Queries (record { from = from; conjuncts = flat_map conditions_of conjuncts; results = results }))
+
+  over-bare : (conjuncts results : List BoundExpr) (r : Result (List FromItem) Cause) → bared bare (r >>= over conjuncts results) ≡ (bared bare_from r >>= over conjuncts results)
+  over-bare conjuncts results (Ok from) = refl
+  over-bare conjuncts results (Err why) = refl
 
   select-alike : (c : BoundCore) → bared bare (select_of tables (marked_core ignored within c)) ≡ bared bare (select_of tables c)
-  select-alike c = by (is_plain_core c)
+  select-alike c =
+      ap (λ ons. bared bare (if_built (is_plain_core c) (from_of tables (map (marked ignored within) c.items) >>= over (ons ++ c.conjuncts) c.results))) (ons-alike c.items)
+      ∙ by (is_plain_core c)
     where
-      over : List FromItem → Result Runnable Cause
-      over from = Ok (Queries (record { from = from; conjuncts = flat_map conditions_of c.conjuncts; results = c.results }))
-
-      by : (plain : Bool) → bared bare (if_built plain (from_of tables (map (marked ignored within) c.items) >>= over)) ≡ bared bare (if_built plain (from_of tables c.items >>= over))
+      by : (plain : Bool) → bared bare (if_built plain (from_of tables (map (marked ignored within) c.items) >>= over (rejecting c) c.results)) ≡ bared bare (if_built plain (from_of tables c.items >>= over (rejecting c) c.results))
       by false = refl
-      by true = over-bare c (from_of tables (map (marked ignored within) c.items)) ∙ ap (λ r. r >>= over) (from-alike c.items) ∙ sym (over-bare c (from_of tables c.items))
+      by true =
+          over-bare (rejecting c) c.results (from_of tables (map (marked ignored within) c.items)) ∙ ap (λ r. r >>= over (rejecting c) c.results) (from-alike c.items)
+          ∙ sym (over-bare (rejecting c) c.results (from_of tables c.items))
 
   part-alike : (p : BoundPart) → bared bare (part_of tables (marked_part ignored within p)) ≡ bared bare (part_of tables p)
   part-alike (part.Select c) = select-alike c
@@ -178,7 +201,7 @@ module _ (tables : List TableEntry) (ignored : List Action) where
 
 from_size-bare : (from : List FromItem) → from_size (bare_from from) ≡ from_size from
 from_size-bare [] = refl
-from_size-bare (i ∷ from) = refl
+from_size-bare (i ∷ from) = ap (λ n. 1 + suc n) (length-map from bare_item)
 
 columns-bare : (from : List FromItem) → columns_in (bare_from from) ≡ columns_in from
 columns-bare [] = refl

@@ -1,5 +1,5 @@
 -- What runs is small beside its tree.
-use Rattle.std.proofs.Common.{◌≡◌, ℕ, ◌+◌, ◌*◌, ◌≤◌, List, [], ◌∷◌, map, Option, Some, None, Result, Ok, Err, slice_get, refl, ap, subst, arith}
+use Rattle.std.proofs.Common.{◌≡◌, ℕ, suc, ◌+◌, ◌*◌, ◌≤◌, List, [], ◌∷◌, length, map, Option, Some, None, Result, Ok, Err, slice_get, refl, ap, subst, arith}
 use Rattle.eng_value.specs.declared.cause.Cause.{Cause}
 use Rattle.eng_value.specs.declared.cause.Cause.TheVariants as cause
 use Rattle.sql_tree.specs.Layers.{PartLayer, SelectLayer, of_part, of_query, of_select}
@@ -36,15 +36,17 @@ first-is u p e = same-ok u.first p (if_built-ok (is_plain_query u) (Ok u.first) 
 -- as many columns as the items that are bound
 record Widths (items : List BoundItem) (from : List FromItem) : Type 0 where
   columns : columns_in from ≡ small.columns_in items
+  count : length from ≡ length items
   size : from_size from ≡ small.from_size items
 
 widths : (tables : List TableEntry) (items : List BoundItem) (from : List FromItem) → from_of tables items ≡ Ok from → Widths items from
-widths tables [] from e = subst (Widths []) (same-ok [] from e) (record { columns = refl; size = refl })
-widths tables (i ∷ []) from e =
-    let item : TableEntry → Result (List FromItem) Cause = λ t. Ok (item_of_table i t ∷ []) in
-    let t = then-ok (table_of_source tables i.source) item from e in
-    subst (Widths (i ∷ [])) (same-ok (item_of_table i t.0 ∷ []) from t.2) (record { columns = refl; size = refl })
-widths tables (i ∷ j ∷ items) from e = absurd (let bad : Err cause.NotYet ≡ Ok from = e in cc)
+widths tables [] from e = subst (Widths []) (same-ok [] from e) (record { columns = refl; count = refl; size = refl })
+widths tables (i ∷ items) from e =
+    let behind : TableEntry → List FromItem → Result (List FromItem) Cause = λ t others. Ok (item_of_table i t ∷ others) in
+    let t = then-ok (table_of_source tables i.source) (λ t. from_of tables items >>= behind t) from e in
+    let others = then-ok (from_of tables items) (behind t.0) from t.2 in
+    let rest = widths tables items others.0 others.1 in
+    subst (Widths (i ∷ items)) (same-ok (item_of_table i t.0 ∷ others.0) from others.2) (record { columns = ap (λ n. length i.columns + n) rest.columns; count = ap suc rest.count; size = ap (λ n. 1 + suc n) rest.count })
 
 query-few : (size : ℕ) (s : SelectLayer) (c : BoundCore) (from : List FromItem) → select_size s ≤ size → IsSmallCore s c → Widths c.items from → IsSmallQuery size (query_over c from)
 query-few size s c from le core wide =

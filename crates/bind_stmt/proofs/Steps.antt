@@ -1,12 +1,10 @@
 -- What single steps come to.
-use Rattle.std.proofs.Common.{◌≡◌, ◌≤◌, nat_eq, nat_le, is_some, subst, if◌then◌else◌, ℕ, List, [], ◌∷◌, ◌++◌, false, true, length, Option, Some, None, Result, Ok, Err, inl, inr, ◌∙◌, flat_map, slice_get, refl, ap, sym}
+use Rattle.std.proofs.Common.{◌≡◌, ◌≤◌, nat_le, is_some, subst, if◌then◌else◌, ℕ, List, true, length, Option, Some, None, Result, Ok, inl, inr, ◌∙◌, flat_map, slice_get, refl, ap, sym}
 use Rattle.std.proofs.lemmas.Bool.{le-leb}
 use Rattle.std.proofs.lemmas.List.{length-map}
 use Rattle.eng_value.specs.declared.cause.Cause.{Cause}
-use Rattle.eng_value.specs.declared.cause.Cause.TheVariants.{NotYet}
 use Rattle.eng_value.specs.declared.limits.TheConstants.{MAX_COLUMNS}
 use Rattle.bound_tree.specs.declared.units.BoundCore.{BoundCore}
-use Rattle.bound_tree.specs.declared.units.BoundItem.{BoundItem}
 use Rattle.bound_tree.specs.declared.units.BoundPart.{BoundPart}
 use Rattle.bound_tree.specs.declared.units.BoundUnit.{BoundUnit}
 use Rattle.bound_tree.specs.Exprs.{BoundExpr}
@@ -16,7 +14,7 @@ use Rattle.sql_meaning.specs.declared.bound.PutColumn.{PutColumn}
 use Rattle.sql_meaning.specs.declared.bound.RowidFrom.{RowidFrom}
 use Rattle.sql_words.specs.Refusals.{◌>>=◌}
 use Rattle.sql_meaning.specs.declared.column.TableEntry.{TableEntry}
-use Rattle.sql_meaning.specs.Running.{columns_put, first_part, from_of, is_plain_core, item_of_table, part_of, put_at, put_into, put_of, put_with, query_of, rowid_from, select_of, table_of_source}
+use Rattle.sql_meaning.specs.Running.{columns_put, first_part, from_of, is_plain_core, part_of, put_at, put_into, put_of, put_with, query_of, rejecting, rowid_from, select_of, table_of_source}
 use Rattle.sql_meaning.specs.Runnables.{FromItem, Put, Puts, Queries, Query, Runnable}
 use Rattle.bound_tree.specs.Conditions.{conditions_of}
 use Rattle.bound_tree.specs.declared.statements.BoundCreation.{BoundCreation}
@@ -35,11 +33,8 @@ use Rattle.sql_tree.specs.declared.statement.Statement.{Statement}
 use Rattle.sql_tree.specs.declared.statement.TableDefinition.{TableDefinition}
 use Rattle.bind_stmt.specs.Binds.{IsRefusal}
 
-pub item-is : (tables : List TableEntry) (i : BoundItem) (t : TableEntry) → table_of_source tables i.source ≡ Ok t → from_of tables (i ∷ []) ≡ Ok (item_of_table i t ∷ [])
-item-is tables i t is = rw is refl
-
 abbrev pub query_over : BoundCore → List FromItem → Query
-query_over c from = record { from = from; conjuncts = flat_map conditions_of c.conjuncts; results = c.results }
+query_over c from = record { from = from; conjuncts = flat_map conditions_of (rejecting c); results = c.results }
 
 pub select-is : (tables : List TableEntry) (c : BoundCore) (from : List FromItem) → is_plain_core c ≡ true → from_of tables c.items ≡ Ok from → select_of tables c ≡ Ok (Queries (query_over c from))
 select-is tables c from plain is = rw (plain, is) refl
@@ -69,12 +64,6 @@ columns-are text s k t is at few =
 
 pub rowid-is : (text : List ℕ) (s : Statement) (k : Create) (t : TableDefinition) → s.command ≡ command.Create k → k.definition ≡ definition.Table t → rowid_created text s.command ≡ rowid_of text t
 rowid-is text s k t is at = rw (is, at) refl
-
--- where there is an item more than one
-pub from-more : (tables : List TableEntry) (others : List BoundItem) (i : BoundItem) → nat_eq (length others) 0 ≡ false → from_of tables (others ++ i ∷ []) ≡ Err NotYet
-from-more tables [] i more = absurd (let bad : true ≡ false = more in cc)
-from-more tables (j ∷ []) i more = refl
-from-more tables (j ∷ k ∷ others) i more = refl
 
 pub created-is : (tables : List TableEntry) (number : ℕ) (text : List ℕ) (s : Statement) (b : BoundCreation) (k : Create) (t : TableDefinition) → s.command ≡ command.Create k → k.definition ≡ definition.Table t → length t.columns ≤ MAX_COLUMNS
     → creation_of tables number text s b ≡ Ok (Creates (entry_with number text b.name s))

@@ -1,6 +1,6 @@
 -- How what was bound stands to what the definitions bind.
-use Rattle.std.specs.Prelude.{◌≡◌, ◌⊎◌, ⊤, ℕ, List, [], ◌∷◌, Option, Some, None, Result, Ok, Err, map}
-use Rattle.std.specs.List.{flat_map}
+use Rattle.std.specs.Prelude.{◌≡◌, ◌⊎◌, ⊤, ℕ, List, Some, Result, Ok, Err, map}
+use Rattle.std.specs.List.{AllZip, flat_map}
 use Rattle.eng_value.specs.declared.cause.Cause.{Cause}
 use Rattle.eng_value.specs.declared.cause.Cause.TheVariants.{Mem}
 use Rattle.sql_tree.specs.Sizes.{size_of_statement}
@@ -8,11 +8,13 @@ use Rattle.sql_tree.specs.declared.statement.Statement.{Statement}
 use Rattle.sql_meaning.specs.declared.bound.BoundInsert.{BoundInsert}
 use Rattle.sql_meaning.specs.declared.bound.BoundSelect.{BoundSelect}
 use Rattle.sql_meaning.specs.declared.bound.FromTable.{FromTable}
+use Rattle.sql_meaning.specs.declared.bound.Join.{Join}
+use Rattle.sql_meaning.specs.declared.bound.Join.TheVariants as join
 use Rattle.sql_meaning.specs.Runnables.{Runnable, Creates, DoesNothing, Drops, FromItem, Indexes, NewIndex, Put, Puts, Queries, Query, Shows, Unindexes}
 use Rattle.sql_meaning.specs.Declarations.{columns_created, rowid_created}
 use Rattle.eng_entry.specs.Entries.{Entries}
 use Rattle.bound_tree.specs.Conditions.{conditions_of}
-use Rattle.bound_ignored.specs.Erased.{erased}
+use Rattle.bound_ignored.specs.Erased.{Marks, erased}
 use Rattle.sql_meaning.specs.Permits.{Asking}
 use Rattle.sql_meaning.specs.Searches.{marks_in}
 use Rattle.sql_meaning.specs.Statement.{statement_bound}
@@ -39,15 +41,25 @@ AnswersBy R meant (Err why) = IsRefusal meant why
 
 -- ---- what stands for what
 
--- no item, or one by the number of its table, with the terms of its indexes
-abbrev pub IsFrom : List FromItem → Option FromTable → Type 0
-IsFrom [] None = ⊤
-IsFrom (i ∷ []) (Some from) = (from.table ≡ i.table.number) × (from.indexes ≡ i.indexes)
-IsFrom _ _ = ⊥
+-- what a LEFT JOIN's ON tests stands as it reads rows that are stored
+abbrev pub IsJoin : Marks → Join → Join → Type 0
+IsJoin m join.Inner join.Inner = ⊤
+IsJoin m (join.Left ons) (join.Left made) = flat_map conditions_of made ≡ map (erased m) ons
+IsJoin m _ _ = ⊥
+
+-- an item by the number of its table, with the terms of its indexes
+pub record IsItem (m : Marks) (i : FromItem) (f : FromTable) : Type 0 where
+  pub table : f.table ≡ i.table.number
+  pub indexes : f.indexes ≡ i.indexes
+  pub join : IsJoin m i.join f.join
+
+-- each item of a FROM that has these marks
+abbrev pub AreFrom : Marks → List FromItem → List FromTable → Type 0
+AreFrom m from made = AllZip (IsItem m) from made
 
 -- NULL stands in place of what is ignored, and the rowid in place of the column that is it
 pub record IsQueryAs (q : Query) (b : BoundSelect) : Type 0 where
-  pub from : IsFrom q.from b.from
+  pub from : AreFrom (marks_in q.from) q.from b.from
   pub conjuncts : flat_map conditions_of b.conjuncts ≡ map (erased (marks_in q.from)) q.conjuncts
   pub results : b.results ≡ map (erased (marks_in q.from)) q.results
 

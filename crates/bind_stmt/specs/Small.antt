@@ -10,10 +10,10 @@ use Rattle.bound_size.specs.Sizes.{all_nodes}
 abbrev pub columns_in : List FromItem → ℕ
 columns_in items = total (map (λ (i : FromItem). i.width) items)
 
--- FROM and a name
+-- FROM and each item
 abbrev pub from_size : List FromItem → ℕ
 from_size [] = 0
-from_size (i ∷ items) = 2
+from_size (i ∷ items) = 1 + length (i ∷ items)
 
 -- what is shown by `*` adds at most a hundred columns, and none of a table that has none; a WHERE may repeat what results show
 pub record IsSmallQuery (size : ℕ) (q : Query) : Type 0 where

@@ -1,14 +1,14 @@
 // Which statements are built.
 ghost use Rattle.std.specs.Prelude.{◌≡◌};
 ghost use Rattle.std.specs.List.{list_all};
-ghost use Rattle.sql_meaning.specs.Built.{are_built_rows, is_built, is_built_behind, is_built_column, is_built_command, is_built_constraint, is_built_definition, is_built_filter, is_built_from, is_built_insert, is_built_item, is_built_part, is_built_query, is_built_result, is_built_rows, is_built_rows_source, is_built_select, is_built_source, is_built_table, is_built_values, is_built_row, is_plain_select, is_removed, stands_alone};
-ghost use Rattle.sql_tree.specs.Layers.{of_item, of_part, of_query, of_result, of_select, of_source};
+ghost use Rattle.sql_meaning.specs.Built.{are_built_rows, is_built, is_built_behind, is_built_column, is_built_command, is_built_constraint, is_built_definition, is_built_filter, is_built_insert, is_built_item, is_built_join, is_built_part, is_built_query, is_built_result, is_built_rows, is_built_rows_source, is_built_select, is_built_source, is_built_table, is_built_values, is_built_row, is_plain_select, is_removed, stands_alone};
+ghost use Rattle.sql_tree.specs.Layers.{of_constraint, of_part, of_query, of_result, of_select, of_source};
 
 use crate::built_expressions::is_built as is_built_expr;
 use sql_tree::{
     ColumnConstraint, ColumnDefinition, Command, ConflictChoice, Definition, Expr, FromItem,
-    Insert, InsertSource, ObjectKind, Query, QueryPart, ResultColumn, RowCommand, SelectCore,
-    Source, Statement, TableConstraint, TableDefinition,
+    Insert, InsertSource, JoinConstraint, ObjectKind, Query, QueryPart, ResultColumn, RowCommand,
+    SelectCore, Source, Statement, TableConstraint, TableDefinition,
 };
 use sqlite_items::Items;
 
@@ -148,7 +148,7 @@ fn is_built_select(text: &str, core: &SelectCore) -> bool
     ensures { result ≡ is_built_select text.now (of_select core.now) }
 {
     is_plain_select(core)
-        && is_built_from(core.from.as_slice())
+        && are_built_items(text, core.from.as_slice())
         && are_built_results(text, core.results.as_slice())
         && is_built_filter(text, &core.filter)
 }
@@ -160,20 +160,25 @@ fn is_plain_select(core: &SelectCore) -> bool
     !core.distinct && core.group_by.is_empty() && core.having.is_none()
 }
 
-fn is_built_from(items: &[FromItem]) -> bool
-    ensures { result ≡ is_built_from items.now }
+fn are_built_items(text: &str, items: &[FromItem]) -> bool
+    ensures { result ≡ list_all (is_built_item text.now) items.now }
 {
-    match items {
-        [] => true,
-        [item] => is_built_item(item),
-        _ => false,
-    }
+    items.iter().all(|item| is_built_item(text, item))
 }
 
-fn is_built_item(item: &FromItem) -> bool
-    ensures { result ≡ is_built_item (of_item item.now) }
+fn is_built_item(text: &str, item: &FromItem) -> bool
+    ensures { result ≡ is_built_item text.now item.now }
 {
-    is_built_source(&item.source)
+    is_built_source(&item.source) && is_built_join(text, &item.constraint)
+}
+
+fn is_built_join(text: &str, constraint: &JoinConstraint) -> bool
+    ensures { result ≡ is_built_join text.now (of_constraint constraint.now) }
+{
+    match constraint {
+        JoinConstraint::On(e) => is_built_expr(text, e),
+        JoinConstraint::Unconstrained | JoinConstraint::Using(_) => true,
+    }
 }
 
 fn is_built_source(source: &Source) -> bool

@@ -1,32 +1,34 @@
 -- What statements that are ready to run come to is what the definitions say of what was bound.
 use Rattle.std.proofs.Common.{◌≡◌, ◌⊎◌, inl, inr, ◌||◌, ℕ, ◌<◌, true, List, [], ◌∷◌, ◌++◌, ℤ, length, map, option_map, All, Option, Some, None, refl, sym, ap, ◌∙◌}
-use Rattle.std.specs.List.{flat_map}
+use Rattle.std.specs.List.{AllZip, flat_map}
 use Rattle.std.proofs.lemmas.List.Elements.{All-head, All-tail}
 use Rattle.std.specs.FinSet as set
 use Rattle.std.specs.Cmp.Lexicographic.{nat_list_cmp_total}
 use Rattle.eng_value.specs.Causes.{CauseSet, cause_key, has_cause, named}
-use Rattle.eng_value.specs.Environments.{Environment, ItemRow, Surroundings, environment, ignoring, table_row}
+use Rattle.eng_value.specs.Environments.{Environment, Surroundings, environment, table_row}
 use Rattle.eng_value.specs.HostMeanings.{HostMeanings}
-use Rattle.eng_value.specs.StoredRows.{StoredRow}
 use Rattle.eng_value.specs.Written.{unwritten}
 use Rattle.eng_value.specs.declared.cause.Cause.{Cause}
 use Rattle.eng_value.specs.declared.value.Value.{Value}
-use Rattle.gen_query.specs.Queries.{rows_in}
+use Rattle.plan_tree.specs.Plans.{joined_table, rows_of_from, split_join}
 use Rattle.gen_write.specs.Writes.{Course, rows_run, run_by, source_run, untouched}
 use Rattle.bound_tree.specs.Exprs.{BoundExpr}
 use Rattle.sql_meaning.specs.declared.bound.BoundInsert.{BoundInsert}
 use Rattle.sql_meaning.specs.declared.bound.BoundSelect.{BoundSelect}
 use Rattle.sql_meaning.specs.declared.column.TableEntry.{TableEntry}
 use Rattle.sql_meaning.specs.Runnables.{FromItem, NewIndex, Put, Query}
-use Rattle.sql_meaning.specs.Statement.{Item, Row, Failed as Bad, IsNamed, causes_of, with_others, closed, drop_outcome, Outcome, query_outcome, items_of, items_at, product, index_outcome, put_outcome, put_source, source_of as source_meant, refusal_of, given_of, rows_put}
+use Rattle.sql_meaning.specs.Statement.{Item, Row, Failed as Bad, IsNamed, causes_of, with_others, closed, drop_outcome, Outcome, query_outcome, items_of, items_at, from_rows, index_outcome, put_outcome, put_source, source_of as source_meant, refusal_of, given_of, rows_put}
 use Rattle.sql_meaning.specs.Steps.{Effect, Done, Left, Fails}
-use Rattle.sql_meaning.specs.World.{Context, State, context, environment_at, rows_at, seen}
+use Rattle.sql_meaning.specs.World.{Context, State, context, environment_at, rows_at}
 use Rattle.vm_code.specs.Machine.{ending_by, World as Lists, IsSound, Shared}
-use Rattle.bind_stmt.specs.Binds.{IsFrom, IsIndexAs, IsQueryAs}
+use Rattle.bind_stmt.specs.Binds.{AreFrom, IsIndexAs, IsJoin, IsQueryAs}
 use Rattle.sql_meaning.specs.Searches.{marks_in}
 use Rattle.sql_meaning.specs.declared.bound.FromTable.{FromTable}
-use Rattle.bound_ignored.specs.Erased.{ItemMarks, erased}
-use Rattle.sql_meaning.proofs.ErasedValues.{items_at-erased, items_at-erased_one, null-reads, seen-reads}
+use Rattle.bound_ignored.specs.Erased.{Marks, erased}
+use Rattle.sql_meaning.proofs.ErasedRows.{IsStored, erased_join, from-erased}
+use Rattle.sql_meaning.specs.Products.{FromRow, in_row}
+use Rattle.sql_meaning.specs.declared.bound.Join.{Join}
+use Rattle.sql_meaning.specs.declared.bound.Join.TheVariants.{Inner, Left}
 use Rattle.sql_meaning.proofs.RowidPlaces.{HasPlace}
 use Rattle.bind_stmt.specs.declared.statement.DroppedTable.{DroppedTable}
 use Rattle.eng_entry.specs.Entries.{Entries}
@@ -54,15 +56,14 @@ bad_sides (Row row ∷ items) = bad_sides items
 bad_sides (Bad causes ∷ items) =
     inr (causes, with_others (named causes) (causes_of items), refl, refl, among_others (named causes) (causes_of items))
 
--- ---- the product of one item, and the lists of tables
+-- ---- queries
 
--- a row of a single item is an environment's only row, as it is seen
-one_item : (f g : List ItemRow → List Item) (as_seen : StoredRow → ItemRow) (P : StoredRow → Type 0) → ((r : StoredRow) → P r → f (as_seen r ∷ []) ≡ g (table_row r ∷ [])) → (rows : List StoredRow) → All P rows
-    → flat_map f (flat_map (λ r. (r ∷ []) ∷ []) (map as_seen rows)) ≡ flat_map g (map (λ r. table_row r ∷ []) rows)
-one_item f g as_seen P same [] all = refl
-one_item f g as_seen P same (r ∷ rows) all =
-    ap (λ items. items ++ flat_map f (flat_map (λ r. (r ∷ []) ∷ []) (map as_seen rows))) (same r (All-head P r rows all))
-    ∙ ap (λ items. g (table_row r ∷ []) ++ items) (one_item f g as_seen P same rows (All-tail P r rows all))
+-- a join that was bound tests what the item's tests over rows that are stored
+join_same : (m : Marks) (meant made : Join) → IsJoin m meant made → split_join made ≡ erased_join m meant
+join_same m Inner Inner at = refl
+join_same m (Left ons) (Left made) at = ap Left at
+join_same m Inner (Left made) at = absurd at
+join_same m (Left ons) Inner at = absurd at
 
 -- the run of a query ends as the query is refused
 pub query_ended : (state : State) (items : List Item) → ending_by (refusal_of items) ≡ ended_by (query_outcome state items).refusal
@@ -88,22 +89,27 @@ module _ (hosts : HostMeanings) (entries : Entries) (lists : Lists) (changes : �
   abbrev pub HavePlaces : FromItem → Type 0
   HavePlaces i = All (HasPlace i.table.rowid) (rows_at lists i.table.number)
 
-  -- the items of a FROM are those of the rows of its table, with NULL in place of what is ignored and the rowid in place of the column that is it
-  from_same : (conjuncts results : List BoundExpr) (from : List FromItem) (read : Option FromTable) → IsFrom from read → All HavePlaces from
-      → flat_map (λ rows. items_at conjuncts results (environment_at ctx rows)) (product ctx from [])
-      ≡ flat_map (λ rows. items_at (map (erased (marks_in from)) conjuncts) (map (erased (marks_in from)) results) (environment around [] [] rows)) (rows_in read lists)
-  from_same conjuncts results [] None at places =
-      ap (λ items. items ++ []) (sym (items_at-erased [] (environment around [] [] []) [] (λ item. null-reads) conjuncts results refl))
-  from_same conjuncts results (i ∷ []) (Some f) at places =
-      let k : ItemMarks = record { ignored = i.ignored; rowid = i.table.rowid } in
-      let as_seen : StoredRow → ItemRow = λ r. ignoring i.ignored (table_row (seen i.table.rowid r)) in
-      rw at.0 (one_item (λ rows. items_at conjuncts results (environment_at ctx rows))
-      (λ rows. items_at (map (erased (k ∷ [])) conjuncts) (map (erased (k ∷ [])) results) (environment around [] [] rows)) as_seen (HasPlace i.table.rowid)
-      (λ r place. sym (items_at-erased_one k (table_row r) (as_seen r) (environment around [] [] []) conjuncts results (seen-reads i.ignored i.table.rowid r place))) (rows_at lists i.table.number) (All-head HavePlaces i [] places))
-  from_same conjuncts results [] (Some f) at places = absurd at
-  from_same conjuncts results (i ∷ []) None at places = absurd at
-  from_same conjuncts results (i ∷ j ∷ from) None at places = absurd at
-  from_same conjuncts results (i ∷ j ∷ from) (Some f) at places = absurd at
+  -- what expressions see before an item has a row
+  abbrev pub seen_first : Environment
+  seen_first = environment around [] [] []
+
+  -- the items that were bound stand for the FROM's over rows that are stored
+  items_stored : (m : Marks) (from : List FromItem) (read : List FromTable) → AreFrom m from read → All HavePlaces from → AllZip (IsStored lists m) from (map (joined_table seen_first) read)
+  items_stored m [] [] at places = tt
+  items_stored m (i ∷ from) (f ∷ read) at places =
+      let item = at.0 in (
+        record { rows = ap (λ n. map table_row (rows_at lists n)) item.table; join = join_same m i.join f.join item.join; places = All-head HavePlaces i from places },
+        items_stored m from read at.1 (All-tail HavePlaces i from places),
+      )
+  items_stored m [] (f ∷ read) at places = absurd at
+  items_stored m (i ∷ from) [] at places = absurd at
+
+  -- a FROM comes to its items over rows that are stored, with NULL in place of what is ignored and the rowid in place of the column that is it
+  from_same : (conjuncts results : List BoundExpr) (from : List FromItem) (read : List FromTable) → AreFrom (marks_in from) from read → All HavePlaces from
+      → flat_map (λ (row : FromRow). items_at conjuncts results (environment_at ctx row.rows) row.causes) (from_rows ctx from)
+      ≡ flat_map (λ (row : FromRow). items_at (map (erased (marks_in from)) conjuncts) (map (erased (marks_in from)) results) (in_row seen_first row) row.causes) (rows_of_from seen_first read)
+  from_same conjuncts results from read at places =
+      sym (from-erased ctx conjuncts results from (map (joined_table seen_first) read) (items_stored (marks_in from) from read at places))
 
   pub query_same : (q : Query) (b : BoundSelect) → IsQueryAs q b → All HavePlaces q.from → query_outcome state (items_of ctx q) ≡ query_outcome_in hosts entries lists changes last params b
   query_same q b at places = rw (at.conjuncts, at.results) (ap (query_outcome state) (from_same q.conjuncts q.results q.from b.from at.from places))

@@ -5,23 +5,22 @@ use Rattle.std.specs.Option.{option_to_list}
 use Rattle.std.proofs.Math.Nat.{mul-le-mul_left}
 use Rattle.std.proofs.lemmas.List.{length-map}
 use Rattle.std.proofs.lemmas.List.Concat.{flat_map-cons}
-use Rattle.std.proofs.lemmas.List.Sums.{sum_by-cons}
+use Rattle.std.proofs.lemmas.List.Sums.{sum-map, sum_by-cons}
 use Rattle.bind_stmt.proofs.ErasedSizes.{all_nodes-erased}
-use Rattle.bind_stmt.specs.Binds.{IsBound, IsFrom}
+use Rattle.bind_stmt.specs.Binds.{AreFrom, IsBound, IsJoin, IsQueryAs}
 use Rattle.bind_stmt.specs.Small.{AreFew, IsSmall, IsSmallQuery, columns_in, from_size as table_tokens}
 use Rattle.bound_ignored.specs.Erased.{Marks, erased}
 use Rattle.bound_size.proofs.NodeLaws.{all_nodes-append}
 use Rattle.bound_size.specs.Counts.{rows_size}
 use Rattle.bound_size.specs.Sizes.{all_nodes, nodes_of}
-use Rattle.bound_tree.specs.Conditions.{conditions_of}
-use Rattle.bound_tree.specs.Exprs as e
 use Rattle.eng_entry.specs.Entries.{Entries}
 use Rattle.eng_value.specs.Environments.{Surroundings}
 use Rattle.eng_value.specs.HostMeanings.{HostMeanings}
 use Rattle.eng_value.specs.declared.value.Value.{Value}
 use Rattle.gen_expr.proofs.Bounds.{some_nodes}
 use Rattle.gen_query.proofs.Sizing.{steps-few, values-few}
-use Rattle.gen_query.specs.Queries.{conjuncts_of, query_steps, rows_read, rows_seen, values_steps}
+use Rattle.gen_query.specs.Queries.{alone_turns, conjuncts_of, product_turns, query_steps, turns, turns_over, values_steps}
+use Rattle.plan_tree.specs.Plans.{all_conjuncts, join_conjuncts}
 use Rattle.gen_write.proofs.Sizing.{steps-few as puts_few}
 use Rattle.gen_write.specs.Writes.{default_nodes, nodes_within, put_steps, row_bound, turns_of}
 use Rattle.sql_lex.specs.Tokens.{tokens_of}
@@ -29,6 +28,8 @@ use Rattle.bound_tree.specs.Exprs.{BoundExpr}
 use Rattle.sql_meaning.specs.declared.bound.BoundInsert.{BoundInsert}
 use Rattle.sql_meaning.specs.declared.bound.BoundSelect.{BoundSelect}
 use Rattle.sql_meaning.specs.declared.bound.FromTable.{FromTable}
+use Rattle.sql_meaning.specs.declared.bound.Join.{Join}
+use Rattle.sql_meaning.specs.declared.bound.Join.TheVariants.{Inner, Left}
 use Rattle.sql_meaning.specs.declared.bound.PutColumn.{PutColumn}
 use Rattle.sql_meaning.specs.declared.column.Column.{Column}
 use Rattle.sql_meaning.proofs.ConstraintLaws.{IsSpelled, text-spelled}
@@ -40,8 +41,8 @@ use Rattle.sql_meaning.specs.Valid.{IsWorld}
 use Rattle.sql_meaning.specs.Runnables.{Runnable, Creates, DoesNothing, Drops, FromItem, Indexes, Put, Puts, Queries, Query, Shows, Unindexes}
 use Rattle.sql_meaning.specs.Permits.{Asking}
 use Rattle.sql_meaning.specs.Searches.{marks_in, rows_counted}
-use Rattle.sql_meaning.specs.Statement.{Item, causes_of, given_of, refusal_of, source_of, text_bound}
-use Rattle.sql_meaning.specs.Work.{bound_where, bound_within, from_size, from_work, opened_size, repeated_size, source_work, work_of}
+use Rattle.sql_meaning.specs.Statement.{Item, causes_of, given_of, item_rows, refusal_of, source_of, text_bound}
+use Rattle.sql_meaning.specs.Work.{alone_work, bound_where, bound_within, from_size, from_work, ons_of, opened_size, product_work, size_of, source_work, tested_in, texts_size, work_of}
 use Rattle.sql_meaning.specs.World.{Context, context, rows_at}
 use Rattle.vm_code.specs.Machine.{World as Lists}
 use Rattle.engine.specs.Held.{state_of, world_in}
@@ -61,27 +62,24 @@ within_size a n opens more work le =
     let all : m * (work + 1) ≡ m * work + m = omega arith in
     omega (arith, le, all)
 
--- so much for each row of a table
-within_rows : (each n opens more rows work : ℕ) → work ≡ 1 + rows → each + 16 ≤ 256 * (n + opens + more) → 16 + (1 + rows) * each ≤ 256 * (n + opens + more) * (work + 1)
-within_rows each n opens more rows work is le =
-    let m = 256 * (n + opens + more) in
+-- so much for each turn
+within_rows : (each size turns work : ℕ) → turns ≡ work → each + 16 ≤ 256 * size → 16 + turns * each ≤ 256 * size * (work + 1)
+within_rows each size turns work is le =
+    let m = 256 * size in
     let few : each ≤ m = omega (arith, le) in
-    let times : (1 + rows) * each ≤ (1 + rows) * m = mul-le-mul_left (1 + rows) few in
-    let all : m * (1 + rows + 1) ≡ (1 + rows) * m + m = omega arith in
-    rw is (omega (arith, le, times, all))
+    let times : turns * each ≤ turns * m = mul-le-mul_left turns few in
+    let all : m * (turns + 1) ≡ turns * m + m = omega arith in
+    subst (λ n. 16 + turns * each ≤ m * (n + 1)) is (omega (arith, le, times, all))
+
+-- what one turn takes, where the statement has so many tokens and tables add so much
+each_few : (from : List FromItem) (tokens opened more shown filter stars tests results : ℕ) → 1 + shown + table_tokens from + filter ≤ tokens → stars ≤ 100 → stars ≤ 100 * columns_in from → columns_in from ≤ opened
+    → tests ≤ 16 * (tokens + opened) + more → results ≤ 2 * shown + stars → 6 * tests + 4 * results + 9 * length from + 6 + 16 ≤ 256 * (tokens + opened + more)
+each_few [] tokens opened more shown filter stars tests results within hundred narrow wide few shows = omega (arith, within, hundred, narrow, wide, few, shows)
+each_few (i ∷ from) tokens opened more shown filter stars tests results within hundred narrow wide few shows = omega (arith, within, hundred, narrow, wide, few, shows)
 
 -- what there is beyond so much
 within_beyond : (a n : ℕ) → a ≤ n + (a - n)
 within_beyond a n = omega arith
-
--- a BETWEEN is no larger than its two conditions
-unsplit_one : (x : BoundExpr) → nodes_of x ≤ all_nodes (conditions_of x)
-unsplit_one (e.Between above below a low high) = omega arith
-unsplit_one x = omega arith
-
-unsplit_few : (es : List BoundExpr) → all_nodes es ≤ all_nodes (flat_map conditions_of es)
-unsplit_few [] = omega arith
-unsplit_few (x ∷ es) = omega (arith, unsplit_one x, unsplit_few es, all_nodes-append (conditions_of x) (flat_map conditions_of es), ap all_nodes (flat_map-cons conditions_of x es))
 
 rows_nodes : (rows : List (List BoundExpr)) → rows_size rows ≡ length rows + sum_by all_nodes rows
 rows_nodes [] = omega arith
@@ -141,42 +139,95 @@ module _ (asked : Asking) (hosts : HostMeanings) (entries : Entries) (lists : Li
 
   -- ---- a query
 
-  -- so many rows are read as count of the item
-  rows_same : (q : Query) (b : BoundSelect) (i : FromItem) (f : FromTable) (m : Marks) → m ≡ marks_in (i ∷ []) → flat_map conditions_of b.conjuncts ≡ map (erased m) q.conjuncts → b.from ≡ Some f → IsFrom (i ∷ []) (Some f) → from_work ctx q.conjuncts (i ∷ []) ≡ 1 + rows_seen b around
-  rows_same q b i f m marks tests some at =
-      let rows = rows_at lists i.table.number in
-      ap (λ n. 1 + n) (sym (ap (λ g. rows_read g (conjuncts_of b) around) some
-      ∙ ap (λ t. rows_counted around f.indexes (conjuncts_of b) (rows_at lists t)) at.0
-      ∙ ap (λ xs. rows_counted around xs (conjuncts_of b) rows) at.1
-      ∙ ap (λ es. rows_counted around i.indexes es rows) (tests ∙ ap (λ k. map (erased k) q.conjuncts) marks)))
+  -- the conjuncts of an ON over rows that are stored have as many nodes
+  join_nodes : (m : Marks) (meant made : Join) → IsJoin m meant made → all_nodes (join_conjuncts made) ≡ all_nodes (ons_of meant)
+  join_nodes m Inner Inner at = refl
+  join_nodes m (Left ons) (Left made) at = ap all_nodes at ∙ all_nodes-erased m ons
+  join_nodes m Inner (Left made) at = absurd at
+  join_nodes m (Left ons) Inner at = absurd at
 
-  query_few : (q : Query) (b : BoundSelect) (from : List FromItem) (read : Option FromTable) → q.from ≡ from → b.from ≡ read → (m : Marks) → m ≡ marks_in from → flat_map conditions_of b.conjuncts ≡ map (erased m) q.conjuncts → b.results ≡ map (erased m) q.results → IsFrom from read → IsSmallQuery tokens q
-      → query_steps b around ≤ 256 * (tokens + from_size entries from + repeated_size tokens (Queries q)) * (from_work ctx q.conjuncts from + 1)
-  query_few q b [] None none bare m marks tests shows at small =
-      let more = repeated_size tokens (Queries q) in
-      let split : all_nodes (flat_map conditions_of b.conjuncts) ≡ all_nodes q.conjuncts = ap all_nodes tests ∙ all_nodes-erased m q.conjuncts in
-      let results : all_nodes b.results ≤ 2 * small.shown + small.stars = subst (λ n. n ≤ 2 * small.shown + small.stars) (sym (ap all_nodes shows ∙ all_nodes-erased m q.results)) small.results in
-      let conjuncts : all_nodes b.conjuncts ≤ 16 * tokens + more = omega (arith, unsplit_few b.conjuncts, split, within_beyond (all_nodes q.conjuncts) (16 * tokens)) in
-      let stars : small.stars ≤ 0 = subst (λ items. small.stars ≤ 100 * columns_in items) none small.of_table in
-      let within : 1 + small.shown + 0 + small.filter ≤ tokens = subst (λ items. 1 + small.shown + table_tokens items + small.filter ≤ tokens) none small.within in
-      let rows : rows_seen b around ≡ 0 = ap (λ f. rows_read f (conjuncts_of b) around) bare in
-      let few : query_steps b around ≤ 16 + (1 + 0) * (6 * (all_nodes b.conjuncts + all_nodes b.results) + 6) = subst (λ r. query_steps b around ≤ 16 + (1 + r) * (6 * (all_nodes b.conjuncts + all_nodes b.results) + 6)) rows (steps-few b around) in
-      within_size (query_steps b around) tokens (from_size entries []) more (from_work ctx q.conjuncts []) (omega (arith, few, stars, within, conjuncts, results))
-  query_few q b (i ∷ []) (Some f) one some m marks tests shows at small =
-      let more = repeated_size tokens (Queries q) in
-      let split : all_nodes (flat_map conditions_of b.conjuncts) ≡ all_nodes q.conjuncts = ap all_nodes tests ∙ all_nodes-erased m q.conjuncts in
-      let results : all_nodes b.results ≤ 2 * small.shown + small.stars = subst (λ n. n ≤ 2 * small.shown + small.stars) (sym (ap all_nodes shows ∙ all_nodes-erased m q.results)) small.results in
-      let conjuncts : all_nodes b.conjuncts ≤ 16 * tokens + more = omega (arith, unsplit_few b.conjuncts, split, within_beyond (all_nodes q.conjuncts) (16 * tokens)) in
-      let each = 6 * (all_nodes b.conjuncts + all_nodes b.results) + 6 in
-      let narrow : small.stars ≤ 100 * i.width = omega (arith, subst (λ items. small.stars ≤ 100 * columns_in items) one small.of_table) in
-      let within : 1 + small.shown + 2 + small.filter ≤ tokens = subst (λ items. 1 + small.shown + table_tokens items + small.filter ≤ tokens) one small.within in
-      let few : query_steps b around ≤ 16 + (1 + rows_seen b around) * each = steps-few b around in
-      let enough = within_rows each tokens (from_size entries (i ∷ [])) more (rows_seen b around) (from_work ctx q.conjuncts (i ∷ [])) (rows_same q b i f m marks tests some at) (omega (arith, within, small.hundred, narrow, conjuncts, results)) in
-      omega (arith, few, enough)
-  query_few q b [] (Some f) none some m marks tests shows at small = absurd at
-  query_few q b (i ∷ []) None one none m marks tests shows at small = absurd at
-  query_few q b (i ∷ j ∷ from) None many none m marks tests shows at small = absurd at
-  query_few q b (i ∷ j ∷ from) (Some f) many some m marks tests shows at small = absurd at
+  ons_nodes : (m : Marks) (from : List FromItem) (read : List FromTable) → AreFrom m from read
+      → all_nodes (flat_map (λ (f : FromTable). join_conjuncts f.join) read) ≡ all_nodes (flat_map (λ (i : FromItem). ons_of i.join) from)
+  ons_nodes m [] [] at = refl
+  ons_nodes m (i ∷ from) (f ∷ read) at =
+      let ons : FromItem → List BoundExpr = λ (i : FromItem). ons_of i.join in
+      let made : FromTable → List BoundExpr = λ (f : FromTable). join_conjuncts f.join in
+      let item = at.0 in
+      ap all_nodes (flat_map-cons made f read) ∙ all_nodes-append (made f) (flat_map made read)
+      ∙ ap (λ n. n + all_nodes (flat_map made read)) (join_nodes m i.join f.join item.join) ∙ ap (λ n. all_nodes (ons i) + n) (ons_nodes m from read at.1)
+      ∙ sym (ap all_nodes (flat_map-cons ons i from) ∙ all_nodes-append (ons i) (flat_map ons from))
+  ons_nodes m [] (f ∷ read) at = absurd at
+  ons_nodes m (i ∷ from) [] at = absurd at
+
+  -- and so have all of a query
+  tests_nodes : (q : Query) (b : BoundSelect) → IsQueryAs q b → all_nodes (all_conjuncts b.from (conjuncts_of b)) ≡ all_nodes (tested_in q)
+  tests_nodes q b at =
+      let ons : List BoundExpr = flat_map (λ (i : FromItem). ons_of i.join) q.from in
+      let made : List BoundExpr = flat_map (λ (f : FromTable). join_conjuncts f.join) b.from in
+      all_nodes-append (conjuncts_of b) made
+      ∙ ap (λ n. n + all_nodes made) (ap all_nodes at.conjuncts ∙ all_nodes-erased (marks_in q.from) q.conjuncts)
+      ∙ ap (λ n. all_nodes q.conjuncts + n) (ons_nodes (marks_in q.from) q.from b.from at.from)
+      ∙ sym (all_nodes-append q.conjuncts ons)
+
+  -- the columns of the tables count among what they add
+  columns_few : (from : List FromItem) → columns_in from ≤ from_size entries from
+  columns_few [] = omega arith
+  columns_few (i ∷ from) =
+      let adds : FromItem → ℕ = λ (x : FromItem). texts_size entries x.table + x.width in
+      let wide : columns_in (i ∷ from) ≡ i.width + columns_in from = refl in
+      let all : from_size entries (i ∷ from) ≡ texts_size entries i.table + i.width + from_size entries from =
+      sum-map adds (i ∷ from) ∙ sum_by-cons adds i from ∙ ap (λ n. adds i + n) (sym (sum-map adds from)) in
+      omega (arith, columns_few from, wide, all)
+
+  same_count : (m : Marks) (from : List FromItem) (read : List FromTable) → AreFrom m from read → length read ≡ length from
+  same_count m [] [] at = refl
+  same_count m (i ∷ from) (f ∷ read) at = ap suc (same_count m from read at.1)
+  same_count m [] (f ∷ read) at = absurd at
+  same_count m (i ∷ from) [] at = absurd at
+
+  -- a FROM has as many turns as it has work
+  product_same : (m : Marks) (from : List FromItem) (read : List FromTable) → AreFrom m from read → product_turns around read ≡ product_work ctx from
+  product_same m [] [] at = refl
+  product_same m (i ∷ from) (f ∷ read) at =
+      let item = at.0 in
+      let rows : length (rows_at lists f.table) ≡ length (item_rows ctx i) = ap (λ t. length (rows_at lists t)) item.table ∙ sym (length-map (rows_at lists i.table.number) _) in
+      ap (λ n. (1 + n) * product_turns around read) rows ∙ ap (λ n. (1 + length (item_rows ctx i)) * n) (product_same m from read at.1)
+  product_same m [] (f ∷ read) at = absurd at
+  product_same m (i ∷ from) [] at = absurd at
+
+  alone_same : (q : Query) (tests : List BoundExpr) (i : FromItem) (f : FromTable) (meant made : Join) → tests ≡ map (erased (marks_in (i ∷ []))) q.conjuncts → AreFrom (marks_in (i ∷ [])) (i ∷ []) (f ∷ []) → IsJoin (marks_in (i ∷ [])) meant made
+      → alone_turns f made tests around ≡ alone_work ctx q.conjuncts i meant
+  alone_same q tests i f Inner Inner are at join =
+      let item = at.0 in
+      let rows = rows_at lists i.table.number in
+      ap (λ n. 1 + n) (ap (λ t. rows_counted around f.indexes tests (rows_at lists t)) item.table ∙ ap (λ xs. rows_counted around xs tests rows) item.indexes ∙ ap (λ es. rows_counted around i.indexes es rows) are)
+  alone_same q tests i f (Left ons) (Left made) are at join = product_same (marks_in (i ∷ [])) (i ∷ []) (f ∷ []) at
+  alone_same q tests i f Inner (Left made) are at join = absurd join
+  alone_same q tests i f (Left ons) Inner are at join = absurd join
+
+  turns_are : (q : Query) (tests : List BoundExpr) (from : List FromItem) (read : List FromTable) → tests ≡ map (erased (marks_in from)) q.conjuncts → AreFrom (marks_in from) from read → turns_over read tests around ≡ from_work ctx q.conjuncts from
+  turns_are q tests [] [] are at = refl
+  turns_are q tests (i ∷ []) (f ∷ []) are at = let item = at.0 in alone_same q tests i f i.join f.join are at item.join
+  turns_are q tests (i ∷ j ∷ from) (f ∷ g ∷ read) are at = product_same (marks_in (i ∷ j ∷ from)) (i ∷ j ∷ from) (f ∷ g ∷ read) at
+  turns_are q tests [] (f ∷ read) are at = absurd at
+  turns_are q tests (i ∷ from) [] are at = absurd at
+  turns_are q tests (i ∷ []) (f ∷ g ∷ read) are at = absurd at.1
+  turns_are q tests (i ∷ j ∷ from) (f ∷ []) are at = absurd at.1
+
+  query_few : (q : Query) (b : BoundSelect) → IsQueryAs q b → IsSmallQuery tokens q
+      → query_steps b around ≤ 256 * size_of entries tokens (Queries q) * (from_work ctx q.conjuncts q.from + 1)
+  query_few q b at small =
+      let opened = from_size entries q.from in
+      let nodes = all_nodes (tested_in q) in
+      let more = nodes - 16 * (tokens + opened) in
+      let shows : all_nodes b.results ≤ 2 * small.shown + small.stars = subst (λ n. n ≤ 2 * small.shown + small.stars) (sym (ap all_nodes at.results ∙ all_nodes-erased (marks_in q.from) q.results)) small.results in
+      let tests : all_nodes (all_conjuncts b.from (conjuncts_of b)) ≤ 16 * (tokens + opened) + more = omega (arith, tests_nodes q b at, within_beyond nodes (16 * (tokens + opened))) in
+      let each = 6 * all_nodes (all_conjuncts b.from (conjuncts_of b)) + 4 * all_nodes b.results + 9 * length b.from + 6 in
+      let few : each + 16 ≤ 256 * (tokens + opened + more) =
+      subst (λ n. 6 * all_nodes (all_conjuncts b.from (conjuncts_of b)) + 4 * all_nodes b.results + 9 * n + 6 + 16 ≤ 256 * (tokens + opened + more)) (sym (same_count (marks_in q.from) q.from b.from at.from))
+      (each_few q.from tokens opened more small.shown small.filter small.stars (all_nodes (all_conjuncts b.from (conjuncts_of b))) (all_nodes b.results) small.within small.hundred small.of_table (columns_few q.from) tests shows) in
+      let turned : turns b around ≡ from_work ctx q.conjuncts q.from = turns_are q (conjuncts_of b) q.from b.from at.conjuncts at.from in
+      omega (arith, steps-few b around, within_rows each (tokens + opened + more) (turns b around) (from_work ctx q.conjuncts q.from) turned few)
 
   -- ---- an INSERT
 
@@ -193,7 +244,7 @@ module _ (asked : Asking) (hosts : HostMeanings) (entries : Entries) (lists : Li
 
   -- ---- any statement
 
-  few_for : (x : Runnable) (r : Ready) → 1 ≤ tokens → FitsIn entries (length lists) x → IsSpelled x → IsBound x (bound_in r) → IsSmall tokens x → steps_in around r ≤ 256 * (tokens + opened_size entries x + repeated_size tokens x) * (work_of ctx x + 1)
+  few_for : (x : Runnable) (r : Ready) → 1 ≤ tokens → FitsIn entries (length lists) x → IsSpelled x → IsBound x (bound_in r) → IsSmall tokens x → steps_in around r ≤ 256 * size_of entries tokens x * (work_of ctx x + 1)
   few_for (Creates e) (ready.Create n) some fits spelled at small = within_size 2 tokens 0 0 0 (omega (arith, small))
   few_for (Creates e) (ready.Drop d) some fits spelled at small = absurd at
   few_for (Creates e) (ready.CreateIndex n) some fits spelled at small = absurd at
@@ -240,7 +291,7 @@ module _ (asked : Asking) (hosts : HostMeanings) (entries : Entries) (lists : Li
   few_for (Queries q) (ready.CreateIndex n) some fits spelled at small = absurd at
   few_for (Queries q) (ready.DropIndex n) some fits spelled at small = absurd at
   few_for (Queries q) (ready.Insert b) some fits spelled at small = absurd at
-  few_for (Queries q) (ready.Select b) some fits spelled at small = query_few q b q.from b.from refl refl (marks_in q.from) refl at.conjuncts at.results at.from small
+  few_for (Queries q) (ready.Select b) some fits spelled at small = query_few q b at small
   few_for (Queries q) (ready.Values b) some fits spelled at small = absurd at
   few_for (Queries q) ready.Nothing some fits spelled at small = absurd at
   few_for (Shows rows) (ready.Create n) some fits spelled at small = absurd at

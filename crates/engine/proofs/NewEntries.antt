@@ -40,7 +40,7 @@ use Rattle.sql_meaning.proofs.ValidLaws.{if_built-ok, same-ok, then-ok}
 use Rattle.sql_meaning.specs.Built.{is_built}
 use Rattle.sql_meaning.specs.Declarations.{columns_created, rowid_created, table_called, table_with, tables_of}
 use Rattle.sql_meaning.specs.Runnables.{Creates, DoesNothing, Drops, FromItem, Indexes, Put, Puts, Queries, Runnable, Shows, Unindexes}
-use Rattle.sql_meaning.specs.Running.{are_own, command_of, creation_by, entry_with, has_own_keys, if_built, index_entry_with, index_on, kind_removed, first_part, found_table, from_of, is_plain_core, part_of, put_into, put_of, query_of, removal_of, runnable_of, table_of_source}
+use Rattle.sql_meaning.specs.Running.{are_own, command_of, creation_by, entry_with, has_own_keys, if_built, index_entry_with, index_on, kind_removed, first_part, found_table, from_of, is_plain_core, part_of, put_into, put_of, query_of, rejecting, removal_of, runnable_of, table_of_source}
 use Rattle.bound_tree.specs.declared.statements.BoundStatement.{BoundStatement}
 use Rattle.sql_meaning.specs.Permits.{Asking, permitted}
 use Rattle.sql_meaning.specs.Statement.{around, statement_bound}
@@ -56,9 +56,9 @@ not_refused e h = absurd (let bad : Err cause.NotYet ≡ Ok (Creates e) = h in c
 part-creates : (tables : List TableEntry) (p : BoundPart) (e : Entry) → part_of tables p ≡ Ok (Creates e) → ⊥
 part-creates tables (part.Values rows) e h = let bad : Shows rows ≡ Creates e = same-ok (Shows rows) (Creates e) h in absurd (cc)
 part-creates tables (part.Select c) e h =
-    let shown : List FromItem → Result Runnable Cause = λ from. Ok (Queries (record { from = from; conjuncts = flat_map conditions_of c.conjuncts; results = c.results })) in
+    let shown : List FromItem → Result Runnable Cause = λ from. Ok (Queries (record { from = from; conjuncts = flat_map conditions_of (rejecting c); results = c.results })) in
     let made = then-ok (from_of tables c.items) shown (Creates e) (if_built-ok (is_plain_core c) (from_of tables c.items >>= shown) (Creates e) h).1 in
-    let bad : Queries (record { from = made.0; conjuncts = flat_map conditions_of c.conjuncts; results = c.results }) ≡ Creates e = same-ok _ (Creates e) made.2 in
+    let bad : Queries (record { from = made.0; conjuncts = flat_map conditions_of (rejecting c); results = c.results }) ≡ Creates e = same-ok _ (Creates e) made.2 in
     absurd (cc)
 
 query-creates : (tables : List TableEntry) (units : List BoundUnit) (place : ℕ) (e : Entry) → query_of tables units place ≡ Ok (Creates e) → ⊥
@@ -166,7 +166,7 @@ IsIndexFor text s other = ⊤
 part-indexes : (text : List ℕ) (s : Statement) (tables : List TableEntry) (p : BoundPart) (x : Runnable) → part_of tables p ≡ Ok x → IsIndexFor text s x
 part-indexes text s tables (part.Values rows) x h = subst (IsIndexFor text s) (same-ok (Shows rows) x h) tt
 part-indexes text s tables (part.Select c) x h =
-    let shown : List FromItem → Result Runnable Cause = λ from. Ok (Queries (record { from = from; conjuncts = flat_map conditions_of c.conjuncts; results = c.results })) in
+    let shown : List FromItem → Result Runnable Cause = λ from. Ok (Queries (record { from = from; conjuncts = flat_map conditions_of (rejecting c); results = c.results })) in
     let made = then-ok (from_of tables c.items) shown x (if_built-ok (is_plain_core c) (from_of tables c.items >>= shown) x h).1 in
     subst (IsIndexFor text s) (same-ok _ x made.2) tt
 

@@ -1,24 +1,24 @@
 -- Programs of queries whose parameters are known.
-use Rattle.std.proofs.Common.{◌≡◌, List, Some, Result, sym, subst}
+use Rattle.std.proofs.Common.{◌≡◌, List, Result, subst}
 use Rattle.std.specs.Prelude.{IfOk}
 use Rattle.std.proofs.lemmas.Result.{IfOk-weaker}
 use Rattle.bound_tree.specs.Exprs.{BoundExpr}
 use Rattle.eng_value.specs.declared.value.Value.{Value}
-use Rattle.gen_query.specs.Queries.{FitsFrom, FitsTable, conjuncts_of, query_run, query_steps}
-use Rattle.plan_tree.specs.Visits.{AccessFits}
-use Rattle.plan_tree.specs.declared.access.Access.{Access}
+use Rattle.gen_query.specs.Queries.{conjuncts_of, query_run, query_steps}
+use Rattle.plan_tree.specs.Plans.{PlanFits}
+use Rattle.plan_tree.specs.declared.access.JoinPlan.{JoinPlan}
 use Rattle.sql_meaning.specs.declared.bound.BoundSelect.{BoundSelect}
 use Rattle.sql_meaning.specs.declared.bound.FromTable.{FromTable}
 use Rattle.vm_code.specs.Machine.{PerformsWith}
 use Rattle.vm_code.specs.declared.program.Program.{Program}
 
--- what fits the table of a query, fits the query
-pub fits_table : (params : List Value) (q : BoundSelect) (from : FromTable) (conjuncts : List BoundExpr) (access : Access) → q.from ≡ Some from → conjuncts ≡ conjuncts_of q → AccessFits params from.indexes conjuncts access → FitsFrom params q access
-fits_table params q from conjuncts access some split fits =
-    subst (λ f. FitsTable params f (conjuncts_of q) access) (sym some) (subst (λ cs. AccessFits params from.indexes cs access) split fits)
+-- what fits the FROM and the conjuncts of a query, fits the query
+pub fits_query : (params : List Value) (q : BoundSelect) (from : List FromTable) (conjuncts : List BoundExpr) (plan : JoinPlan) → from ≡ q.from → conjuncts ≡ conjuncts_of q → PlanFits params from conjuncts plan → PlanFits params q.from (conjuncts_of q) plan
+fits_query params q from conjuncts plan items split fits =
+    subst (λ f. PlanFits params f (conjuncts_of q) plan) items (subst (λ cs. PlanFits params from cs plan) split fits)
 
--- the program performs the query where its access fits for the parameters
-pub performs_by : {E : Type 0} (params : List Value) (q : BoundSelect) (access : Access) (result : Result Program E) → FitsFrom params q access
-    → IfOk result (λ p. (given : List Value) → FitsFrom given q access → PerformsWith given p (query_run q) (query_steps q)) → IfOk result (λ p. PerformsWith params p (query_run q) (query_steps q))
-performs_by params q access result fits =
-    IfOk-weaker result (λ p. (given : List Value) → FitsFrom given q access → PerformsWith given p (query_run q) (query_steps q)) (λ p. PerformsWith params p (query_run q) (query_steps q)) (λ p performs. performs params fits)
+-- the program performs the query where its plan fits for the parameters
+pub performs_by : {E : Type 0} (params : List Value) (q : BoundSelect) (plan : JoinPlan) (result : Result Program E) → PlanFits params q.from (conjuncts_of q) plan
+    → IfOk result (λ p. (given : List Value) → PlanFits given q.from (conjuncts_of q) plan → PerformsWith given p (query_run q) (query_steps q)) → IfOk result (λ p. PerformsWith params p (query_run q) (query_steps q))
+performs_by params q plan result fits =
+    IfOk-weaker result (λ p. (given : List Value) → PlanFits given q.from (conjuncts_of q) plan → PerformsWith given p (query_run q) (query_steps q)) (λ p. PerformsWith params p (query_run q) (query_steps q)) (λ p performs. performs params fits)

@@ -1,33 +1,34 @@
-// The way by which a query reads its table.
+// The way by which a query reads its tables.
 ghost use Rattle.std.specs.Prelude.{IfOk};
 ghost use Rattle.gen_query.specs.Queries.{query_run, query_steps};
 ghost use Rattle.vm_code.specs.Machine.{PerformsWith};
 
 use eng_index::{KeyTerm, Range};
 use eng_value::Value;
-use plan_best::{Counts, access};
-use plan_tree::{Access, Order, Path, split};
-use sql_meaning::BoundSelect;
-use sqlite_items::Items;
+use plan_best::Counts;
+use plan_join::order;
+use plan_tree::split;
+use sql_meaning::{BoundSelect, FromTable};
 use std::alloc::{AllocError, Global};
 use vm_code::Program;
 use vm_tables::Tables;
 
-/// How many rows of the table of this number a search finds, as far as an index of them stands.
+/// How many rows of an item's table a search finds, as far as an index of them stands.
 #[derive(Clone, Copy)]
 struct RowCounts<'a> {
     alloc: Global,
     tables: &'a Tables,
-    table: u32,
+    from: &'a [FromTable],
 }
 
 impl Counts for RowCounts<'_> {
-    fn found(&self, terms: &[KeyTerm], range: &Range) -> Option<usize> {
-        self.tables.count(self.alloc, self.table, terms, range)
+    fn found(&self, item: u32, terms: &[KeyTerm], range: &Range) -> Option<usize> {
+        let table = self.from.get(item as usize)?.table;
+        self.tables.count(self.alloc, table, terms, range)
     }
 }
 
-/// The program of a query with these parameters: it reads its table by the access that is best as the tables stand.
+/// The program of a query with these parameters: it reads its tables by the plan that is best as they stand.
 pub(crate) fn compiled_query(
     alloc: Global,
     query: &BoundSelect,
@@ -37,20 +38,12 @@ pub(crate) fn compiled_query(
     ensures { IfOk result (λ p. PerformsWith params.now p (query_run query.now) (query_steps query.now)) }
 {
     let conjuncts = split(alloc, query.conjuncts.as_slice())?;
-    let conjuncts = conjuncts.as_slice();
-    let Some(from) = &query.from else {
-        let all = Access {
-            path: Path::Scan,
-            order: Order::Rowid,
-            consumed: Items::new(alloc),
-        };
-        return gen_query::compile(alloc, query, conjuncts, &all);
-    };
+    let from = query.from.as_slice();
     let counts = RowCounts {
         alloc,
         tables,
-        table: from.table,
+        from,
     };
-    let access = access(alloc, from.indexes.as_slice(), conjuncts, params, &counts)?;
-    gen_query::compile(alloc, query, conjuncts, &access)
+    let plan = order(alloc, from, conjuncts.as_slice(), params, &counts)?;
+    gen_query::compile(alloc, query, &plan)
 }

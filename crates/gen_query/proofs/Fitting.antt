@@ -1,129 +1,108 @@
--- An access that fits leaves the items of a query as they are, and is small.
-use Rattle.std.proofs.Common.{◌≡◌, ℕ, ◌+◌, ◌*◌, ◌≤◌, List, [], ◌∷◌, ◌++◌, Bool, true, false, cond, length, map, sum_by, flat_map, append-nil, Option, Some, None, refl, sym, ap, ◌∙◌, arith}
-use Rattle.std.specs.List.{filter}
+-- The rows of a plan that fits give the items of a query.
+use Rattle.std.proofs.Common.{◌≡◌, ℕ, suc, add-one, List, [], ◌∷◌, ◌++◌, length, map, flat_map, Option, Some, None, refl, sym, ap, ◌∙◌, subst, arith}
 use Rattle.std.specs.Option.{option_map, option_to_list}
-use Rattle.std.proofs.Math.Nat.{mul-le-mul}
+use Rattle.std.proofs.lemmas.List.{map-append}
 use Rattle.std.proofs.lemmas.List.Concat.{flat_map-cons}
-use Rattle.std.proofs.lemmas.List.Folds.{flat_map-map}
-use Rattle.std.proofs.lemmas.List.Sums.{sum_by-cons}
 use Rattle.bound_tree.specs.Exprs.{BoundExpr}
-use Rattle.eng_index.specs.declared.key_term.KeyTerm.{KeyTerm}
-use Rattle.eng_value.specs.Environments.{Surroundings, environment, table_row}
-use Rattle.eng_value.specs.StoredRows.{StoredRow}
+use Rattle.eng_value.specs.Environments.{Environment, Surroundings, environment}
+use Rattle.eng_value.specs.declared.out.Out.{Out}
 use Rattle.eng_value.specs.declared.value.Value.{Value}
-use Rattle.gen_expr.specs.Steps.{steps_of}
-use Rattle.gen_query.specs.Queries.{FitsTable, IsCountedFor, conjuncts_steps, key_steps, path_steps, row_steps, rows_along, rows_in, rows_read, steps_over}
-use Rattle.plan_tree.specs.Visits.{AreSides, CountsSides, Fits, before, is_visited, key_expr, keys_in, tested, visited}
-use Rattle.plan_tree.specs.declared.access.Access.{Access}
-use Rattle.plan_tree.specs.declared.access.Key.{Key}
-use Rattle.plan_tree.specs.declared.access.Path.{Path}
-use Rattle.plan_tree.specs.declared.access.Path.TheVariants as path
-use Rattle.sql_meaning.specs.Searches.{at_row}
+use Rattle.gen_loop.specs.Loops.{at_row, each, from_effect}
+use Rattle.gen_loop.specs.Stretches.{AreInTurn}
+use Rattle.gen_loop.proofs.Ordered.{planned-in}
+use Rattle.gen_query.specs.Queries.{conjuncts_of, gives, items_in, row_effect}
+use Rattle.gen_query.proofs.Listing.{gives_quit, gives-more, gives-no_more, with_given-nil}
+use Rattle.plan_tree.specs.Plans.{AreOver, PlanFits, planned, rows_of_from}
+use Rattle.plan_tree.specs.declared.access.JoinPlan.{JoinPlan}
+use Rattle.plan_tree.specs.declared.access.Loop.{Loop}
+use Rattle.sql_meaning.specs.Products.{FromRow, in_row, no_rows, passed, sifted}
 use Rattle.sql_meaning.specs.Statement.{Item, items_at, shown}
+use Rattle.sql_meaning.specs.declared.bound.BoundSelect.{BoundSelect}
 use Rattle.sql_meaning.specs.declared.bound.FromTable.{FromTable}
-use Rattle.vm_code.specs.Machine.{rows_of}
+use Rattle.vm_code.specs.Frames.{Memory, Outcome, Done, Fails, Quit, Sight, and_then}
 
--- ---- the rows
+-- ---- items one after the other
 
-all_kept : (rows : List StoredRow) → filter (λ r. true) rows ≡ rows
-all_kept [] = refl
-all_kept (r ∷ rows) = ap (λ l. r ∷ l) (all_kept rows)
+pub each-gives : {A : Type 0} (item : A → Item) (rows : List A) (x : Memory) → each (λ row y. gives (item row ∷ []) y) rows x ≡ gives (map item rows) x
+each-gives item [] x = ap Done (sym (with_given-nil x))
+each-gives item (row ∷ rows) x =
+    by (gives (item row ∷ []) x) refl (λ y. each-gives item rows y)
+  where
+    by : (o : Outcome) → gives (item row ∷ []) x ≡ o → ((y : Memory) → each (λ row y. gives (item row ∷ []) y) rows y ≡ gives (map item rows) y) → and_then (gives (item row ∷ []) x) (each (λ row y. gives (item row ∷ []) y) rows) ≡ gives (item row ∷ map item rows) x
+    by (Done y) is rest =
+        ap (λ o. and_then o (each (λ row y. gives (item row ∷ []) y) rows)) is
+        ∙ rest y
+        ∙ sym (gives-more (item row ∷ []) (map item rows) x y is)
+    by (Quit y) is rest = absurd (gives_quit (item row ∷ []) x y is)
+    by (Fails c y) is rest =
+        ap (λ o. and_then o (each (λ row y. gives (item row ∷ []) y) rows)) is
+        ∙ sym (gives-no_more (item row ∷ []) (map item rows) c x y is)
 
--- a path that begins where there is no row yet
-along-visited : (x : Surroundings) (p : Path) (rows : List StoredRow) → rows_along p (before x) rows ≡ visited x p rows
-along-visited x path.Scan rows = sym (all_kept rows)
-along-visited x (path.Search s) rows = refl
+-- ---- the items of rows that conjuncts keep
 
--- ---- the items
+map-flat_map : {A B C : Type 0} (f : B → C) (g : A → List B) (h : A → List C) (xs : List A) → ((x : A) → map f (g x) ≡ h x) → map f (flat_map g xs) ≡ flat_map h xs
+map-flat_map f g h [] same = refl
+map-flat_map f g h (x ∷ xs) same =
+    ap (map f) (flat_map-cons g x xs)
+    ∙ map-append f (g x) (flat_map g xs)
+    ∙ ap (λ l. l ++ map f (flat_map g xs)) (same x)
+    ∙ ap (λ l. h x ++ l) (map-flat_map f g h xs same)
+    ∙ sym (flat_map-cons h x xs)
 
-module _ (x : Surroundings) (indexes : List (List KeyTerm)) (conjuncts results : List BoundExpr) (access : Access) (fits : Fits x indexes conjuncts access) where
-  abbrev kept : List BoundExpr
-  kept = tested access.consumed conjuncts
+module _ (env : Environment) (conjuncts results : List BoundExpr) where
+  -- of a row that was kept
+  abbrev item : FromRow → Item
+  item row = shown results (in_row env row) row.causes
 
-  abbrev item : List BoundExpr → StoredRow → List Item
-  item cs r = items_at cs results (at_row x r)
+  abbrev items_of : FromRow → List Item
+  items_of row = items_at conjuncts results (in_row env row) row.causes
 
-  abbrev rows_visited : List StoredRow → List StoredRow
-  rows_visited rows = visited x access.path rows
+  kept_items : (row : FromRow) → map item (passed env conjuncts row) ≡ items_of row
+  kept_items row = by (sifted conjuncts (in_row env row) row.causes)
+    where
+      by : (o : Option Out) → map item (option_to_list (option_map (λ causes. record row { causes = causes }) o)) ≡ option_to_list (option_map (shown results (in_row env row)) o)
+      by None = refl
+      by (Some v) = refl
 
-  -- a row more, by whether it is visited
-  row_more : (r : StoredRow) (rows : List StoredRow) (b : Bool) → is_visited x access.path r ≡ b → flat_map (item kept) (rows_visited rows) ≡ flat_map (item conjuncts) rows → flat_map (item kept) (cond b (r ∷ rows_visited rows) (rows_visited rows)) ≡ flat_map (item conjuncts) (r ∷ rows)
-  row_more r rows true is rest =
-      flat_map-cons (item kept) r (rows_visited rows)
-      ∙ ap (λ l. item kept r ++ l) rest
-      ∙ ap (λ o. option_to_list (option_map (shown results (at_row x r)) o) ++ flat_map (item conjuncts) rows) (fits.kept r is)
-      ∙ sym (flat_map-cons (item conjuncts) r rows)
-  row_more r rows false is rest =
-      rest
-      ∙ ap (λ o. option_to_list (option_map (shown results (at_row x r)) o) ++ flat_map (item conjuncts) rows) (sym (fits.left_out r is))
-      ∙ sym (flat_map-cons (item conjuncts) r rows)
+  passed_items : (rows : List FromRow) → map item (flat_map (passed env conjuncts) rows) ≡ flat_map items_of rows
+  passed_items rows = map-flat_map item (passed env conjuncts) items_of rows kept_items
 
-  -- rows that are left out have none, and the others have the same without what is consumed
-  items-visited : (rows : List StoredRow) → flat_map (item kept) (rows_visited rows) ≡ flat_map (item conjuncts) rows
-  items-visited [] = refl
-  items-visited (r ∷ rows) = row_more r rows (is_visited x access.path r) refl (items-visited rows)
+-- ---- a query
 
-  items-along : (rows : List StoredRow) → flat_map (item kept) (rows_along access.path (before x) rows) ≡ flat_map (λ row. items_at conjuncts results (environment x [] [] row)) (map (λ r. table_row r ∷ []) rows)
-  items-along rows =
-      ap (flat_map (item kept)) (along-visited x access.path rows)
-      ∙ items-visited rows
-      ∙ sym (flat_map-map (λ row. items_at conjuncts results (environment x [] [] row)) (λ r. table_row r ∷ []) rows)
+-- those of the rows of a plan
+abbrev pub items_planned : BoundSelect → JoinPlan → Surroundings → List Item
+items_planned q p x =
+    map (item (environment x [] [] []) (conjuncts_of q) q.results) (planned (environment x [] [] []) p (no_rows (length p.loops)))
 
--- ---- how many instructions
+-- at the start no item has a row
+pub planned-gives : (q : BoundSelect) (p : JoinPlan) (x : Surroundings) (sight : Sight) → sight.env ≡ environment x [] [] (no_rows (length p.loops)).rows → (causes : Out) (y : Memory) → from_effect p (row_effect q.results) sight causes y ≡ gives (items_planned q p x) y
+planned-gives q p x sight is causes y =
+    let env = environment x [] [] [] in
+    let first = no_rows (length p.loops) in
+    let there : Environment = record env { rows = first.rows } in
+    let seen : Sight = record sight { env = there } in
+    ap (λ e. from_effect p (row_effect q.results) (record sight { env = e }) causes y) is
+    ∙ ap (λ rows. each (at_row (row_effect q.results) seen) rows y) (planned-in env first.rows p first)
+    ∙ each-gives (item env (conjuncts_of q) q.results) (planned env p first) y
 
--- less is tested in fewer
-tested_fewer : (consumed : List Bool) (cs : List BoundExpr) → conjuncts_steps (tested consumed cs) ≤ conjuncts_steps cs
-tested_fewer consumed [] = omega arith
-tested_fewer [] (c ∷ cs) = omega arith
-tested_fewer (true ∷ consumed) (c ∷ cs) = omega (arith, tested_fewer consumed cs, sum_by-cons (λ e. steps_of e + 3) c cs)
-tested_fewer (false ∷ consumed) (c ∷ cs) =
-    omega (arith, tested_fewer consumed cs, sum_by-cons (λ e. steps_of e + 3) c cs, sum_by-cons (λ e. steps_of e + 3) c (tested consumed cs))
+-- the loops of a plan that fits are in turn
+pub in-turn : (k : ℕ) (from : List FromTable) (loops : List Loop) → AreOver k from loops → AreInTurn k loops
+in-turn k [] [] over = tt
+in-turn k [] (l ∷ loops) over = absurd over
+in-turn k (f ∷ from) [] over = absurd over
+in-turn k (f ∷ from) (l ∷ loops) over =
+    (over.0.place, over.0.counted, subst (λ n. AreInTurn n loops) (sym (add-one k)) (in-turn (suc k) from loops over.1))
 
--- by three more than its code takes a comparison is as large as its sides
-counts_sides : CountsSides (λ e. steps_of e + 3)
-counts_sides op sides a b = (omega arith, omega arith)
+pub long-loops : (k : ℕ) (from : List FromTable) (loops : List Loop) → AreOver k from loops → length loops ≡ length from
+long-loops k [] [] over = refl
+long-loops k [] (l ∷ loops) over = absurd over
+long-loops k (f ∷ from) [] over = absurd over
+long-loops k (f ∷ from) (l ∷ loops) over = omega (arith, long-loops (suc k) from loops over.1)
 
-keys_fewer : (keys : List Key) → sum_by key_steps keys ≤ sum_by (λ k. steps_of (key_expr k) + 3) keys
-keys_fewer [] = omega arith
-keys_fewer (k ∷ keys) = omega (arith, keys_fewer keys, sum_by-cons key_steps k keys, sum_by-cons (λ j. steps_of (key_expr j) + 3) k keys)
-
--- so keys take no more than the conjuncts whose sides they are
-keys_few : (p : Path) (conjuncts : List BoundExpr) → AreSides (keys_in p) conjuncts → path_steps p ≤ conjuncts_steps conjuncts
-keys_few p conjuncts sides = omega (arith, keys_fewer (keys_in p), sides (λ e. steps_of e + 3) counts_sides)
-
--- ---- by whether there is a table
-
--- the items of the rows that are visited
-abbrev pub items_along : Option FromTable → Access → List BoundExpr → List BoundExpr → Surroundings → List Item
-items_along None access conjuncts results x = items_at conjuncts results (environment x [] [] [])
-items_along (Some from) access conjuncts results x =
-    flat_map (λ r. items_at (tested access.consumed conjuncts) results (at_row x r)) (rows_along access.path (before x) (rows_of x.world from.table))
-
--- and the instructions for them
-abbrev pub steps_along : Option FromTable → Access → List BoundExpr → List BoundExpr → Surroundings → ℕ
-steps_along None access conjuncts results x = row_steps conjuncts results
-steps_along (Some from) access conjuncts results x =
-    path_steps access.path + 3 + length (rows_along access.path (before x) (rows_of x.world from.table)) * (row_steps (tested access.consumed conjuncts) results + 1)
-
-module _ (params : List Value) (access : Access) (conjuncts results : List BoundExpr) (x : Surroundings) (same : x.params ≡ params) where
-  pub fit-counted : (from : Option FromTable) → FitsTable params from conjuncts access → IsCountedFor from access.path
-  fit-counted None fits = tt
-  fit-counted (Some from) fits = (fits x same).counted
-
-  pub fit-items : (from : Option FromTable) → FitsTable params from conjuncts access → items_along from access conjuncts results x ≡ flat_map (λ rows. items_at conjuncts results (environment x [] [] rows)) (rows_in from x.world)
-  fit-items None fits = sym (append-nil (items_at conjuncts results (environment x [] [] [])))
-  fit-items (Some from) fits = items-along x from.indexes conjuncts results access (fits x same) (rows_of x.world from.table)
-
-  pub fit-steps : (from : Option FromTable) → FitsTable params from conjuncts access → steps_along from access conjuncts results x ≤ steps_over from conjuncts results (rows_read from conjuncts x)
-  fit-steps None fits = omega arith
-  fit-steps (Some from) fits =
-      let rows = rows_of x.world from.table in
-      let fit = fits x same in
-      let visits = length (rows_along access.path (before x) rows) in
-      let counted = rows_read (Some from) conjuncts x in
-      let each : ℕ = row_steps (tested access.consumed conjuncts) results + 1 in
-      let most : ℕ = row_steps conjuncts results + 1 in
-      let fewer : visits ≤ counted = omega (arith, fit.few rows, ap length (along-visited x access.path rows)) in
-      let less : each ≤ most = omega (arith, tested_fewer access.consumed conjuncts) in
-      let all : visits * each ≤ counted * most = mul-le-mul fewer less in
-      omega (arith, keys_few access.path conjuncts fit.keys, all)
+pub planned-fits : (q : BoundSelect) (p : JoinPlan) (params : List Value) → PlanFits params q.from (conjuncts_of q) p → (x : Surroundings) → x.params ≡ params → items_planned q p x ≡ items_in q x
+planned-fits q p params fits x same =
+    let env = environment x [] [] [] in
+    let of_rows : List FromRow → List Item = map (item env (conjuncts_of q) q.results) in
+    ap (λ n. of_rows (planned env p (no_rows n))) (long-loops 0 q.from p.loops fits.over)
+    ∙ ap of_rows (fits.gives env same)
+    ∙ passed_items env (conjuncts_of q) q.results (rows_of_from env q.from)

@@ -3,13 +3,13 @@ use Rattle.std.proofs.Common.{◌≡◌, List, [], ◌∷◌, ◌++◌, map, Non
 use Rattle.std.proofs.lemmas.List.{map-append}
 use Rattle.std.proofs.lemmas.List.Sums.{sum_by_push}
 use Rattle.eng_value.specs.Environments.{no_causes}
-use Rattle.gen_query.specs.Queries.{by_world, gives, items_seen, row_effect, row_steps, rows_in_turn_steps, values_effect}
+use Rattle.gen_query.specs.Queries.{by_world, gives, row_steps, rows_in_turn_steps, value_effect, values_effect}
 use Rattle.gen_query.proofs.Listing.{gives_done, gives_quit, gives-more, gives-no_more, with_given-nil}
 use Rattle.sql_meaning.specs.Statement.{Item, shown}
 use Rattle.bound_tree.specs.Exprs.{BoundExpr}
 use Rattle.vm_code.specs.Draft.{Draft}
 use Rattle.vm_code.specs.Machine.{Scene, Setting, cursor_at, read}
-use Rattle.vm_code.specs.Frames.{Here, environment_of, sight_of, Memory, memory_of, Effect, effect_at, Done, Does, Shut, no_calls}
+use Rattle.vm_code.specs.Frames.{Here, environment_of, Memory, memory_of, Effect, effect_at, Done, Does, Shut, no_calls}
 use Rattle.vm_code.specs.Claims.{Claim, Last, Triple}
 use Rattle.vm_code.proofs.Drafts.{grows_none, grows_then}
 use Rattle.vm_code.proofs.Tracks.{st_none, st_then}
@@ -32,7 +32,7 @@ values_none a =
 
 -- ---- a row more
 
-module _ (a b c : Draft) (rows : List (List BoundExpr)) (row : List BoundExpr) (x : Does no_calls a b 0 0 None (values_effect rows) (by_world (λ w. rows_in_turn_steps rows))) (y : Does no_calls b c 0 0 None (row_effect [] row) (by_world (λ w. row_steps [] row))) where
+module _ (a b c : Draft) (rows : List (List BoundExpr)) (row : List BoundExpr) (x : Does no_calls a b 0 0 None (values_effect rows) (by_world (λ w. rows_in_turn_steps rows))) (y : Does no_calls b c 0 0 None (value_effect row) (λ sight held x. row_steps row)) where
   abbrev all : List (List BoundExpr)
   all = rows ++ row ∷ []
 
@@ -78,7 +78,7 @@ module _ (a b c : Draft) (rows : List (List BoundExpr)) (row : List BoundExpr) (
     all_items h0 = ap (λ l. gives l (memory_of 0 h0)) (map-append (item h0) rows (row ∷ []))
 
     -- what is left is the effect of the row
-    left : (h0 h : Here) → Given h0 h → effect_at m effect 0 0 h0 ≡ effect_at m (row_effect [] row) 0 0 h
+    left : (h0 h : Here) → Given h0 h → effect_at m effect 0 0 h0 ≡ effect_at m (value_effect row) 0 0 h
     left h0 h g =
         all_items h0
         ∙ gives-more (items h0) (item h0 row ∷ []) (memory_of 0 h0) (memory_of 0 h) g.gave
@@ -98,14 +98,14 @@ module _ (a b c : Draft) (rows : List (List BoundExpr)) (row : List BoundExpr) (
         absurd (gives_quit (items h) (memory_of 0 h) v is)) (λ h0 h k v pre is.
         (k, v, all_items h0 ∙ gives-no_more (items h0) (item h0 row ∷ []) k (memory_of 0 h0) v (sym (ap (effect_at m (values_effect rows) 0 0) pre.0) ∙ is), refl, refl))
 
-    behind : Triple m b c (λ h0. row_steps [] row) no_labels last given done
-    behind = t_does m tt (λ h0. row_steps [] row) no_labels last given done y (λ h0 h pre. omega arith) (λ h0 h pre k le. ap (λ (s : Scene). cursor_at s.cursors k) pre.scene ∙ pre.shut k (omega (arith, le, x.grows.cursors))) (λ h0 h regs v pre is long own same.
+    behind : Triple m b c (λ h0. row_steps row) no_labels last given done
+    behind = t_does m tt (λ h0. row_steps row) no_labels last given done y (λ h0 h pre. omega arith) (λ h0 h pre k le. ap (λ (s : Scene). cursor_at s.cursors k) pre.scene ∙ pre.shut k (omega (arith, le, x.grows.cursors))) (λ h0 h regs v pre is long own same.
         ((λ k le lt. same k le (omega (arith, lt, x.next)) ∙ pre.regs k le lt), pre.scene, left h0 h pre ∙ is ∙ ap (λ l. Done (record v { own = l })) (sym own))) (λ l h0 h regs scene v e pre is long wide below slots own same.
-        absurd (gives_quit (items_seen [] row (sight_of m h)) (memory_of 0 h) v is)) (λ h0 h k v pre is.
+        absurd (gives_quit (shown row (environment_of m h) no_causes ∷ []) (memory_of 0 h) v is)) (λ h0 h k v pre is.
         (k, v, left h0 h pre ∙ is, refl, refl))
 
     whole : Triple m a c (λ h0. rows_in_turn_steps all) no_labels last started done
-    whole = t_more (λ h0. rows_in_turn_steps all) (λ h0. omega (arith, sum_by_push (row_steps []) rows row)) (t_seq in_front behind)
+    whole = t_more (λ h0. rows_in_turn_steps all) (λ h0. omega (arith, sum_by_push (row_steps) rows row)) (t_seq in_front behind)
 
   pub values_more : Does no_calls a c 0 0 None (values_effect (rows ++ row ∷ [])) (by_world (λ w. rows_in_turn_steps (rows ++ row ∷ [])))
   values_more =

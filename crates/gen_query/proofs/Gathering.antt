@@ -1,7 +1,6 @@
 -- Results in registers one after another, and their causes in one register.
-use Rattle.std.proofs.Common.{◌≡◌, ◌≢◌, ℕ, suc, ◌+◌, ◌-◌, ◌≤◌, ◌<◌, List, [], ◌∷◌, ◌++◌, length, map, sum_by, fold, length-append, refl, sym, ap, ◌∙◌, subst, arith}
-use Rattle.std.proofs.lemmas.List.{map-append}
-use Rattle.std.proofs.lemmas.List.Sums.{fold-append, sum_by_push}
+use Rattle.std.proofs.Common.{◌≡◌, ◌≢◌, ℕ, suc, ◌+◌, ◌-◌, ◌≤◌, ◌<◌, List, [], ◌∷◌, length, map, fold, refl, sym, ap, ◌∙◌, subst, arith}
+use Rattle.std.proofs.lemmas.List.Sums.{fold-append}
 use Rattle.eng_value.specs.Applied.{merged}
 use Rattle.eng_value.specs.Environments.{Environment, with_causes}
 use Rattle.eng_value.specs.declared.out.Out.{Out}
@@ -9,14 +8,13 @@ use Rattle.gen_query.specs.Stretches.{Gathers}
 use Rattle.sql_meaning.specs.Expression.{value_of}
 use Rattle.bound_tree.specs.Exprs.{BoundExpr}
 use Rattle.vm_code.specs.declared.op.Op.TheVariants as op
-use Rattle.vm_code.specs.Draft.{Draft, with_op, taken}
+use Rattle.vm_code.specs.Draft.{Draft, with_op}
 use Rattle.vm_code.specs.Machine.{Setting, State, outs_from, read, Reaches}
-use Rattle.vm_code.specs.Frames.{Here, here, with_regs, Fills, Leaves, no_calls}
+use Rattle.vm_code.specs.Frames.{Here, here, with_regs}
 use Rattle.vm_code.specs.Claims.{Claim, Labels, Last, on, Triple}
 use Rattle.vm_code.proofs.Runs.{leads_then, reaches_none, reaches_op}
 use Rattle.vm_code.proofs.Drafts.{at_op, extends, g_op, grows_none, grows_then, long_op}
 use Rattle.vm_code.proofs.Tracks.{st_none, st_op, st_then}
-use Rattle.vm_code.proofs.Fills.{fills_more, fills_same}
 use Rattle.vm_code.proofs.Registers.{outs_last}
 use Rattle.vm_code.proofs.Triples.{ready_less}
 use Rattle.std.proofs.Math.ListN.{length-set}
@@ -27,12 +25,6 @@ use Rattle.std.specs.Prelude.{slice_set}
 
 abbrev pub values_in : List BoundExpr → Environment → List Out
 values_in es env = map (λ e. value_of e env) es
-
--- a value more, of what has values in environments and takes so many instructions
-pub fills_last : {A : Type 0} {a b z : Draft} (value : A → Environment → Out) (steps : A → ℕ) (xs : List A) (x : A) (to : ℕ) → to ≡ b.next → Fills no_calls a b (length xs) (λ env. map (λ y. value y env) xs) (λ env. sum_by steps xs) → Leaves no_calls (taken b) z to (λ env. value x env) (λ env. steps x) → Fills no_calls a z (length (xs ++ x ∷ [])) (λ env. map (λ y. value y env) (xs ++ x ∷ [])) (λ env. sum_by steps (xs ++ x ∷ []))
-fills_last {a = a} {b = b} {z = z} value steps xs x to to_is before l =
-    let all = xs ++ x ∷ [] in
-    subst (λ n. Fills no_calls a z n (λ env. map (λ y. value y env) all) (λ env. sum_by steps all)) (sym (length-append xs (x ∷ []))) (fills_same (λ env. map (λ y. value y env) all) (λ env. sum_by steps all) (λ env. sym (map-append (λ y. value y env) xs (x ∷ []))) (λ env. omega (arith, sum_by_push steps xs x)) (fills_more to before to_is l))
 
 -- ---- causes
 

@@ -1,10 +1,6 @@
-mod Conditions
-mod Conjuncts
-mod Testing
 mod Gathering
 mod Listing
-mod Giving
-mod Looping
+mod Shown
 mod Following
 mod Fitting
 mod Performing

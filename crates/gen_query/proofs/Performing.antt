@@ -1,21 +1,25 @@
 -- The program of a query performs it.
-use Rattle.std.proofs.Common.{◌≡◌, ℕ, ℤ, ◌+◌, List, [], ◌∷◌, ◌++◌, subst, length, map, Some, None, refl, sym, ap, ◌∙◌, arith}
-use Rattle.std.specs.declared.option.Option.{Option}
-use Rattle.eng_value.specs.Environments.{Surroundings, environment}
+use Rattle.std.proofs.Common.{◌≡◌, ℕ, zero, suc, ℤ, ◌+◌, ◌≤◌, List, [], ◌∷◌, ◌++◌, subst, length, map, None, refl, sym, ap, ◌∙◌, arith}
+use Rattle.std.specs.Prelude.{replicate}
+use Rattle.eng_value.specs.Environments.{Surroundings, environment, null_row}
 use Rattle.eng_value.specs.declared.value.Value.{Value}
-use Rattle.gen_query.specs.Queries.{FitsFrom, IsCountedFor, by_world, conjuncts_of, cost_over, cursors_of, effect_over, gives, items_seen, query_run, query_steps, rows_cost, rows_effect, rows_in_turn_steps, run_by, values_effect, values_items, values_run, values_steps, with_given}
-use Rattle.gen_query.proofs.Fitting.{fit-counted, fit-items, fit-steps, items_along, steps_along}
+use Rattle.gen_loop.specs.Loops.{from_cost, from_effect, plan_steps}
+use Rattle.gen_loop.specs.Stretches.{AreInTurn}
+use Rattle.gen_query.specs.Queries.{by_world, conjuncts_of, gives, query_run, query_steps, row_effect, row_steps, rows_in_turn_steps, run_by, values_effect, values_items, values_run, values_steps, with_given}
+use Rattle.gen_query.proofs.Fitting.{in-turn, items_planned, long-loops, planned-fits, planned-gives}
 use Rattle.gen_query.proofs.Listing.{gives_done, gives_fails, gives_quit}
-use Rattle.plan_tree.specs.declared.access.Access.{Access}
+use Rattle.gen_query.proofs.Sizing.{plan-few}
+use Rattle.plan_tree.specs.Plans.{PlanFits}
+use Rattle.plan_tree.specs.declared.access.JoinPlan.{JoinPlan}
+use Rattle.sql_meaning.specs.Products.{no_rows}
 use Rattle.sql_meaning.specs.Statement.{Item, given_of}
 use Rattle.bound_tree.specs.Exprs.{BoundExpr}
 use Rattle.sql_meaning.specs.declared.bound.BoundSelect.{BoundSelect}
-use Rattle.sql_meaning.specs.declared.bound.FromTable.{FromTable}
 use Rattle.vm_code.specs.declared.op.Op.TheVariants as op
 use Rattle.vm_code.specs.declared.program.Program.{Program}
 use Rattle.vm_code.specs.Draft.{Draft, begun, with_op}
 use Rattle.vm_code.specs.Tracked.{Steady}
-use Rattle.vm_code.specs.Machine.{Cursor, Closed, Ends, Setting, Shared, Finished, Performs, PerformsWith, Run, current, ending_by, read, setting, start, world_of}
+use Rattle.vm_code.specs.Machine.{World, Cursor, Ends, Setting, Shared, Finished, Performs, PerformsWith, Run, current, ending_by, read, setting, start, world_of}
 use Rattle.vm_code.specs.Frames.{Cost, Here, environment_of, sight_of, surroundings_of, Memory, memory_of, Effect, effect_at, cost_at, Does, IsProgramOf, Shut, no_calls}
 use Rattle.vm_code.specs.Balanced.{IsBalanced}
 use Rattle.vm_code.specs.Claims.{Claim, Last, Triple}
@@ -29,12 +33,16 @@ use Rattle.vm_code.proofs.Whole.{Begins, EndsAs, performs_of}
 
 no_cursors : (cursors : List Cursor) → length cursors ≡ 0 → cursors ≡ []
 no_cursors [] e = refl
-no_cursors (c ∷ cs) e = absurd (omega arith)
+no_cursors (c ∷ cs) e = absurd (omega (arith, e))
 
-one_closed : (cursors : List Cursor) → length cursors ≡ 1 → Shut 0 cursors → cursors ≡ Closed ∷ []
-one_closed [] e shut = absurd (omega arith)
-one_closed (c ∷ []) e shut = ap (λ x. x ∷ []) (shut 0 (omega arith))
-one_closed (c ∷ d ∷ cs) e shut = absurd (omega arith)
+-- closed cursors read as no rows
+reads_none : (w : World) (n : ℕ) (cursors : List Cursor) → length cursors ≡ n → Shut 0 cursors → map (current w) cursors ≡ replicate n null_row
+reads_none w zero [] e shut = refl
+reads_none w zero (c ∷ cs) e shut = absurd (omega (arith, e))
+reads_none w (suc n) [] e shut = absurd (omega (arith, e))
+reads_none w (suc n) (c ∷ cs) e shut =
+    ap (λ x. current w x ∷ map (current w) cs) (shut 0 (omega arith))
+    ∙ ap (λ l. null_row ∷ l) (reads_none w n cs (omega (arith, e)) (λ k le. shut (suc k) (omega arith)))
 
 -- a main unit has no arguments, and nothing in its slots
 sees : (m : Setting) (n : ℕ) (h : Here) (cursors : List Cursor) → Begins n h → h.scene.cursors ≡ cursors → environment_of m h ≡ environment (surroundings_of m h.shared) [] [] (map (current (world_of h.shared)) cursors)
@@ -43,17 +51,11 @@ sees m n h cursors b is =
     ∙ ap (λ l. environment_of m (record h { scene = record { cursors = cursors; slots = l } })) b.slots
     ∙ ap (λ k. environment_of m (record h { scene = record { cursors = cursors; slots = [] }; inputs = k })) b.inputs
 
--- the items of the rows that are visited by what code sees
-gives_all : (m : Setting) (from : Option FromTable) (access : Access) (conjuncts results : List BoundExpr) (h : Here) → Begins (cursors_of from) h → effect_at m (effect_over 0 from access conjuncts results) 0 0 h ≡ gives (items_along from access conjuncts results (surroundings_of m h.shared)) (memory_of 0 h)
-gives_all m None access conjuncts results h b =
-    ap (λ env. gives (items_seen conjuncts results (record (sight_of m h) { env = env })) (memory_of 0 h)) (sees m 0 h [] b (no_cursors h.scene.cursors b.wide))
-gives_all m (Some from) access conjuncts results h b =
-    ap (λ env. effect_over 0 (Some from) access conjuncts results (record (sight_of m h) { env = env }) (read h.regs 0) (memory_of 0 h)) (sees m 1 h (Closed ∷ []) b (one_closed h.scene.cursors b.wide b.shut))
-
-costs_all : (m : Setting) (from : Option FromTable) (access : Access) (conjuncts results : List BoundExpr) (h : Here) → Begins (cursors_of from) h → cost_at m (cost_over from access conjuncts results) 0 0 h ≡ steps_along from access conjuncts results (surroundings_of m h.shared)
-costs_all m None access conjuncts results h b = refl
-costs_all m (Some from) access conjuncts results h b =
-    ap (λ env. cost_over (Some from) access conjuncts results (record (sight_of m h) { env = env }) (read h.regs 0) (memory_of 0 h)) (sees m 1 h (Closed ∷ []) b (one_closed h.scene.cursors b.wide b.shut))
+-- no item has a row
+sees_none : (m : Setting) (n : ℕ) (h : Here) → Begins n h → environment_of m h ≡ environment (surroundings_of m h.shared) [] [] (no_rows n).rows
+sees_none m n h b =
+    sees m n h h.scene.cursors b refl
+    ∙ ap (environment (surroundings_of m h.shared) [] []) (reads_none (world_of h.shared) n h.scene.cursors b.wide b.shut)
 
 -- the items of VALUES
 gives_values : (m : Setting) (rows : List (List BoundExpr)) (h : Here) → Begins 0 h → effect_at m (values_effect rows) 0 0 h ≡ gives (values_items rows (surroundings_of m h.shared)) (memory_of 0 h)
@@ -116,27 +118,28 @@ ended-balanced z steady p is = balanced_of [] z op.Halt p steady refl refl is
 
 -- ---- a query
 
-module _ (z : Draft) (q : BoundSelect) (access : Access) (x : IsCountedFor q.from access.path → Does no_calls (begun []) z 0 0 None (rows_effect 0 q access) (rows_cost q access)) (wide : z.cursors ≡ cursors_of q.from) (p : Program) (is : IsProgramOf (with_op z op.Halt) p) where
-  abbrev items_visited : Surroundings → List Item
-  items_visited = items_along q.from access (conjuncts_of q) q.results
+module _ (z : Draft) (q : BoundSelect) (p : JoinPlan) (x : AreInTurn 0 p.loops → Does no_calls (begun []) z 0 0 None (from_effect p (row_effect q.results)) (from_cost p (row_steps q.results))) (wide : z.cursors ≡ length p.loops) (program : Program) (is : IsProgramOf (with_op z op.Halt) program) where
+  -- at the start, where no item has a row
+  abbrev steps_planned : Surroundings → ℕ
+  steps_planned around = plan_steps p (row_steps q.results) (environment around [] [] (no_rows (length p.loops)).rows)
 
-  abbrev steps_visited : Surroundings → ℕ
-  steps_visited = steps_along q.from access (conjuncts_of q) q.results
+  starts : (m : Setting) (h : Here) → Begins z.cursors h → environment_of m h ≡ environment (surroundings_of m h.shared) [] [] (no_rows (length p.loops)).rows
+  starts m h b = sees_none m (length p.loops) h (subst (λ n. Begins n h) wide b)
 
-  -- it gives the items of the rows that are visited, whether the access fits or not
-  visits : IsCountedFor q.from access.path → Performs p (λ around last_rowid. run_by around.world last_rowid (items_visited around)) (λ around. steps_visited around + 1)
-  visits counted =
-      items-performed z (rows_effect 0 q access) items_visited (rows_cost q access) steps_visited (x counted) (λ m h b. gives_all m q.from access (conjuncts_of q) q.results h (subst (λ n. Begins n h) wide b)) (λ m h b. costs_all m q.from access (conjuncts_of q) q.results h (subst (λ n. Begins n h) wide b)) p is
+  -- it gives the items of the rows of the plan, whether it fits or not
+  visits : AreInTurn 0 p.loops → Performs program (λ around last_rowid. run_by around.world last_rowid (items_planned q p around)) (λ around. steps_planned around + 1)
+  visits turn =
+      items-performed z (from_effect p (row_effect q.results)) (items_planned q p) (from_cost p (row_steps q.results)) steps_planned (x turn) (λ m h b. planned-gives q p (surroundings_of m h.shared) (sight_of m h) (starts m h b) (read h.regs 0) (memory_of 0 h)) (λ m h b. ap (plan_steps p (row_steps q.results)) (starts m h b)) program is
 
   -- and these are those of the query where it fits
-  pub query-performs : (params : List Value) → FitsFrom params q access → PerformsWith params p (query_run q) (query_steps q)
+  pub query-performs : (params : List Value) → PlanFits params q.from (conjuncts_of q) p → PerformsWith params program (query_run q) (query_steps q)
   query-performs params fits around last_rowid same sound =
-      let ran = visits (fit-counted params access (conjuncts_of q) q.results around same q.from fits) around last_rowid sound in
-      let items = fit-items params access (conjuncts_of q) q.results around same q.from fits in
-      let few = fit-steps params access (conjuncts_of q) q.results around same q.from fits in
-      let m = setting around.hosts around.ask around.params p in
+      let ran = visits (in-turn 0 q.from p.loops fits.over) around last_rowid sound in
+      let long : length p.loops ≡ length q.from = long-loops 0 q.from p.loops fits.over in
+      let few : steps_planned around + 1 ≤ query_steps q around = subst (λ n. plan_steps p (row_steps q.results) (environment around [] [] (no_rows n).rows) + 1 ≤ query_steps q around) (sym long) (plan-few q p params fits around same) in
+      let m = setting around.hosts around.ask around.params program in
       let run : List Item → Run = λ l. run_by around.world last_rowid l in
-      subst (λ l. Ends m (query_steps q around) (start p around.world last_rowid) (run l).ending (run l).shared) items (leads_more m (query_steps q around) (omega (arith, few)) ran)
+      subst (λ l. Ends m (query_steps q around) (start program around.world last_rowid) (run l).ending (run l).shared) (planned-fits q p params fits around same) (leads_more m (query_steps q around) few ran)
 
 -- ---- VALUES
 

@@ -4,7 +4,7 @@ ghost use Rattle.std.specs.Prelude.{List};
 ghost use Rattle.bound_tree.specs.Exprs.{BoundExpr};
 ghost use Rattle.sql_meaning.specs.declared.bound.BoundSelect.{BoundSelect};
 
-/// The instructions are at most so many for each row that counts and each node of an expression, and a few for the whole.
+/// The instructions are at most so many for each turn and each node of an expression or item of the FROM, and a few for the whole.
 pub fn a_query_takes_few_steps()
     ensures { (q : BoundSelect) → StepsAreFew q }
 {}

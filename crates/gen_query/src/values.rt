@@ -3,7 +3,7 @@ ghost use Rattle.std.specs.Prelude.{◌≡◌, ◌≤◌, OnOk, None};
 ghost use Rattle.gen_query.specs.Queries.{by_world, rows_in_turn_steps, values_effect};
 ghost use Rattle.vm_code.specs.Frames.{Does, no_calls};
 
-use crate::scanning::emit_row;
+use crate::giving::emit_value_row;
 use bound_tree::BoundExpr;
 use sqlite_items::Items;
 use std::alloc::{AllocError, Global};
@@ -20,7 +20,7 @@ pub(crate) fn emit_values(
     ensures cursors { OnOk result (b.new.cursors ≡ b.old.cursors) }
 {
     for row in rows {
-        emit_row(alloc, b, &[], row.as_slice())?;
+        emit_value_row(alloc, b, row.as_slice())?;
     }
     Ok(())
 }

@@ -12,7 +12,7 @@ use Rattle.eng_value.specs.declared.value.Value.{Value}
 use Rattle.plan_best.proofs.Serving.{begun_served, more_open, more_served, none_open, none_served}
 use Rattle.plan_best.proofs.Ranging.{MayFollow, may_follow}
 use Rattle.plan_best.specs.Comparing.{is_begun, is_equality, is_searchable, is_wanted}
-use Rattle.plan_best.specs.Drafts.{HasAdded, HasNoSearch, IsBehind, IsFound, IsNext, IsSearchAt, KeepsServing, MayGoOn, Serves, with_bound, with_key, without_keys}
+use Rattle.plan_best.specs.Drafts.{HasAdded, IsBehind, IsFound, IsNext, IsSearchAt, KeepsServing, MayGoOn, Serves, UnlessSearch, with_bound, with_key, without_keys}
 use Rattle.plan_best.specs.declared.comparing.Comparison.{Comparison}
 use Rattle.plan_best.specs.declared.comparing.Wanted.{Wanted}
 use Rattle.plan_best.specs.declared.comparing.Wanted.TheVariants as wanted
@@ -21,26 +21,26 @@ use Rattle.sql_meaning.specs.Searches.{has_none, is_search}
 
 -- ---- a key that was found
 
-module _ (params : List Value) (cs : List BoundExpr) (d : Draft) (t : KeyTerm) (for : Wanted) (given : Bool) (place : ℕ) (c : Comparison) (found : IsFound params cs d.consumed t for given place c) (at : slice_get d.search.terms d.search.bounds.equal ≡ Some t) (next : IsNext for d.search.bounds) (goes_on : MayGoOn params cs d) where
+module _ (params : List Value) (item : ℕ) (cs : List BoundExpr) (d : Draft) (t : KeyTerm) (for : Wanted) (given : Bool) (place : ℕ) (c : Comparison) (found : IsFound params item cs d.consumed t for given place c) (at : slice_get d.search.terms d.search.bounds.equal ≡ Some t) (next : IsNext for d.search.bounds) (goes_on : MayGoOn params item cs d) where
   follows : MayFollow c.op d.search.bounds
   follows = may_follow for c.op d.search.bounds found.fitting.wanted next
 
-  pub add_serves : KeepsServing params cs d (with_key d place c)
-  add_serves indexes serves x same =
-      more_served x params same cs d t place c found.conjunct found.fitting.compares found.at found.free at found.fitting.term follows (goes_on x same) indexes (serves x same)
+  pub add_serves : KeepsServing params item cs d (with_key d place c)
+  add_serves indexes serves =
+      more_served params item cs d t place c found.conjunct found.fitting.compares found.at found.free at found.fitting.term follows goes_on indexes serves
 
-  pub add_goes_on : given ≡ true → MayGoOn params cs (with_key d place c)
-  add_goes_on is x same =
-      more_open x params same cs d t place c found.conjunct found.fitting.compares found.at found.free at found.fitting.term follows (goes_on x same) (found.fitting.given_so ∙ is)
+  pub add_goes_on : given ≡ true → MayGoOn params item cs (with_key d place c)
+  add_goes_on is =
+      more_open params item cs d t place c found.conjunct found.fitting.compares found.at found.free at found.fitting.term follows goes_on (found.fitting.given_so ∙ is)
 
 -- as the code has it
-pub add_serves_so : (params : List Value) (cs : List BoundExpr) (d new : Draft) (t : KeyTerm) (for : Wanted) (given : Bool) (consumed : List Bool) (place : ℕ) (c : Comparison) → consumed ≡ d.consumed → IsFound params cs consumed t for given place c → slice_get d.search.terms d.search.bounds.equal ≡ Some t → IsNext for d.search.bounds → MayGoOn params cs d → new ≡ with_key d place c → KeepsServing params cs d new
-add_serves_so params cs d new t for given consumed place c free found at next goes_on new_is =
-    subst (λ (n : Draft). KeepsServing params cs d n) (sym new_is) (add_serves params cs d t for given place c (subst (λ those. IsFound params cs those t for given place c) free found) at next goes_on)
+pub add_serves_so : (params : List Value) (item : ℕ) (cs : List BoundExpr) (d new : Draft) (t : KeyTerm) (for : Wanted) (given : Bool) (consumed : List Bool) (place : ℕ) (c : Comparison) → consumed ≡ d.consumed → IsFound params item cs consumed t for given place c → slice_get d.search.terms d.search.bounds.equal ≡ Some t → IsNext for d.search.bounds → MayGoOn params item cs d → new ≡ with_key d place c → KeepsServing params item cs d new
+add_serves_so params item cs d new t for given consumed place c free found at next goes_on new_is =
+    subst (λ (n : Draft). KeepsServing params item cs d n) (sym new_is) (add_serves params item cs d t for given place c (subst (λ those. IsFound params item cs those t for given place c) free found) at next goes_on)
 
-pub add_goes_on_so : (params : List Value) (cs : List BoundExpr) (d new : Draft) (t : KeyTerm) (for : Wanted) (given : Bool) (consumed : List Bool) (place : ℕ) (c : Comparison) → consumed ≡ d.consumed → IsFound params cs consumed t for given place c → slice_get d.search.terms d.search.bounds.equal ≡ Some t → IsNext for d.search.bounds → MayGoOn params cs d → new ≡ with_key d place c → given ≡ true → MayGoOn params cs new
-add_goes_on_so params cs d new t for given consumed place c free found at next goes_on new_is is =
-    subst (λ (n : Draft). MayGoOn params cs n) (sym new_is) (add_goes_on params cs d t for given place c (subst (λ those. IsFound params cs those t for given place c) free found) at next goes_on is)
+pub add_goes_on_so : (params : List Value) (item : ℕ) (cs : List BoundExpr) (d new : Draft) (t : KeyTerm) (for : Wanted) (given : Bool) (consumed : List Bool) (place : ℕ) (c : Comparison) → consumed ≡ d.consumed → IsFound params item cs consumed t for given place c → slice_get d.search.terms d.search.bounds.equal ≡ Some t → IsNext for d.search.bounds → MayGoOn params item cs d → new ≡ with_key d place c → given ≡ true → MayGoOn params item cs new
+add_goes_on_so params item cs d new t for given consumed place c free found at next goes_on new_is is =
+    subst (λ (n : Draft). MayGoOn params item cs n) (sym new_is) (add_goes_on params item cs d t for given place c (subst (λ those. IsFound params item cs those t for given place c) free found) at next goes_on is)
 
 behind : (for : Wanted) (o : CompareOp) (b : Bounds) → is_wanted for o ≡ true → IsBehind for b (with_bound o b)
 behind wanted.Equal op.Eq b is = refl
@@ -94,17 +94,17 @@ module _ (params : List Value) (cs : List BoundExpr) (place : ℕ) (c : Comparis
 
   searched : (indexes : List (List KeyTerm)) → is_searchable indexes c.collation c.source ≡ true → is_search indexes params search.conjunct ≡ true
   searched indexes is =
-      search.compares.search indexes ∙ ap (λ b. b && is_searchable indexes c.collation c.source) search.equal ∙ is
+      search.compares.search refl indexes ∙ ap (λ b. b && is_searchable indexes c.collation c.source) search.equal ∙ is
 
-  pub begun_serves : (terms : List KeyTerm) → is_begun c terms ≡ true → (indexes : List (List KeyTerm)) → is_searchable indexes c.collation c.source ≡ true → Serves params indexes cs (begun terms)
-  begun_serves [] is indexes able x same = absurd (differ (sym is))
-  begun_serves (t ∷ terms) is indexes able x same =
-      begun_served x params same cs (without_keys (t ∷ terms) (length cs)) t place c search.conjunct search.compares search.at free refl is (may_first c.op) (none_open x cs (t ∷ terms)) indexes given (ap (λ ps. is_search indexes ps search.conjunct) same ∙ searched indexes able)
+  pub begun_serves : (terms : List KeyTerm) → is_begun c terms ≡ true → (indexes : List (List KeyTerm)) → is_searchable indexes c.collation c.source ≡ true → Serves params 0 indexes cs (begun terms)
+  begun_serves [] is indexes able = absurd (differ (sym is))
+  begun_serves (t ∷ terms) is indexes able =
+      begun_served params 0 cs (without_keys (t ∷ terms) (length cs)) t place c search.conjunct search.compares search.at free refl is (may_first c.op) (none_open params 0 cs (t ∷ terms)) indexes given (searched indexes able)
 
-  pub begun_goes_on : (terms : List KeyTerm) → is_begun c terms ≡ true → MayGoOn params cs (begun terms)
-  begun_goes_on [] is x same = absurd (differ (sym is))
-  begun_goes_on (t ∷ terms) is x same =
-      more_open x params same cs (without_keys (t ∷ terms) (length cs)) t place c search.conjunct search.compares search.at free refl is (may_first c.op) (none_open x cs (t ∷ terms)) given
+  pub begun_goes_on : (terms : List KeyTerm) → is_begun c terms ≡ true → MayGoOn params 0 cs (begun terms)
+  begun_goes_on [] is = absurd (differ (sym is))
+  begun_goes_on (t ∷ terms) is =
+      more_open params 0 cs (without_keys (t ∷ terms) (length cs)) t place c search.conjunct search.compares search.at free refl is (may_first c.op) (none_open params 0 cs (t ∷ terms)) given
 
   begun_op : (o : CompareOp) → is_equality o ≡ true → IsNext wanted.Equal (with_bound o (record { equal = 0; lower = None; upper = None }))
   begun_op op.Eq is = (refl, refl)
@@ -118,9 +118,8 @@ module _ (params : List Value) (cs : List BoundExpr) (place : ℕ) (c : Comparis
 
 -- ---- where no conjunct is a search
 
-pub none_goes_on : (params : List Value) (cs : List BoundExpr) (terms : List KeyTerm) → MayGoOn params cs (without_keys terms (length cs))
-none_goes_on params cs terms x same = none_open x cs terms
+pub none_goes_on : (params : List Value) (item : ℕ) (cs : List BoundExpr) (terms : List KeyTerm) → MayGoOn params item cs (without_keys terms (length cs))
+none_goes_on params item cs terms = none_open params item cs terms
 
-pub none_serves : (params : List Value) (indexes : List (List KeyTerm)) (cs : List BoundExpr) (terms : List KeyTerm) → HasNoSearch params indexes cs → Serves params indexes cs (without_keys terms (length cs))
-none_serves params indexes cs terms not x same =
-    none_served x cs terms indexes (subst (λ ps. HasNoSearch ps indexes cs) (sym same) not)
+pub none_serves : (params : List Value) (item : ℕ) (indexes : List (List KeyTerm)) (cs : List BoundExpr) (terms : List KeyTerm) → UnlessSearch params item indexes cs → Serves params item indexes cs (without_keys terms (length cs))
+none_serves params item indexes cs terms not = none_served params item cs terms indexes not

@@ -46,15 +46,15 @@ module _ (c : Comparison) where
 -- ---- one more
 
 module _ (params : List Value) (indexes : List (List KeyTerm)) (cs : List BoundExpr) where
-  pub unless_not : (best : Option Draft) → MayBest params indexes cs best → (is : Bool) → is ≡ false → BestUnless params indexes cs is best best
+  pub unless_not : (best : Option Draft) → MayBest params 0 indexes cs best → (is : Bool) → is ≡ false → BestUnless params indexes cs is best best
   unless_not None may is not = (refl, not)
   unless_not (Some d) may is not = may
 
-  pub unless_may : (is : Bool) (was best : Option Draft) → BestUnless params indexes cs is was best → MayBest params indexes cs best
+  pub unless_may : (is : Bool) (was best : Option Draft) → BestUnless params indexes cs is was best → MayBest params 0 indexes cs best
   unless_may is was None unless = tt
   unless_may is was (Some d) unless = unless
 
-  pub best_may : (those : List BoundExpr) (best : Option Draft) → BestOf params indexes cs those best → MayBest params indexes cs best
+  pub best_may : (those : List BoundExpr) (best : Option Draft) → BestOf params indexes cs those best → MayBest params 0 indexes cs best
   best_may those None none = tt
   best_may those (Some d) serves = serves
 
@@ -96,8 +96,8 @@ begun_at c indexes place lt item terms at same b is begun =
 
 module _ (params : List Value) (indexes : List (List KeyTerm)) (cs : List BoundExpr) where
   -- one that does, in its place
-  pub begun_columns : (q : BoundExpr) (place : ℕ) → q ≡ get_or cs place q → (by : Comparison) → Compares params q by → is_equal_search by ≡ true → (column : ℕ) → by.source ≡ term.Column column → (was best : Option Draft) → BestUnless params indexes cs (list_any (is_begun by) indexes) was best → (c : BoundExpr) → slice_get cs place ≡ Some c → BestUnless params indexes cs (is_search indexes params c) was best
+  pub begun_columns : (q : BoundExpr) (place : ℕ) → q ≡ get_or cs place q → (by : Comparison) → Compares params 0 q by → is_equal_search by ≡ true → (column : ℕ) → by.source ≡ term.Column column → (was best : Option Draft) → BestUnless params indexes cs (list_any (is_begun by) indexes) was best → (c : BoundExpr) → slice_get cs place ≡ Some c → BestUnless params indexes cs (is_search indexes params c) was best
   begun_columns q place q_is by compares equal column is was best unless c at =
-      let same : is_search indexes params q ≡ list_any (is_begun by) indexes = compares.search indexes ∙ ap₂ (λ p q. p && q) equal (ap (is_searchable indexes by.collation) is ∙ sym (any_begun by column is indexes)) in
+      let same : is_search indexes params q ≡ list_any (is_begun by) indexes = compares.search refl indexes ∙ ap₂ (λ p q. p && q) equal (ap (is_searchable indexes by.collation) is ∙ sym (any_begun by column is indexes)) in
       let one : c ≡ q = sym (q_is ∙ get_or_from_slice_get cs place c q at) in
       subst (λ b. BestUnless params indexes cs b was best) (sym (ap (is_search indexes params) one ∙ same)) unless

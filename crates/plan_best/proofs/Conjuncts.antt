@@ -1,5 +1,5 @@
 -- A comparison of the rowid or a column with a key says what a search by the key is to know.
-use Rattle.std.proofs.Common.{◌≡◌, ◌≤◌, Bool, true, false, ◌&&◌, ◌||◌, List, [], ◌∷◌, Some, None, refl, sym, ap, ap₂, ◌∙◌, subst}
+use Rattle.std.proofs.Common.{◌≡◌, ℕ, ◌≤◌, ◌<◌, Bool, true, false, ◌&&◌, ◌||◌, List, length, Some, None, refl, sym, ap, ap₂, ◌∙◌, subst}
 use Rattle.std.specs.declared.option.Option.{Option}
 use Rattle.bound_tree.specs.Exprs as e
 use Rattle.bound_tree.specs.Exprs.{BoundExpr}
@@ -10,7 +10,7 @@ use Rattle.eng_index.specs.declared.key_term.TermSource.{TermSource}
 use Rattle.eng_value.specs.Casts.{beside}
 use Rattle.eng_value.specs.Collations.{keys_of}
 use Rattle.eng_value.specs.Comparisons.{comparison, comparison_of}
-use Rattle.eng_value.specs.Environments.{Surroundings, null_row, table_row}
+use Rattle.eng_value.specs.Environments.{Environment, table_row}
 use Rattle.eng_value.specs.Outs.{turned}
 use Rattle.eng_value.specs.StoredRows.{StoredRow}
 use Rattle.eng_value.specs.Truths.{truth_in, truth_of}
@@ -25,16 +25,18 @@ use Rattle.eng_value.specs.declared.out.Out.{Out}
 use Rattle.eng_value.specs.declared.out.Out.TheVariants.{Good, Bad}
 use Rattle.eng_value.specs.declared.truth.Truth.TheVariants.{True}
 use Rattle.eng_value.specs.declared.value.Value.{Value}
-use Rattle.plan_best.specs.Comparing.{Compares, MayCompare, MayStand, Rejects, is_equal_search, is_equality, is_of_term, is_search_so, is_searchable, stands_so, truth_at}
-use Rattle.plan_best.specs.Sides.{is_kept_beside, op_round, reads_no_row, sides_round, source_of}
+use Rattle.plan_best.specs.Comparing.{Compares, IsNoSearch, IsNoSearchSo, MayCompare, MayStand, Rejects, is_equal_search, is_equality, is_of_term, is_search_so, is_searchable, stands_so, truth_at}
+use Rattle.plan_best.specs.Sides.{is_kept_beside, op_round, sides_round, source_of}
 use Rattle.plan_best.specs.declared.comparing.Comparison.{Comparison}
-use Rattle.plan_best.proofs.Reading.{ReadsAlike, fixed_value, given-good, given-reads, given-source, no_source-key, reads_alike, source-key, source-value}
+use Rattle.plan_best.proofs.Reading.{ReadsAlike, given-good, given-ignores, given-source, no_source-key, reads_alike, source-key, source-value}
 use Rattle.plan_best.proofs.Standing.{IsTruthBy, comparison-round, kept_beside, truth_by_search, truth_met, truth_rejected}
-use Rattle.plan_tree.specs.Visits.{before, key_expr, key_out}
+use Rattle.plan_tree.proofs.Ignoring.{ignores-same}
+use Rattle.plan_tree.specs.Ignoring.{ignores}
+use Rattle.plan_tree.specs.Visits.{at_item, key_expr, key_out}
 use Rattle.plan_tree.specs.declared.access.Key.{Key}
 use Rattle.sql_meaning.specs.Expression.{value_of}
-use Rattle.sql_meaning.specs.Statement.{after_conjunct}
-use Rattle.sql_meaning.specs.Searches.{at_row, has_none, is_given, is_good, is_key, is_search}
+use Rattle.sql_meaning.specs.Products.{after_conjunct}
+use Rattle.sql_meaning.specs.Searches.{has_none, is_given, is_good, is_key, is_search}
 
 -- what is good becomes a value
 good_becomes : (f : Value → Value) (a : Out) (v : Value) → turned (λ w. Good (f w)) a ≡ Good v → (w : Value) × (a ≡ Good w) × (f w ≡ v)
@@ -80,7 +82,7 @@ unequal op.Ge b is = refl
 
 -- ---- the rowid or a column on the left side, and the key on the right one
 
-module _ (params : List Value) (source : TermSource) (o : CompareOp) (c : Collation) (k : Key) (a : BoundExpr) (is : source_of a ≡ Some source) where
+module _ (params : List Value) (item : ℕ) (source : TermSource) (o : CompareOp) (c : Collation) (k : Key) (a : BoundExpr) (is : source_of item a ≡ Some source) where
   abbrev with_key : Comparison
   with_key = record { source = source; collation = c; op = o; key = k; given = is_given params (key_expr k) }
 
@@ -90,61 +92,61 @@ module _ (params : List Value) (source : TermSource) (o : CompareOp) (c : Collat
   abbrev whole : BoundExpr
   whole = e.Binary (binary.Compare o both) a (key_expr k)
 
-  module _ (fixed : reads_no_row (key_expr k) ≡ true) (kept : is_kept_beside k.own k.other ≡ true) where
-    module _ (x : Surroundings) (t : KeyTerm) (r : StoredRow) (v : Value) (of_term : is_of_term with_key t ≡ true) (key : key_out k (before x) ≡ Good v) where
+  module _ (fixed : ignores item (key_expr k) ≡ true) (kept : is_kept_beside k.own k.other ≡ true) where
+    module _ (env : Environment) (place : item < length env.rows) (t : KeyTerm) (r : StoredRow) (v : Value) (of_term : is_of_term with_key t ≡ true) (key : key_out k env ≡ Good v) where
       abbrev own : Value
       own = source_value source r
 
-      reads : ReadsAlike x.hosts source c t r
-      reads = reads_alike x.hosts source c t r of_term
+      reads : ReadsAlike env.hosts source c t r
+      reads = reads_alike env.hosts source c t r of_term
 
-      key_value : (w : Value) × (value_of (key_expr k) (before x) ≡ Good w) × (beside k.other k.own w ≡ v)
-      key_value = good_becomes (beside k.other k.own) (value_of (key_expr k) (before x)) v key
+      key_value : (w : Value) × (value_of (key_expr k) env ≡ Good w) × (beside k.other k.own w ≡ v)
+      key_value = good_becomes (beside k.other k.own) (value_of (key_expr k) env) v key
 
-      value-is : value_of whole (at_row x r) ≡ comparison_of (keys_of x.hosts) o both (Good own) (Good key_value.0)
-      value-is = ap₂ (comparison_of (keys_of x.hosts) o both) (source-value x r source a is) (fixed_value x (table_row r ∷ []) (null_row ∷ []) (key_expr k) fixed ∙ key_value.1)
+      value-is : value_of whole (at_item env item r) ≡ comparison_of (keys_of env.hosts) o both (Good own) (Good key_value.0)
+      value-is = ap₂ (comparison_of (keys_of env.hosts) o both) (source-value env item place r source a is) (ignores-same item (key_expr k) fixed env (table_row r) ∙ key_value.1)
 
-      compared-is : comparison_of (keys_of x.hosts) o both (Good own) (Good key_value.0) ≡ Good (comparison (keys_of x.hosts) o both own key_value.0)
+      compared-is : comparison_of (keys_of env.hosts) o both (Good own) (Good key_value.0) ≡ Good (comparison (keys_of env.hosts) o both own key_value.0)
       unfolding comparison_of
       compared-is = refl
 
-      truth-is : truth_at x whole r ≡ truth_in (truth_of (Good (comparison (keys_of x.hosts) o both own key_value.0)))
+      truth-is : truth_at env item whole r ≡ truth_in (truth_of (Good (comparison (keys_of env.hosts) o both own key_value.0)))
       truth-is = ap (λ (q : Out). truth_in (truth_of q)) (value-is ∙ compared-is)
 
       so-is : is_known_so (stands_so o) t (term_value t r) v ≡ is_known_so (stands_so o) t own v
       so-is = ap (λ u. is_known_so (stands_so o) t u v) reads.value
 
-      by_search : IsTruthBy (is_known_so (stands_so o) t own v) (truth_in (truth_of (Good (comparison (keys_of x.hosts) o both own key_value.0))))
-      by_search = truth_by_search (keys_of x.hosts) o both t own key_value.0 v (kept_beside k.own k.other own kept) key_value.2 (reads.alike v)
+      by_search : IsTruthBy (is_known_so (stands_so o) t own v) (truth_in (truth_of (Good (comparison (keys_of env.hosts) o both own key_value.0))))
+      by_search = truth_by_search (keys_of env.hosts) o both t own key_value.0 v (kept_beside k.own k.other own kept) key_value.2 (reads.alike v)
 
-      pub one_way_met : is_known_so (stands_so o) t (term_value t r) v ≡ true → truth_at x whole r ≡ True
+      pub one_way_met : is_known_so (stands_so o) t (term_value t r) v ≡ true → truth_at env item whole r ≡ True
       one_way_met so = truth-is ∙ truth_met (is_known_so (stands_so o) t own v) _ by_search (sym so-is ∙ so)
 
-      pub one_way_rejected : is_known_so (stands_so o) t (term_value t r) v ≡ false → Rejects x whole r
+      pub one_way_rejected : is_known_so (stands_so o) t (term_value t r) v ≡ false → Rejects env item whole r
       one_way_rejected so causes = rw truth-is (truth_rejected (is_known_so (stands_so o) t own v) _ by_search (sym so-is ∙ so) causes)
 
-    good_key : (x : Surroundings) → x.params ≡ params → is_given params (key_expr k) ≡ true → is_good (key_out k (before x)) ≡ true
-    good_key x same given = good_stays (beside k.other k.own) (value_of (key_expr k) (before x)) (given-good params x same (key_expr k) given)
+    good_key : (env : Environment) → env.params ≡ params → is_given params (key_expr k) ≡ true → is_good (key_out k env) ≡ true
+    good_key env same given = good_stays (beside k.other k.own) (value_of (key_expr k) env) (given-good params env same (key_expr k) given)
 
     not_given : is_given params a ≡ false
     not_given = by (is_given params a) refl
       where
         by : (b : Bool) → is_given params a ≡ b → is_given params a ≡ false
-        by true given = let none = given-source params a given in absurd (cc)
+        by true given = let none = given-source params item a given in absurd (cc)
         by false given = given
 
-    search-is : (indexes : List (List KeyTerm)) → is_search indexes params whole ≡ (is_equal_search with_key && is_searchable indexes c source)
-    search-is indexes = by o
+    search-is : item ≡ 0 → (indexes : List (List KeyTerm)) → is_search indexes params whole ≡ (is_equal_search with_key && is_searchable indexes c source)
+    search-is first indexes = by o
       where
         by : (o : CompareOp) → is_search indexes params (e.Binary (binary.Compare o both) a (key_expr k)) ≡ (((is_equality o && is_given params (key_expr k)) && has_none k.own) && is_searchable indexes c source)
         by op.Eq =
-            rw (source-key indexes c source a is, not_given) (search_so (is_searchable indexes c source) (is_given params (key_expr k)) (has_none k.own) (is_key indexes c (key_expr k)) (has_none k.other))
+            rw (source-key item first indexes c source a is, not_given) (search_so (is_searchable indexes c source) (is_given params (key_expr k)) (has_none k.own) (is_key indexes c (key_expr k)) (has_none k.other))
         by op.Lt = refl
         by op.Le = refl
         by op.Gt = refl
         by op.Ge = refl
 
-    pub one_way_compares : Compares params whole with_key
+    pub one_way_compares : Compares params item whole with_key
     one_way_compares = record {
       met = one_way_met;
       rejected = one_way_rejected;
@@ -155,10 +157,10 @@ module _ (params : List Value) (source : TermSource) (o : CompareOp) (c : Collat
 
 -- ---- where there is none
 
-module _ (params : List Value) (o : CompareOp) (sides : Sides) (a b : BoundExpr) where
-  pub no_key : source_of a ≡ None → (indexes : List (List KeyTerm)) → is_search_so indexes params o sides a b ≡ false
-  no_key is indexes =
-      unequal o _ (ap (λ k. (k && is_given params b) && has_none sides.right) (no_source-key indexes sides.collation a is))
+module _ (params : List Value) (item : ℕ) (o : CompareOp) (sides : Sides) (a b : BoundExpr) where
+  pub no_key : source_of item a ≡ None → IsNoSearchSo params item o sides a b
+  no_key is first indexes =
+      unequal o _ (ap (λ k. (k && is_given params b) && has_none sides.right) (no_source-key item first indexes sides.collation a is))
 
   no_given : is_given params b ≡ false → (indexes : List (List KeyTerm)) → is_search_so indexes params o sides a b ≡ false
   no_given is indexes =
@@ -168,15 +170,15 @@ module _ (params : List Value) (o : CompareOp) (sides : Sides) (a b : BoundExpr)
   no_none is indexes =
       unequal o _ (ap (λ g. (is_key indexes sides.collation a && is_given params b) && g) is ∙ and_false (is_key indexes sides.collation a && is_given params b))
 
-  pub no_fixed : reads_no_row b ≡ false → (indexes : List (List KeyTerm)) → is_search_so indexes params o sides a b ≡ false
-  no_fixed is = no_given (by (is_given params b) refl)
+  pub no_fixed : ignores item b ≡ false → IsNoSearchSo params item o sides a b
+  no_fixed is first = no_given (by (is_given params b) refl)
     where
       by : (g : Bool) → is_given params b ≡ g → is_given params b ≡ false
-      by true given = absurd (differ (sym (given-reads params b given) ∙ is))
+      by true given = absurd (differ (sym (given-ignores params item b given) ∙ is))
       by false given = given
 
-  pub no_kept : is_kept_beside sides.right sides.left ≡ false → (indexes : List (List KeyTerm)) → is_search_so indexes params o sides a b ≡ false
-  no_kept is = no_none (by sides.right is)
+  pub no_kept : is_kept_beside sides.right sides.left ≡ false → IsNoSearchSo params item o sides a b
+  no_kept is first = no_none (by sides.right is)
     where
       by : (right : Affinity) → is_kept_beside right sides.left ≡ false → has_none right ≡ false
       by affinity.Integer kept = refl
@@ -188,7 +190,7 @@ module _ (params : List Value) (o : CompareOp) (sides : Sides) (a b : BoundExpr)
 
 -- ---- either way round
 
-module _ (params : List Value) (o : CompareOp) (sides : Sides) (a b : BoundExpr) where
+module _ (params : List Value) (item : ℕ) (o : CompareOp) (sides : Sides) (a b : BoundExpr) where
   abbrev this : BoundExpr
   this = e.Binary (binary.Compare o sides) a b
 
@@ -221,28 +223,29 @@ module _ (params : List Value) (o : CompareOp) (sides : Sides) (a b : BoundExpr)
       by op.Gt = refl
       by op.Ge = refl
 
-  pub no_search : ((indexes : List (List KeyTerm)) → so indexes ≡ false) → ((indexes : List (List KeyTerm)) → so_round indexes ≡ false) → (indexes : List (List KeyTerm)) → is_search indexes params this ≡ false
-  no_search not not_round indexes = search-either indexes ∙ ap₂ (λ p q. p || q) (not indexes) (not_round indexes)
+  pub no_search : IsNoSearchSo params item o sides a b → IsNoSearchSo params item (op_round o) (sides_round sides) b a → IsNoSearch params item this
+  no_search not not_round first indexes =
+      search-either indexes ∙ ap₂ (λ p q. p || q) (not first indexes) (not_round first indexes)
 
-  truth-round : (x : Surroundings) (r : StoredRow) → truth_at x this r ≡ truth_at x round r
-  truth-round x r =
-      ap (λ (q : Out). truth_in (truth_of q)) (comparison-round x.hosts o sides (value_of a (at_row x r)) (value_of b (at_row x r)))
+  truth-round : (env : Environment) (r : StoredRow) → truth_at env item this r ≡ truth_at env item round r
+  truth-round env r =
+      ap (λ (q : Out). truth_in (truth_of q)) (comparison-round env.hosts o sides (value_of a (at_item env item r)) (value_of b (at_item env item r)))
 
-  compares_round : (c : Comparison) → Compares params round c → key_expr c.key ≡ a → Compares params this c
+  compares_round : (c : Comparison) → Compares params item round c → key_expr c.key ≡ a → Compares params item this c
   compares_round c compares key_is = record {
-    met = λ x t r v of_term key is. truth-round x r ∙ compares.met x t r v of_term key is;
-    rejected = λ x t r v of_term key is causes. ap (after_conjunct causes) (truth-round x r) ∙ compares.rejected x t r v of_term key is causes;
+    met = λ env place t r v of_term key is. truth-round env r ∙ compares.met env place t r v of_term key is;
+    rejected = λ env place t r v of_term key is causes. ap (after_conjunct causes) (truth-round env r) ∙ compares.rejected env place t r v of_term key is causes;
     given = compares.given;
     side = λ size larger. subst (λ (k : BoundExpr). size k ≤ size this) (sym key_is) (larger o sides a b).0;
-    search = λ indexes. sym (search-round indexes) ∙ compares.search indexes;
+    search = λ first indexes. sym (search-round indexes) ∙ compares.search first indexes;
   }
 
   -- what is found the other way round, where there is nothing this way
-  pub stands_round : (q : CompareOp) (turned : Sides) → q ≡ op_round o → turned ≡ sides_round sides → (found : Option Comparison) → MayStand params o sides a b None → MayStand params q turned b a found → MayCompare params this found
+  pub stands_round : (q : CompareOp) (turned : Sides) → q ≡ op_round o → turned ≡ sides_round sides → (found : Option Comparison) → MayStand params item o sides a b None → MayStand params item q turned b a found → MayCompare params item this found
   stands_round q turned q_is turned_is found not may =
-      by found (subst (λ (p : CompareOp). MayStand params p (sides_round sides) b a found) q_is (subst (λ (s : Sides). MayStand params q s b a found) turned_is may))
+      by found (subst (λ (p : CompareOp). MayStand params item p (sides_round sides) b a found) q_is (subst (λ (s : Sides). MayStand params item q s b a found) turned_is may))
     where
-      by : (found : Option Comparison) → MayStand params (op_round o) (sides_round sides) b a found → MayCompare params this found
+      by : (found : Option Comparison) → MayStand params item (op_round o) (sides_round sides) b a found → MayCompare params item this found
       by None not_round = no_search not not_round
       by (Some c) stands = compares_round c stands.0 stands.1
 

@@ -18,13 +18,13 @@ added_none : (added : Bool) (for : Wanted) (old new : Draft) → HasAdded added 
 added_none true for old new has not = absurd (differ not)
 added_none false for old new has not = has
 
-module _ (params : List Value) (cs : List BoundExpr) where
-  pub serves_on : (a b c : Draft) → KeepsServing params cs a b → KeepsServing params cs b c → KeepsServing params cs a c
+module _ (params : List Value) (item : ℕ) (cs : List BoundExpr) where
+  pub serves_on : (a b c : Draft) → KeepsServing params item cs a b → KeepsServing params item cs b c → KeepsServing params item cs a c
   serves_on a b c first second indexes serves = second indexes (first indexes serves)
 
-  pub still_goes_on : (added : Bool) (for : Wanted) (old new : Draft) → HasAdded added for old new → added ≡ false → MayGoOn params cs old → MayGoOn params cs new
+  pub still_goes_on : (added : Bool) (for : Wanted) (old new : Draft) → HasAdded added for old new → added ≡ false → MayGoOn params item cs old → MayGoOn params item cs new
   still_goes_on added for old new has not goes_on =
-      subst (λ (d : Draft). MayGoOn params cs d) (sym (added_none added for old new has not)) goes_on
+      subst (λ (d : Draft). MayGoOn params item cs d) (sym (added_none added for old new has not)) goes_on
 
 -- the term in the next place
 pub still_term : (added : Bool) (for : Wanted) (old new : Draft) → HasAdded added for old new → added ≡ false → (those : List KeyTerm) (i : ℕ) (t : KeyTerm) → those ≡ old.search.terms → old.search.bounds.equal ≡ i → i < length old.search.terms → slice_get new.search.terms new.search.bounds.equal ≡ Some (get_or those i t)

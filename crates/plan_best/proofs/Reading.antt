@@ -1,7 +1,8 @@
 -- What the sides of a comparison come to at a row.
-use Rattle.std.proofs.Common.{◌≡◌, ℕ, zero, suc, Bool, true, false, ◌&&◌, List, [], ◌∷◌, map, Some, None, if◌then◌else◌, refl, sym, ap, ap₂, ◌∙◌, arith}
+use Rattle.std.proofs.Common.{◌≡◌, ℕ, zero, suc, ◌<◌, Bool, true, false, ◌&&◌, List, [], ◌∷◌, length, map, Some, None, if◌then◌else◌, refl, sym, ap, ◌∙◌, arith}
 use Rattle.std.specs.Prelude.{nat_eq, slice_index_or}
 use Rattle.std.specs.List.{list_any}
+use Rattle.std.proofs.lemmas.List.{get_or-set_same}
 use Rattle.std.specs.declared.option.Option.{Option}
 use Rattle.bound_tree.specs.Exprs as e
 use Rattle.bound_tree.specs.Exprs.{BoundExpr}
@@ -10,9 +11,8 @@ use Rattle.eng_index.specs.Keys.{source_value, term_value}
 use Rattle.eng_index.specs.declared.key_term.KeyTerm.{KeyTerm}
 use Rattle.eng_index.specs.declared.key_term.TermSource.{TermSource}
 use Rattle.eng_index.specs.declared.key_term.TermSource.TheVariants as term
-use Rattle.eng_value.specs.Applied.{binary_of, unary_of}
 use Rattle.eng_value.specs.Collations.{compare, compare_by, keys_of}
-use Rattle.eng_value.specs.Environments.{ItemRow, Surroundings, environment}
+use Rattle.eng_value.specs.Environments.{Environment, ItemRow, column_of, null_row, row_at, table_row}
 use Rattle.eng_value.specs.HostMeanings.{HostMeanings}
 use Rattle.eng_value.specs.StoredRows.{StoredRow}
 use Rattle.eng_value.specs.declared.built.Built.{Built}
@@ -23,10 +23,11 @@ use Rattle.eng_value.specs.declared.out.Out.TheVariants.{Good}
 use Rattle.eng_value.specs.declared.value.Value.{Value}
 use Rattle.eng_value.specs.declared.value.Value.TheVariants.{Null, Integer, Text, Blob}
 use Rattle.plan_best.specs.Comparing.{is_searchable, reads_same}
-use Rattle.plan_best.specs.Sides.{reads_no_row, source_at, source_of}
-use Rattle.plan_tree.specs.Visits.{before}
+use Rattle.plan_best.specs.Sides.{source_at, source_of}
+use Rattle.plan_tree.specs.Ignoring.{ignores}
+use Rattle.plan_tree.specs.Visits.{at_item}
 use Rattle.sql_meaning.specs.Expression.{literal_out, parameter_of, value_of}
-use Rattle.sql_meaning.specs.Searches.{at_row, begins_with, is_collation, is_given, is_good, is_key, same_built}
+use Rattle.sql_meaning.specs.Searches.{begins_with, is_collation, is_given, is_good, is_key, same_built}
 
 -- ---- numbers that are the same
 
@@ -39,12 +40,12 @@ both_true false b is = absurd (differ (sym is))
 
 -- ---- the rowid or a column
 
--- of item 0
-source_at_is : (item : ℕ) (own s : TermSource) → source_at item own ≡ Some s → (item ≡ 0) × (own ≡ s)
-source_at_is item own s is = by (nat_eq item 0) refl is
+-- of the item that is asked for
+source_at_is : (item own : ℕ) (source s : TermSource) → source_at item own source ≡ Some s → (own ≡ item) × (source ≡ s)
+source_at_is item own source s is = by (nat_eq own item) refl is
   where
-    by : (b : Bool) → nat_eq item 0 ≡ b → (if b then Some own else None) ≡ Some s → (item ≡ 0) × (own ≡ s)
-    by true same is = (same_number item 0 same, cc)
+    by : (b : Bool) → nat_eq own item ≡ b → (if b then Some source else None) ≡ Some s → (own ≡ item) × (source ≡ s)
+    by true same is = (same_number own item same, cc)
     by false same is = absurd (cc)
 
 column_value : (values : List Value) (column : ℕ) → slice_index_or (map Good values) column (Good Null) ≡ Good (slice_index_or values column Null)
@@ -53,57 +54,63 @@ column_value (v ∷ values) zero = refl
 column_value (v ∷ values) (suc column) = column_value values column
 
 -- by whether it is one
-pub by_source : (P : BoundExpr → Option TermSource → Type 0) → ((item : ℕ) → P (e.Rowid item) (source_at item term.Rowid)) → ((item column : ℕ) → P (e.Column item column) (source_at item (term.Column column))) → ((x : BoundExpr) → ((indexes : List (List KeyTerm)) (c : Collation) → is_key indexes c x ≡ false) → P x None) → (x : BoundExpr) → P x (source_of x)
-by_source P rowid column other (e.Literal l) = other _ (λ indexes c. refl)
-by_source P rowid column other (e.Parameter n) = other _ (λ indexes c. refl)
-by_source P rowid column other (e.Column item place) = column item place
-by_source P rowid column other (e.Rowid item) = rowid item
-by_source P rowid column other (e.Argument n) = other _ (λ indexes c. refl)
-by_source P rowid column other (e.Aggregate n) = other _ (λ indexes c. refl)
-by_source P rowid column other (e.Unary o a) = other _ (λ indexes c. refl)
-by_source P rowid column other (e.Binary o a b) = other _ (λ indexes c. refl)
-by_source P rowid column other (e.LikeEscaped a b c) = other _ (λ indexes d. refl)
-by_source P rowid column other (e.Between s u a low high) = other _ (λ indexes c. refl)
-by_source P rowid column other (e.InList s a others) = other _ (λ indexes c. refl)
-by_source P rowid column other (e.ChooseArm arms last) = other _ (λ indexes c. refl)
-by_source P rowid column other (e.MatchArm a arms last) = other _ (λ indexes c. refl)
-by_source P rowid column other (e.Iif a b c) = other _ (λ indexes d. refl)
-by_source P rowid column other (e.CoalesceList f args) = other _ (λ indexes c. refl)
-by_source P rowid column other (e.CallBuiltin f c args) = other _ (λ indexes d. refl)
-by_source P rowid column other (e.CallHost name args) = other _ (λ indexes c. refl)
-by_source P rowid column other (e.ScalarOf unit handed) = other _ (λ indexes c. refl)
-by_source P rowid column other (e.ExistsIn unit handed) = other _ (λ indexes c. refl)
-by_source P rowid column other (e.InUnit s a unit handed) = other _ (λ indexes c. refl)
-by_source P rowid column other e.RaiseIgnore = other _ (λ indexes c. refl)
-by_source P rowid column other (e.RaiseAbort text) = other _ (λ indexes c. refl)
+pub by_source : (item : ℕ) (P : BoundExpr → Option TermSource → Type 0) → ((own : ℕ) → P (e.Rowid own) (source_at item own term.Rowid)) → ((own column : ℕ) → P (e.Column own column) (source_at item own (term.Column column))) → ((x : BoundExpr) → ((indexes : List (List KeyTerm)) (c : Collation) → is_key indexes c x ≡ false) → P x None) → (x : BoundExpr) → P x (source_of item x)
+by_source item P rowid column other (e.Literal l) = other _ (λ indexes c. refl)
+by_source item P rowid column other (e.Parameter n) = other _ (λ indexes c. refl)
+by_source item P rowid column other (e.Column own place) = column own place
+by_source item P rowid column other (e.Rowid own) = rowid own
+by_source item P rowid column other (e.Argument n) = other _ (λ indexes c. refl)
+by_source item P rowid column other (e.Aggregate n) = other _ (λ indexes c. refl)
+by_source item P rowid column other (e.Unary o a) = other _ (λ indexes c. refl)
+by_source item P rowid column other (e.Binary o a b) = other _ (λ indexes c. refl)
+by_source item P rowid column other (e.LikeEscaped a b c) = other _ (λ indexes d. refl)
+by_source item P rowid column other (e.Between s u a low high) = other _ (λ indexes c. refl)
+by_source item P rowid column other (e.InList s a others) = other _ (λ indexes c. refl)
+by_source item P rowid column other (e.ChooseArm arms last) = other _ (λ indexes c. refl)
+by_source item P rowid column other (e.MatchArm a arms last) = other _ (λ indexes c. refl)
+by_source item P rowid column other (e.Iif a b c) = other _ (λ indexes d. refl)
+by_source item P rowid column other (e.CoalesceList f args) = other _ (λ indexes c. refl)
+by_source item P rowid column other (e.CallBuiltin f c args) = other _ (λ indexes d. refl)
+by_source item P rowid column other (e.CallHost name args) = other _ (λ indexes c. refl)
+by_source item P rowid column other (e.ScalarOf unit handed) = other _ (λ indexes c. refl)
+by_source item P rowid column other (e.ExistsIn unit handed) = other _ (λ indexes c. refl)
+by_source item P rowid column other (e.InUnit s a unit handed) = other _ (λ indexes c. refl)
+by_source item P rowid column other e.RaiseIgnore = other _ (λ indexes c. refl)
+by_source item P rowid column other (e.RaiseAbort text) = other _ (λ indexes c. refl)
 
-pub source-value : (x : Surroundings) (r : StoredRow) (s : TermSource) (a : BoundExpr) → source_of a ≡ Some s → value_of a (at_row x r) ≡ Good (source_value s r)
-source-value x r s =
-    by_source (λ a found. found ≡ Some s → value_of a (at_row x r) ≡ Good (source_value s r)) (λ item is.
-    let own = source_at_is item term.Rowid s is in
-    ap (λ i. value_of (e.Rowid i) (at_row x r)) own.0 ∙ ap (λ (q : TermSource). Good (source_value q r)) own.1) (λ item column is.
-    let own = source_at_is item (term.Column column) s is in
-    ap (λ i. value_of (e.Column i column) (at_row x r)) own.0 ∙ column_value r.values column ∙ ap (λ (q : TermSource). Good (source_value q r)) own.1) (λ a key is. absurd (cc))
+-- the row of the item itself
+row_there : (env : Environment) (item own : ℕ) (r : StoredRow) → item < length env.rows → own ≡ item → row_at (at_item env item r) own ≡ table_row r
+row_there env item own r place is =
+    ap (row_at (at_item env item r)) is ∙ get_or-set_same env.rows item (table_row r) null_row place
 
-pub source-key : (indexes : List (List KeyTerm)) (c : Collation) (s : TermSource) (a : BoundExpr) → source_of a ≡ Some s → is_key indexes c a ≡ is_searchable indexes c s
-source-key indexes c s =
-    by_source (λ a found. found ≡ Some s → is_key indexes c a ≡ is_searchable indexes c s) (λ item is.
-    let own = source_at_is item term.Rowid s is in
-    ap (λ i. nat_eq i 0) own.0 ∙ ap (is_searchable indexes c) own.1) (λ item column is.
-    let own = source_at_is item (term.Column column) s is in
-    ap (λ i. nat_eq i 0 && list_any (begins_with c column) indexes) own.0 ∙ ap (is_searchable indexes c) own.1) (λ a key is. absurd (cc))
+pub source-value : (env : Environment) (item : ℕ) → item < length env.rows → (r : StoredRow) (s : TermSource) (a : BoundExpr) → source_of item a ≡ Some s → value_of a (at_item env item r) ≡ Good (source_value s r)
+source-value env item place r s =
+    by_source item (λ a found. found ≡ Some s → value_of a (at_item env item r) ≡ Good (source_value s r)) (λ own is.
+    let same = source_at_is item own term.Rowid s is in
+    ap (λ (row : ItemRow). row.rowid) (row_there env item own r place same.0) ∙ ap (λ (q : TermSource). Good (source_value q r)) same.1) (λ own column is.
+    let same = source_at_is item own (term.Column column) s is in
+    ap (λ (row : ItemRow). column_of row column) (row_there env item own r place same.0) ∙ column_value r.values column ∙ ap (λ (q : TermSource). Good (source_value q r)) same.1) (λ a key is. absurd (cc))
 
-pub no_source-key : (indexes : List (List KeyTerm)) (c : Collation) (a : BoundExpr) → source_of a ≡ None → is_key indexes c a ≡ false
-no_source-key indexes c =
-    by_source (λ a found. found ≡ None → is_key indexes c a ≡ false) (λ item is. by item (nat_eq item 0) refl is) (λ item column is. of_column item column (nat_eq item 0) is) (λ a key is. key indexes c)
-  where
-    by : (item : ℕ) (b : Bool) → nat_eq item 0 ≡ b → (if b then Some term.Rowid else None) ≡ None → nat_eq item 0 ≡ false
-    by item true same is = absurd (cc)
-    by item false same is = same
+module _ (item : ℕ) (first : item ≡ 0) where
+  pub source-key : (indexes : List (List KeyTerm)) (c : Collation) (s : TermSource) (a : BoundExpr) → source_of item a ≡ Some s → is_key indexes c a ≡ is_searchable indexes c s
+  source-key indexes c s =
+      by_source item (λ a found. found ≡ Some s → is_key indexes c a ≡ is_searchable indexes c s) (λ own is.
+      let same = source_at_is item own term.Rowid s is in
+      ap (λ i. nat_eq i 0) (same.0 ∙ first) ∙ ap (is_searchable indexes c) same.1) (λ own column is.
+      let same = source_at_is item own (term.Column column) s is in
+      ap (λ i. nat_eq i 0 && list_any (begins_with c column) indexes) (same.0 ∙ first) ∙ ap (is_searchable indexes c) same.1) (λ a key is. absurd (cc))
 
-    of_column : (item column : ℕ) (b : Bool) → (if b then Some (term.Column column) else None) ≡ None → (b && list_any (begins_with c column) indexes) ≡ false
-    of_column item column true is = absurd (cc)
-    of_column item column false is = refl
+  pub no_source-key : (indexes : List (List KeyTerm)) (c : Collation) (a : BoundExpr) → source_of item a ≡ None → is_key indexes c a ≡ false
+  no_source-key indexes c =
+      by_source item (λ a found. found ≡ None → is_key indexes c a ≡ false) (λ own is. rowid own (nat_eq own item) refl is) (λ own column is. of_column own column (nat_eq own item) refl is) (λ a key is. key indexes c)
+    where
+      rowid : (own : ℕ) (b : Bool) → nat_eq own item ≡ b → (if b then Some term.Rowid else None) ≡ None → nat_eq own 0 ≡ false
+      rowid own true same is = absurd (cc)
+      rowid own false same is = ap (nat_eq own) (sym first) ∙ same
+
+      of_column : (own column : ℕ) (b : Bool) → nat_eq own item ≡ b → (if b then Some (term.Column column) else None) ≡ None → (nat_eq own 0 && list_any (begins_with c column) indexes) ≡ false
+      of_column own column true same is = absurd (cc)
+      of_column own column false same is = ap (λ b. b && list_any (begins_with c column) indexes) (ap (nat_eq own) (sym first) ∙ same)
 
 -- ---- literals and parameters
 
@@ -132,42 +139,14 @@ by_given params P literal parameter (e.InUnit s a unit handed) is = absurd (diff
 by_given params P literal parameter e.RaiseIgnore is = absurd (differ (sym is))
 by_given params P literal parameter (e.RaiseAbort text) is = absurd (differ (sym is))
 
-pub given-reads : (params : List Value) (x : BoundExpr) → is_given params x ≡ true → reads_no_row x ≡ true
-given-reads params = by_given params (λ x. reads_no_row x ≡ true) (λ l is. refl) (λ n is. refl)
+pub given-ignores : (params : List Value) (item : ℕ) (x : BoundExpr) → is_given params x ≡ true → ignores item x ≡ true
+given-ignores params item = by_given params (λ x. ignores item x ≡ true) (λ l is. refl) (λ n is. refl)
 
-pub given-source : (params : List Value) (x : BoundExpr) → is_given params x ≡ true → source_of x ≡ None
-given-source params = by_given params (λ x. source_of x ≡ None) (λ l is. refl) (λ n is. refl)
+pub given-source : (params : List Value) (item : ℕ) (x : BoundExpr) → is_given params x ≡ true → source_of item x ≡ None
+given-source params item = by_given params (λ x. source_of item x ≡ None) (λ l is. refl) (λ n is. refl)
 
-pub given-good : (params : List Value) (x : Surroundings) → x.params ≡ params → (a : BoundExpr) → is_given params a ≡ true → is_good (value_of a (before x)) ≡ true
-given-good params x same = by_given params (λ a. is_good (value_of a (before x)) ≡ true) (λ l is. is) (λ n is. ap (λ ps. is_good (parameter_of ps n)) same ∙ is)
-
--- ---- what reads no row
-
-pub fixed_value : (x : Surroundings) (rows others : List ItemRow) (a : BoundExpr) → reads_no_row a ≡ true → value_of a (environment x [] [] rows) ≡ value_of a (environment x [] [] others)
-fixed_value x rows others (e.Literal l) is = refl
-fixed_value x rows others (e.Parameter n) is = refl
-fixed_value x rows others (e.Unary o a) is = ap (unary_of o) (fixed_value x rows others a is)
-fixed_value x rows others (e.Binary o a b) is =
-    let parts = both_true (reads_no_row a) (reads_no_row b) is in
-    ap₂ (binary_of (keys_of x.hosts) o) (fixed_value x rows others a parts.0) (fixed_value x rows others b parts.1)
-fixed_value x rows others (e.Column item place) is = absurd (differ (sym is))
-fixed_value x rows others (e.Rowid item) is = absurd (differ (sym is))
-fixed_value x rows others (e.Argument n) is = absurd (differ (sym is))
-fixed_value x rows others (e.Aggregate n) is = absurd (differ (sym is))
-fixed_value x rows others (e.LikeEscaped a b c) is = absurd (differ (sym is))
-fixed_value x rows others (e.Between s u a low high) is = absurd (differ (sym is))
-fixed_value x rows others (e.InList s a es) is = absurd (differ (sym is))
-fixed_value x rows others (e.ChooseArm arms last) is = absurd (differ (sym is))
-fixed_value x rows others (e.MatchArm a arms last) is = absurd (differ (sym is))
-fixed_value x rows others (e.Iif a b c) is = absurd (differ (sym is))
-fixed_value x rows others (e.CoalesceList f args) is = absurd (differ (sym is))
-fixed_value x rows others (e.CallBuiltin f c args) is = absurd (differ (sym is))
-fixed_value x rows others (e.CallHost name args) is = absurd (differ (sym is))
-fixed_value x rows others (e.ScalarOf unit handed) is = absurd (differ (sym is))
-fixed_value x rows others (e.ExistsIn unit handed) is = absurd (differ (sym is))
-fixed_value x rows others (e.InUnit s a unit handed) is = absurd (differ (sym is))
-fixed_value x rows others e.RaiseIgnore is = absurd (differ (sym is))
-fixed_value x rows others (e.RaiseAbort text) is = absurd (differ (sym is))
+pub given-good : (params : List Value) (env : Environment) → env.params ≡ params → (a : BoundExpr) → is_given params a ≡ true → is_good (value_of a env) ≡ true
+given-good params env same = by_given params (λ a. is_good (value_of a env) ≡ true) (λ l is. is) (λ n is. ap (λ ps. is_good (parameter_of ps n)) same ∙ is)
 
 -- ---- the term of a key
 

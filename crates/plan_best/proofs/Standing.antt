@@ -32,8 +32,8 @@ use Rattle.eng_value.specs.declared.value.Value.{Value}
 use Rattle.eng_value.specs.declared.value.Value.TheVariants.{Null, Integer, Text, Blob}
 use Rattle.plan_best.specs.Comparing.{stands_so}
 use Rattle.plan_best.specs.Sides.{is_kept_beside, op_round, sides_round}
+use Rattle.sql_meaning.specs.Products.{after_conjunct}
 use Rattle.sql_meaning.specs.Searches.{has_none}
-use Rattle.sql_meaning.specs.Statement.{after_conjunct}
 
 -- ---- values beside others
 

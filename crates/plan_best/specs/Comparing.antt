@@ -1,5 +1,5 @@
 -- What the comparison of a conjunct says of a search by its key.
-use Rattle.std.specs.Prelude.{◌≡◌, ℕ, ◌≤◌, nat_eq, Bool, true, false, ◌&&◌, List, [], ◌∷◌, Option, Some, None}
+use Rattle.std.specs.Prelude.{◌≡◌, ℕ, ◌≤◌, ◌<◌, nat_eq, Bool, true, false, ◌&&◌, List, [], ◌∷◌, length, Option, Some, None}
 use Rattle.std.specs.List.{list_any}
 use Rattle.std.specs.Ordering.{is_eq, is_ge, is_gt, is_le, is_lt}
 use Rattle.std.specs.declared.cmp.Ordering.{Ordering}
@@ -9,7 +9,7 @@ use Rattle.eng_index.specs.Keys.{is_known_so, term_value}
 use Rattle.eng_index.specs.declared.key_term.KeyTerm.{KeyTerm}
 use Rattle.eng_index.specs.declared.key_term.TermSource.{TermSource}
 use Rattle.eng_index.specs.declared.key_term.TermSource.TheVariants as term
-use Rattle.eng_value.specs.Environments.{Surroundings}
+use Rattle.eng_value.specs.Environments.{Environment}
 use Rattle.eng_value.specs.StoredRows.{StoredRow}
 use Rattle.eng_value.specs.Truths.{truth_in, truth_of}
 use Rattle.eng_value.specs.declared.collation.Collation.{Collation}
@@ -26,19 +26,19 @@ use Rattle.plan_best.specs.Sides.{source_of}
 use Rattle.plan_best.specs.declared.comparing.Comparison.{Comparison}
 use Rattle.plan_best.specs.declared.comparing.Wanted.{Wanted}
 use Rattle.plan_best.specs.declared.comparing.Wanted.TheVariants as wanted
-use Rattle.plan_tree.specs.Visits.{CountsSides, before, key_expr, key_out}
+use Rattle.plan_tree.specs.Visits.{CountsSides, at_item, key_expr, key_out}
 use Rattle.sql_meaning.specs.Expression.{value_of}
-use Rattle.sql_meaning.specs.Searches.{at_row, begins_with, has_none, is_collation, is_given, is_good, is_key, is_search}
-use Rattle.sql_meaning.specs.Statement.{after_conjunct}
+use Rattle.sql_meaning.specs.Searches.{begins_with, has_none, is_collation, is_given, is_good, is_key, is_search}
+use Rattle.sql_meaning.specs.Products.{after_conjunct}
 
--- ---- conjuncts at rows
+-- ---- conjuncts at rows of an item
 
-abbrev pub truth_at : Surroundings → BoundExpr → StoredRow → Truth
-truth_at x c r = truth_in (truth_of (value_of c (at_row x r)))
+abbrev pub truth_at : Environment → ℕ → BoundExpr → StoredRow → Truth
+truth_at env item c r = truth_in (truth_of (value_of c (at_item env item r)))
 
 -- whatever causes there are already
-abbrev pub Rejects : Surroundings → BoundExpr → StoredRow → Type 0
-Rejects x c r = (causes : Out) → after_conjunct causes (truth_at x c r) ≡ None
+abbrev pub Rejects : Environment → ℕ → BoundExpr → StoredRow → Type 0
+Rejects env item c r = (causes : Out) → after_conjunct causes (truth_at env item c r) ≡ None
 
 -- ---- which terms it is of
 
@@ -86,19 +86,23 @@ is_searchable indexes c (term.Column column) = list_any (begins_with c column) i
 
 -- ---- what it says
 
--- where the key has a value, just the rows whose value in the term stands so to it are kept; a given key has one; the key is a side of
--- the conjunct; and the conjunct is a search just where the comparison is
-pub record Compares (params : List Value) (e : BoundExpr) (c : Comparison) : Type 0 where
-  pub met : (x : Surroundings) (t : KeyTerm) (r : StoredRow) (v : Value) → is_of_term c t ≡ true → key_out c.key (before x) ≡ Good v → is_known_so (stands_so c.op) t (term_value t r) v ≡ true → truth_at x e r ≡ True
-  pub rejected : (x : Surroundings) (t : KeyTerm) (r : StoredRow) (v : Value) → is_of_term c t ≡ true → key_out c.key (before x) ≡ Good v → is_known_so (stands_so c.op) t (term_value t r) v ≡ false → Rejects x e r
-  pub given : (x : Surroundings) → x.params ≡ params → c.given ≡ true → is_good (key_out c.key (before x)) ≡ true
+-- where the key has a value, just the rows of the item whose value in the term stands so to it are kept; a given key has one; the key is a
+-- side of the conjunct; and of the first item the conjunct is a search just where the comparison is
+pub record Compares (params : List Value) (item : ℕ) (e : BoundExpr) (c : Comparison) : Type 0 where
+  pub met : (env : Environment) → item < length env.rows → (t : KeyTerm) (r : StoredRow) (v : Value) → is_of_term c t ≡ true → key_out c.key env ≡ Good v → is_known_so (stands_so c.op) t (term_value t r) v ≡ true → truth_at env item e r ≡ True
+  pub rejected : (env : Environment) → item < length env.rows → (t : KeyTerm) (r : StoredRow) (v : Value) → is_of_term c t ≡ true → key_out c.key env ≡ Good v → is_known_so (stands_so c.op) t (term_value t r) v ≡ false → Rejects env item e r
+  pub given : (env : Environment) → env.params ≡ params → c.given ≡ true → is_good (key_out c.key env) ≡ true
   pub side : (size : BoundExpr → ℕ) → CountsSides size → size (key_expr c.key) ≤ size e
-  pub search : (indexes : List (List KeyTerm)) → is_search indexes params e ≡ (is_equal_search c && is_searchable indexes c.collation c.source)
+  pub search : item ≡ 0 → (indexes : List (List KeyTerm)) → is_search indexes params e ≡ (is_equal_search c && is_searchable indexes c.collation c.source)
 
--- without one it is no search
-abbrev pub MayCompare : List Value → BoundExpr → Option Comparison → Type 0
-MayCompare params e None = (indexes : List (List KeyTerm)) → is_search indexes params e ≡ false
-MayCompare params e (Some c) = Compares params e c
+-- of the first item it is no search
+abbrev pub IsNoSearch : List Value → ℕ → BoundExpr → Type 0
+IsNoSearch params item e = item ≡ 0 → (indexes : List (List KeyTerm)) → is_search indexes params e ≡ false
+
+-- without one it is none
+abbrev pub MayCompare : List Value → ℕ → BoundExpr → Option Comparison → Type 0
+MayCompare params item e None = IsNoSearch params item e
+MayCompare params item e (Some c) = Compares params item e c
 
 -- ---- one side at a time
 
@@ -106,11 +110,14 @@ MayCompare params e (Some c) = Compares params e c
 abbrev pub is_search_so : List (List KeyTerm) → List Value → CompareOp → Sides → BoundExpr → BoundExpr → Bool
 is_search_so indexes params op sides a b = is_equality op && (is_key indexes sides.collation a && is_given params b && has_none sides.right)
 
+abbrev pub IsNoSearchSo : List Value → ℕ → CompareOp → Sides → BoundExpr → BoundExpr → Type 0
+IsNoSearchSo params item op sides a b = item ≡ 0 → (indexes : List (List KeyTerm)) → is_search_so indexes params op sides a b ≡ false
+
 -- the key is the right side
-abbrev pub MayStand : List Value → CompareOp → Sides → BoundExpr → BoundExpr → Option Comparison → Type 0
-MayStand params op sides a b None = (indexes : List (List KeyTerm)) → is_search_so indexes params op sides a b ≡ false
-MayStand params op sides a b (Some c) = Compares params (e.Binary (binary.Compare op sides) a b) c × (key_expr c.key ≡ b)
+abbrev pub MayStand : List Value → ℕ → CompareOp → Sides → BoundExpr → BoundExpr → Option Comparison → Type 0
+MayStand params item op sides a b None = IsNoSearchSo params item op sides a b
+MayStand params item op sides a b (Some c) = Compares params item (e.Binary (binary.Compare op sides) a b) c × (key_expr c.key ≡ b)
 
 -- where the left side reads this of a row
-abbrev pub MayStandTo : List Value → TermSource → CompareOp → Sides → BoundExpr → Option Comparison → Type 0
-MayStandTo params source op sides b found = (a : BoundExpr) → source_of a ≡ Some source → MayStand params op sides a b found
+abbrev pub MayStandTo : List Value → ℕ → TermSource → CompareOp → Sides → BoundExpr → Option Comparison → Type 0
+MayStandTo params item source op sides b found = (a : BoundExpr) → source_of item a ≡ Some source → MayStand params item op sides a b found

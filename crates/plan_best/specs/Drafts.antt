@@ -1,12 +1,12 @@
 -- Searches that are drafted key by key.
-use Rattle.std.specs.Prelude.{◌≡◌, ℕ, ◌+◌, ◌≤◌, Bool, true, false, List, [], ◌∷◌, ◌++◌, length, slice_get, slice_set, sum_by, replicate, Option, Some, None, ⊤}
+use Rattle.std.specs.Prelude.{◌≡◌, ℕ, ◌+◌, ◌≤◌, ◌<◌, Bool, true, false, List, [], ◌∷◌, ◌++◌, length, slice_get, slice_set, sum_by, replicate, Option, Some, None, ⊤}
 use Rattle.std.specs.List.{AllByRecursion, filter, list_any}
 use Rattle.bound_tree.specs.Exprs.{BoundExpr}
 use Rattle.eng_index.specs.Searching.{bound_count}
 use Rattle.eng_index.specs.declared.key_term.KeyTerm.{KeyTerm}
 use Rattle.eng_index.specs.declared.range.Bounds.{Bounds}
 use Rattle.eng_index.specs.declared.range.Edge.TheVariants.{Excluded, Included}
-use Rattle.eng_value.specs.Environments.{Surroundings}
+use Rattle.eng_value.specs.Environments.{Environment, Surroundings}
 use Rattle.eng_value.specs.StoredRows.{StoredRow}
 use Rattle.eng_value.specs.declared.compare_op.CompareOp.{CompareOp}
 use Rattle.eng_value.specs.declared.compare_op.CompareOp.TheVariants as compare
@@ -17,10 +17,10 @@ use Rattle.plan_best.specs.declared.comparing.Comparison.{Comparison}
 use Rattle.plan_best.specs.declared.comparing.Wanted.{Wanted}
 use Rattle.plan_best.specs.declared.comparing.Wanted.TheVariants as wanted
 use Rattle.plan_best.specs.declared.drafting.Draft.{Draft}
-use Rattle.plan_tree.specs.Visits.{AreSides, CountsSides, is_visited, key_expr, key_outs, tested}
+use Rattle.plan_tree.specs.Visits.{AreSides, CountsSides, at_item, before, is_visited, key_expr, key_outs, tested}
 use Rattle.plan_tree.specs.declared.access.Path.TheVariants as path
-use Rattle.sql_meaning.specs.Searches.{at_row, is_good, is_search, rows_counted}
-use Rattle.sql_meaning.specs.Statement.{sifted}
+use Rattle.sql_meaning.specs.Products.{sifted}
+use Rattle.sql_meaning.specs.Searches.{is_good, is_search, rows_counted}
 
 -- ---- a key more
 
@@ -57,59 +57,70 @@ without_keys terms conjuncts = record {
 
 -- ---- what a draft keeps to
 
-abbrev pub is_found : Surroundings → Draft → StoredRow → Bool
-is_found x d r = is_visited x (path.Search d.search) r
+abbrev pub is_found : Environment → Draft → StoredRow → Bool
+is_found env d r = is_visited env (path.Search d.search) r
 
--- as `Fits` says of the access that it becomes, but for how many rows it visits
-pub record IsSound (x : Surroundings) (conjuncts : List BoundExpr) (d : Draft) : Type 0 where
-  pub left_out : (r : StoredRow) → is_found x d r ≡ false → (causes : Out) → sifted conjuncts (at_row x r) causes ≡ None
-  pub kept : (r : StoredRow) → is_found x d r ≡ true → (causes : Out) → sifted (tested d.consumed conjuncts) (at_row x r) causes ≡ sifted conjuncts (at_row x r) causes
-  pub counted : length d.search.keys ≡ bound_count d.search.bounds
+-- the parameters are these, and the item has a place among the rows
+pub record IsAround (params : List Value) (item : ℕ) (env : Environment) : Type 0 where
+  pub same : env.params ≡ params
+  pub place : item < length env.rows
+
+-- as `Fits` says of the access that it becomes
+pub record IsSound (env : Environment) (item : ℕ) (conjuncts : List BoundExpr) (d : Draft) : Type 0 where
+  pub left_out : (r : StoredRow) → is_found env d r ≡ false → (causes : Out) → sifted conjuncts (at_item env item r) causes ≡ None
+  pub kept : (r : StoredRow) → is_found env d r ≡ true → (causes : Out) → sifted (tested d.consumed conjuncts) (at_item env item r) causes ≡ sifted conjuncts (at_item env item r) causes
+
+abbrev pub AllSound : List Value → ℕ → List BoundExpr → Draft → Type 0
+AllSound params item conjuncts d = (env : Environment) → IsAround params item env → IsSound env item conjuncts d
+
+abbrev pub HasKeys : Draft → Type 0
+HasKeys d = length d.search.keys ≡ bound_count d.search.bounds
+
+abbrev pub FindsFew : List Value → List (List KeyTerm) → List BoundExpr → Draft → Type 0
+FindsFew params indexes conjuncts d =
+    (x : Surroundings) → x.params ≡ params → (rows : List StoredRow) → length (filter (is_found (before x) d) rows) ≤ rows_counted x indexes conjuncts rows
+
+-- as `AccessFits` does
+pub record Serves (params : List Value) (item : ℕ) (indexes : List (List KeyTerm)) (conjuncts : List BoundExpr) (d : Draft) : Type 0 where
+  pub sound : AllSound params item conjuncts d
+  pub few : item ≡ 0 → FindsFew params indexes conjuncts d
+  pub counted : HasKeys d
   pub keys : AreSides d.search.keys conjuncts
 
-pub record IsServed (x : Surroundings) (indexes : List (List KeyTerm)) (conjuncts : List BoundExpr) (d : Draft) : Type 0 where
-  pub sound : IsSound x conjuncts d
-  pub few : (rows : List StoredRow) → length (filter (is_found x d) rows) ≤ rows_counted x indexes conjuncts rows
-
 -- each key has a value, so that another may follow, and the conjuncts that are not consumed have none
-pub record IsOpen (x : Surroundings) (conjuncts : List BoundExpr) (d : Draft) : Type 0 where
-  pub sound : IsSound x conjuncts d
-  pub good : AllByRecursion (λ out. is_good out ≡ true) (key_outs x d.search.keys)
+pub record MayGoOn (params : List Value) (item : ℕ) (conjuncts : List BoundExpr) (d : Draft) : Type 0 where
+  pub sound : AllSound params item conjuncts d
+  pub good : (env : Environment) → env.params ≡ params → AllByRecursion (λ out. is_good out ≡ true) (key_outs env d.search.keys)
+  pub counted : HasKeys d
   pub spare : (size : BoundExpr → ℕ) → CountsSides size → sum_by (λ k. size (key_expr k)) d.search.keys + sum_by size (tested d.consumed conjuncts) ≤ sum_by size conjuncts
 
-abbrev pub Serves : List Value → List (List KeyTerm) → List BoundExpr → Draft → Type 0
-Serves params indexes conjuncts d = (x : Surroundings) → x.params ≡ params → IsServed x indexes conjuncts d
-
-abbrev pub MayGoOn : List Value → List BoundExpr → Draft → Type 0
-MayGoOn params conjuncts d = (x : Surroundings) → x.params ≡ params → IsOpen x conjuncts d
-
 -- what serves goes on to serve
-abbrev pub KeepsServing : List Value → List BoundExpr → Draft → Draft → Type 0
-KeepsServing params conjuncts old new = (indexes : List (List KeyTerm)) → Serves params indexes conjuncts old → Serves params indexes conjuncts new
+abbrev pub KeepsServing : List Value → ℕ → List BoundExpr → Draft → Draft → Type 0
+KeepsServing params item conjuncts old new = (indexes : List (List KeyTerm)) → Serves params item indexes conjuncts old → Serves params item indexes conjuncts new
 
 -- ---- what is found for it
 
 -- the conjunct compares the term's column so, with a key that is given or not
-pub record IsFitting (params : List Value) (conjunct : BoundExpr) (t : KeyTerm) (for : Wanted) (given : Bool) (c : Comparison) : Type 0 where
-  pub compares : Compares params conjunct c
+pub record IsFitting (params : List Value) (item : ℕ) (conjunct : BoundExpr) (t : KeyTerm) (for : Wanted) (given : Bool) (c : Comparison) : Type 0 where
+  pub compares : Compares params item conjunct c
   pub term : is_of_term c t ≡ true
   pub wanted : is_wanted for c.op ≡ true
   pub given_so : c.given ≡ given
 
-abbrev pub MayFit : List Value → BoundExpr → KeyTerm → Wanted → Bool → Option Comparison → Type 0
-MayFit params conjunct t for given None = ⊤
-MayFit params conjunct t for given (Some c) = IsFitting params conjunct t for given c
+abbrev pub MayFit : List Value → ℕ → BoundExpr → KeyTerm → Wanted → Bool → Option Comparison → Type 0
+MayFit params item conjunct t for given None = ⊤
+MayFit params item conjunct t for given (Some c) = IsFitting params item conjunct t for given c
 
 -- so does the conjunct in this place, which is not consumed
-pub record IsFound (params : List Value) (conjuncts : List BoundExpr) (consumed : List Bool) (t : KeyTerm) (for : Wanted) (given : Bool) (place : ℕ) (c : Comparison) : Type 0 where
+pub record IsFound (params : List Value) (item : ℕ) (conjuncts : List BoundExpr) (consumed : List Bool) (t : KeyTerm) (for : Wanted) (given : Bool) (place : ℕ) (c : Comparison) : Type 0 where
   pub conjunct : BoundExpr
   pub at : slice_get conjuncts place ≡ Some conjunct
   pub free : slice_get consumed place ≡ Some false
-  pub fitting : IsFitting params conjunct t for given c
+  pub fitting : IsFitting params item conjunct t for given c
 
-abbrev pub MayFind : List Value → List BoundExpr → List Bool → KeyTerm → Wanted → Bool → Option (ℕ × Comparison) → Type 0
-MayFind params conjuncts consumed t for given None = ⊤
-MayFind params conjuncts consumed t for given (Some found) = IsFound params conjuncts consumed t for given found.0 found.1
+abbrev pub MayFind : List Value → ℕ → List BoundExpr → List Bool → KeyTerm → Wanted → Bool → Option (ℕ × Comparison) → Type 0
+MayFind params item conjuncts consumed t for given None = ⊤
+MayFind params item conjuncts consumed t for given (Some found) = IsFound params item conjuncts consumed t for given found.0 found.1
 
 -- ---- what was added
 
@@ -126,26 +137,30 @@ HasAdded false for old new = new ≡ old
 -- ---- the best so far
 
 -- what is chosen from serves
-abbrev pub MayBest : List Value → List (List KeyTerm) → List BoundExpr → Option Draft → Type 0
-MayBest params indexes conjuncts None = ⊤
-MayBest params indexes conjuncts (Some d) = Serves params indexes conjuncts d
+abbrev pub MayBest : List Value → ℕ → List (List KeyTerm) → List BoundExpr → Option Draft → Type 0
+MayBest params item indexes conjuncts None = ⊤
+MayBest params item indexes conjuncts (Some d) = Serves params item indexes conjuncts d
 
 abbrev pub HasNoSearch : List Value → List (List KeyTerm) → List BoundExpr → Type 0
 HasNoSearch params indexes conjuncts = list_any (is_search indexes params) conjuncts ≡ false
 
--- while there is none, none of these conjuncts is a search
+-- searches are those of the first item
+abbrev pub UnlessSearch : List Value → ℕ → List (List KeyTerm) → List BoundExpr → Type 0
+UnlessSearch params item indexes conjuncts = item ≡ 0 → HasNoSearch params indexes conjuncts
+
+-- of the first item: while there is none, none of these conjuncts is a search
 abbrev pub BestOf : List Value → List (List KeyTerm) → List BoundExpr → List BoundExpr → Option Draft → Type 0
 BestOf params indexes conjuncts those None = HasNoSearch params indexes those
-BestOf params indexes conjuncts those (Some d) = Serves params indexes conjuncts d
+BestOf params indexes conjuncts those (Some d) = Serves params 0 indexes conjuncts d
 
 -- there was none, nor is this so; or there is one now
 abbrev pub BestUnless : List Value → List (List KeyTerm) → List BoundExpr → Bool → Option Draft → Option Draft → Type 0
 BestUnless params indexes conjuncts is was None = (was ≡ None) × (is ≡ false)
-BestUnless params indexes conjuncts is was (Some d) = Serves params indexes conjuncts d
+BestUnless params indexes conjuncts is was (Some d) = Serves params 0 indexes conjuncts d
 
--- the conjunct in this place compares so, by the `=` of a search
+-- the conjunct in this place compares the first item so, by the `=` of a search
 pub record IsSearchAt (params : List Value) (conjuncts : List BoundExpr) (place : ℕ) (c : Comparison) : Type 0 where
   pub conjunct : BoundExpr
   pub at : slice_get conjuncts place ≡ Some conjunct
-  pub compares : Compares params conjunct c
+  pub compares : Compares params 0 conjunct c
   pub equal : is_equal_search c ≡ true

@@ -1,5 +1,5 @@
 -- What the sides of a comparison read, and how they turn round.
-use Rattle.std.specs.Prelude.{ℕ, nat_eq, Bool, true, false, not, ◌&&◌, Option, Some, None, if◌then◌else◌}
+use Rattle.std.specs.Prelude.{ℕ, nat_eq, Bool, true, false, not, Option, Some, None, if◌then◌else◌}
 use Rattle.bound_tree.specs.Exprs as e
 use Rattle.bound_tree.specs.Exprs.{BoundExpr}
 use Rattle.eng_index.specs.declared.key_term.TermSource.{TermSource}
@@ -12,23 +12,15 @@ use Rattle.eng_value.specs.declared.compare_op.CompareOp.TheVariants as compare
 use Rattle.eng_value.specs.declared.operators.Sides.{Sides}
 use Rattle.sql_meaning.specs.Searches.{has_none}
 
--- of the one table, which is item 0
-abbrev pub source_at : ℕ → TermSource → Option TermSource
-source_at item source = if nat_eq item 0 then Some source else None
+-- of the item that is asked for
+abbrev pub source_at : ℕ → ℕ → TermSource → Option TermSource
+source_at item own source = if nat_eq own item then Some source else None
 
--- the rowid or a column
-abbrev pub source_of : BoundExpr → Option TermSource
-source_of (e.Rowid item) = source_at item term.Rowid
-source_of (e.Column item column) = source_at item (term.Column column)
-source_of other = None
-
--- literals and parameters, and operators over such
-abbrev pub reads_no_row : BoundExpr → Bool
-reads_no_row (e.Literal l) = true
-reads_no_row (e.Parameter n) = true
-reads_no_row (e.Unary op a) = reads_no_row a
-reads_no_row (e.Binary op a b) = reads_no_row a && reads_no_row b
-reads_no_row other = false
+-- the rowid or a column of the item
+abbrev pub source_of : ℕ → BoundExpr → Option TermSource
+source_of item (e.Rowid own) = source_at item own term.Rowid
+source_of item (e.Column own column) = source_at item own (term.Column column)
+source_of item other = None
 
 -- values of this own affinity are compared as they are beside the other
 abbrev pub is_kept_beside : Affinity → Affinity → Bool

@@ -1,4 +1,4 @@
-// What the conjuncts of a WHERE compare with keys.
+// What conjuncts compare with keys.
 ghost use Rattle.std.specs.Prelude.{◌≡◌};
 ghost use Rattle.bound_tree.specs.Exprs as e;
 ghost use Rattle.bound_tree.specs.Seen.{seen};
@@ -6,19 +6,19 @@ ghost use Rattle.eng_value.specs.declared.operators.BinaryOperator.TheVariants a
 ghost use Rattle.plan_best.specs.Comparing.{MayCompare, MayStand, MayStandTo, is_begun, is_equal_search, is_of_term, is_wanted};
 ghost use Rattle.sql_meaning.specs.Searches.{is_collation, same_built};
 
-use crate::sides::{is_given, is_kept_beside, op_round, reads_no_row, sides_round, source_of};
+use crate::sides::{is_given, is_kept_beside, op_round, sides_round, source_of};
 use bound_tree::ExprTree;
 use eng_index::{KeyTerm, TermSource};
 use eng_value::{Affinity, BinaryOperator, Built, Collation, CompareOp, Sides, Value};
-use plan_tree::{Conjunct, Form, Key};
+use plan_tree::{Conjunct, Form, Key, ignores};
 
-/// A comparison of the rowid or a column of the table with a key.
+/// A comparison of the rowid or a column of an item with a key.
 #[derive(Clone, Copy)]
 pub(crate) struct Comparison<'a> {
-    /// What the table's side reads.
+    /// What the item's side reads.
     pub source: TermSource,
     pub collation: Collation,
-    /// How the table's side stands to the key.
+    /// How the item's side stands to the key.
     pub op: CompareOp,
     pub key: Key<'a>,
     /// Whether the key is a literal or a parameter that has a value; else it may be bad.
@@ -33,22 +33,26 @@ pub(crate) enum Wanted {
     Upper,
 }
 
-/// How a conjunct compares the rowid or a column with a key, if it does.
-pub(crate) fn comparison_of<'a>(conjunct: &Conjunct<'a>, params: &[Value]) -> Option<Comparison<'a>>
-    ensures { MayCompare params.now conjunct.now result }
+/// How a conjunct compares the rowid or a column of the item with a key, if it does.
+pub(crate) fn comparison_of<'a>(
+    conjunct: &Conjunct<'a>,
+    item: u32,
+    params: &[Value],
+) -> Option<Comparison<'a>>
+    ensures { MayCompare params.now item conjunct.now result }
 {
     match conjunct.form() {
-        Form::Whole(expression) => tree_comparison(expression.tree(), params),
-        Form::Comparison(op, sides, a, b) => either_way(*op, *sides, a, b, params),
+        Form::Whole(expression) => tree_comparison(expression.tree(), item, params),
+        Form::Comparison(op, sides, a, b) => either_way(*op, *sides, a, b, item, params),
     }
 }
 
-fn tree_comparison<'a>(tree: &'a ExprTree, params: &[Value]) -> Option<Comparison<'a>>
-    ensures { MayCompare params.now (seen tree.now) result }
+fn tree_comparison<'a>(tree: &'a ExprTree, item: u32, params: &[Value]) -> Option<Comparison<'a>>
+    ensures { MayCompare params.now item (seen tree.now) result }
 {
     match tree {
         ExprTree::Binary(BinaryOperator::Compare(op, sides), a, b) => {
-            either_way(*op, *sides, a.get(), b.get(), params)
+            either_way(*op, *sides, a.get(), b.get(), item, params)
         }
         _ => None,
     }
@@ -59,13 +63,14 @@ fn either_way<'a>(
     sides: Sides,
     a: &'a ExprTree,
     b: &'a ExprTree,
+    item: u32,
     params: &[Value],
 ) -> Option<Comparison<'a>>
-    ensures { MayCompare params.now (e.Binary (binary.Compare op sides) (seen a.now) (seen b.now)) result }
+    ensures { MayCompare params.now item (e.Binary (binary.Compare op sides) (seen a.now) (seen b.now)) result }
 {
-    match one_way(op, sides, a, b, params) {
+    match one_way(op, sides, a, b, item, params) {
         Some(comparison) => Some(comparison),
-        None => one_way(op_round(op), sides_round(sides), b, a, params),
+        None => one_way(op_round(op), sides_round(sides), b, a, item, params),
     }
 }
 
@@ -75,12 +80,13 @@ fn one_way<'a>(
     sides: Sides,
     a: &'a ExprTree,
     b: &'a ExprTree,
+    item: u32,
     params: &[Value],
 ) -> Option<Comparison<'a>>
-    ensures { MayStand params.now op sides (seen a.now) (seen b.now) result }
+    ensures { MayStand params.now item op sides (seen a.now) (seen b.now) result }
 {
-    match source_of(a) {
-        Some(source) => with_source(source, op, sides, b, params),
+    match source_of(a, item) {
+        Some(source) => with_source(source, op, sides, b, item, params),
         None => None,
     }
 }
@@ -90,11 +96,12 @@ fn with_source<'a>(
     op: CompareOp,
     sides: Sides,
     key: &'a ExprTree,
+    item: u32,
     params: &[Value],
 ) -> Option<Comparison<'a>>
-    ensures { MayStandTo params.now source op sides (seen key.now) result }
+    ensures { MayStandTo params.now item source op sides (seen key.now) result }
 {
-    if !reads_no_row(key) {
+    if !ignores(key, item) {
         return None;
     }
     if !is_kept_beside(sides.right, sides.left) {

@@ -1,22 +1,65 @@
 // How many rows a search finds, as far as that is known before anything runs.
 use crate::counts::Counts;
 use bound_tree::ExprTree;
-use eng_index::{Bounds, Edge, Limit, Range};
+use eng_index::{Bounds, Edge, Limit, Range, TermSource};
 use eng_value::{Row, Value, changed_beside};
 use plan_tree::{Key, Search};
 use sql_words::Literal;
 use std::alloc::{AllocError, Global};
 
-/// How many rows the search finds by its keys in front of the first that is neither a literal nor a parameter, if that is known.
+/// Of the rows of an index, one in so many is taken to be equal to the first key of it that isn't known.
+const FIRST_KEY_KEEPS: usize = 10;
+
+/// And one in so many to what a further key or limit asks for.
+const FURTHER_KEY_KEEPS: usize = 4;
+
+/// How many rows the search finds, if that can be told: by its keys in front of the first that is neither a literal nor a parameter, less
+/// what the others are taken to keep from it.
 pub(crate) fn rows_found<C: Counts>(
     alloc: Global,
+    item: u32,
     search: &Search,
     params: &[Value],
     counts: &C,
 ) -> Result<Option<usize>, AllocError> {
     let values = known_values(alloc, search.keys.as_slice(), params)?;
+    let known = values.len();
     let range = range_of(search.bounds, values)?;
-    Ok(counts.found(search.terms.as_slice(), &range))
+    match counts.found(item, search.terms.as_slice(), &range) {
+        Some(found) => Ok(Some(kept_of(found, search, known))),
+        None => Ok(None),
+    }
+}
+
+/// How many of the rows that the first so many keys find the others are taken to keep. A rowid is that of one row.
+fn kept_of(found: usize, search: &Search, known: usize) -> usize {
+    let keys = search.keys.len();
+    if known >= keys {
+        found
+    } else if search.bounds.equal > 0 && is_by_rowid(search) {
+        found.min(1)
+    } else if known == 0 && search.bounds.equal > 0 {
+        kept_by_further(found / FIRST_KEY_KEEPS, keys - 1)
+    } else {
+        kept_by_further(found, keys - known)
+    }
+}
+
+/// How many rows so many further keys and limits are taken to keep.
+fn kept_by_further(found: usize, keys: usize) -> usize {
+    let mut kept = found;
+    for _ in 0..keys {
+        kept = kept / FURTHER_KEY_KEEPS;
+    }
+    kept
+}
+
+/// Whether rows are searched by their rowid.
+pub(crate) fn is_by_rowid(search: &Search) -> bool {
+    match search.terms.get(0) {
+        Some(term) => term.source == TermSource::Rowid,
+        None => false,
+    }
 }
 
 /// The values of the keys in front of the first that is neither a literal nor a parameter.

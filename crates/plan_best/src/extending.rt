@@ -16,14 +16,15 @@ const MOST_TERMS: usize = 2_000;
 /// The conjunct's comparison, if it is one of this term that is wanted so, and its key is given or not as asked.
 fn fitting<'a>(
     conjunct: &Conjunct<'a>,
+    item: u32,
     params: &[Value],
     term: &KeyTerm,
     wanted: Wanted,
     given: bool,
 ) -> Option<Comparison<'a>>
-    ensures { MayFit params.now conjunct.now term.now wanted given result }
+    ensures { MayFit params.now item conjunct.now term.now wanted given result }
 {
-    let comparison = comparison_of(conjunct, params)?;
+    let comparison = comparison_of(conjunct, item, params)?;
     if comparison.is_of_term(term) && comparison.is_wanted(wanted) && comparison.given == given {
         Some(comparison)
     } else {
@@ -34,17 +35,18 @@ fn fitting<'a>(
 /// The first of the conjuncts that are not consumed which has such a comparison, and its place.
 fn find<'a>(
     conjuncts: &[Conjunct<'a>],
+    item: u32,
     params: &[Value],
     consumed: &[bool],
     term: &KeyTerm,
     wanted: Wanted,
     given: bool,
 ) -> Option<(usize, Comparison<'a>)>
-    ensures { MayFind params.now conjuncts.now consumed.now term.now wanted given result }
+    ensures { MayFind params.now item conjuncts.now consumed.now term.now wanted given result }
 {
     for (place, conjunct) in conjuncts.iter().enumerate() {
         if matches!(consumed.get(place), Some(false)) {
-            if let Some(comparison) = fitting(conjunct, params, term, wanted, given) {
+            if let Some(comparison) = fitting(conjunct, item, params, term, wanted, given) {
                 return Some((place, comparison));
             }
         }
@@ -57,17 +59,18 @@ impl<'a> Draft<'a> {
     pub(crate) fn extend(
         &mut self,
         conjuncts: &[Conjunct<'a>],
+        item: u32,
         params: &[Value],
     ) -> Result<(), AllocError>
-        requires goes_on { MayGoOn params.now conjuncts.now self.old }
+        requires goes_on { MayGoOn params.now item conjuncts.now self.old }
         requires next { IsNext wants.Equal self.old.search.bounds }
-        ensures { OnOk result (KeepsServing params.now conjuncts.now self.old self.new) }
+        ensures { OnOk result (KeepsServing params.now item conjuncts.now self.old self.new) }
     {
         let first = self.search.bounds.equal as usize;
         for i in first..self.search.terms.len().min(MOST_TERMS) {
             let term = self.search.terms.as_slice()[i];
-            if !self.add(conjuncts, params, &term, Wanted::Equal, true)? {
-                return self.end(conjuncts, params, &term);
+            if !self.add(conjuncts, item, params, &term, Wanted::Equal, true)? {
+                return self.end(conjuncts, item, params, &term);
             }
         }
         Ok(())
@@ -77,43 +80,45 @@ impl<'a> Draft<'a> {
     fn end(
         &mut self,
         conjuncts: &[Conjunct<'a>],
+        item: u32,
         params: &[Value],
         term: &KeyTerm,
     ) -> Result<(), AllocError>
-        requires goes_on { MayGoOn params.now conjuncts.now self.old }
+        requires goes_on { MayGoOn params.now item conjuncts.now self.old }
         requires term { slice_get self.old.search.terms self.old.search.bounds.equal ≡ Some term.now }
         requires next { IsNext wants.Equal self.old.search.bounds }
         requires room { self.old.search.bounds.equal < 2000 }
-        ensures { OnOk result (KeepsServing params.now conjuncts.now self.old self.new) }
+        ensures { OnOk result (KeepsServing params.now item conjuncts.now self.old self.new) }
     {
-        if self.add(conjuncts, params, term, Wanted::Equal, false)? {
+        if self.add(conjuncts, item, params, term, Wanted::Equal, false)? {
             return Ok(());
         }
-        let lower = self.add(conjuncts, params, term, Wanted::Lower, true)?;
-        let upper = self.add(conjuncts, params, term, Wanted::Upper, true)?;
+        let lower = self.add(conjuncts, item, params, term, Wanted::Lower, true)?;
+        let upper = self.add(conjuncts, item, params, term, Wanted::Upper, true)?;
         if lower || upper {
             return Ok(());
         }
-        self.end_by_limit(conjuncts, params, term)
+        self.end_by_limit(conjuncts, item, params, term)
     }
 
     /// Adds one limit that may be bad.
     fn end_by_limit(
         &mut self,
         conjuncts: &[Conjunct<'a>],
+        item: u32,
         params: &[Value],
         term: &KeyTerm,
     ) -> Result<(), AllocError>
-        requires goes_on { MayGoOn params.now conjuncts.now self.old }
+        requires goes_on { MayGoOn params.now item conjuncts.now self.old }
         requires term { slice_get self.old.search.terms self.old.search.bounds.equal ≡ Some term.now }
         requires next { IsNext wants.Equal self.old.search.bounds }
         requires room { self.old.search.bounds.equal < 2000 }
-        ensures { OnOk result (KeepsServing params.now conjuncts.now self.old self.new) }
+        ensures { OnOk result (KeepsServing params.now item conjuncts.now self.old self.new) }
     {
-        if self.add(conjuncts, params, term, Wanted::Lower, false)? {
+        if self.add(conjuncts, item, params, term, Wanted::Lower, false)? {
             return Ok(());
         }
-        self.add(conjuncts, params, term, Wanted::Upper, false)?;
+        self.add(conjuncts, item, params, term, Wanted::Upper, false)?;
         Ok(())
     }
 
@@ -122,21 +127,23 @@ impl<'a> Draft<'a> {
     fn add(
         &mut self,
         conjuncts: &[Conjunct<'a>],
+        item: u32,
         params: &[Value],
         term: &KeyTerm,
         wanted: Wanted,
         given: bool,
     ) -> Result<bool, AllocError>
-        requires goes_on { MayGoOn params.now conjuncts.now self.old }
+        requires goes_on { MayGoOn params.now item conjuncts.now self.old }
         requires term { slice_get self.old.search.terms self.old.search.bounds.equal ≡ Some term.now }
         requires next { IsNext wanted self.old.search.bounds }
         requires room { self.old.search.bounds.equal < 2000 }
-        ensures serves { OnOk result (KeepsServing params.now conjuncts.now self.old self.new) }
-        ensures goes_on { OnOk result (given ≡ true → MayGoOn params.now conjuncts.now self.new) }
+        ensures serves { OnOk result (KeepsServing params.now item conjuncts.now self.old self.new) }
+        ensures goes_on { OnOk result (given ≡ true → MayGoOn params.now item conjuncts.now self.new) }
         ensures added { IfOk result (λ added. HasAdded added wanted self.old self.new) }
     {
         match find(
             conjuncts,
+            item,
             params,
             self.consumed.as_slice(),
             term,

@@ -1,10 +1,10 @@
-//! Which access a query over one table takes.
+//! Which access the rows of an item of a FROM are come by.
 //!
-//! `access` goes by what the conjuncts of the WHERE compare with keys (SQLite Query Optimizer Overview, section 2): with values that no
-//! row has a part in. It takes the search that seems to find fewest rows: of the rowid, or of the terms of an index, so many that are equal
+//! `access` goes by what conjuncts compare with keys (SQLite Query Optimizer Overview, section 2): with values that the item's own rows have
+//! no part in; columns of the items around it are keys. It takes the search that seems to find fewest rows: of the rowid, or of the terms of an index, so many that are equal
 //! to keys and then a range; and all rows where nothing can be searched. Its contract, `AccessFits` (plan_tree), says what every access has
-//! to keep to, and no more: which one is taken is free. Where a conjunct is a search by `=`, only accesses that go by one come into
-//! question, since those alone keep to the bound. Begin with `access`, then `Draft::extend`.
+//! to keep to, and no more: which one is taken is free. Where a conjunct of the first item is a search by `=`, only accesses that go by one
+//! come into question, since those alone keep to the bound. Begin with `access`, then `Draft::extend`.
 #![tactic(auto)]
 
 mod choosing;

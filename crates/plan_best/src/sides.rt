@@ -3,7 +3,7 @@ ghost use Rattle.std.specs.Prelude.{◌≡◌, slice_index_or};
 ghost use Rattle.bound_tree.specs.Seen.{seen};
 ghost use Rattle.eng_value.specs.Operators.{length_of, made};
 ghost use Rattle.eng_value.specs.declared.value.Value.TheVariants.{Null};
-ghost use Rattle.plan_best.specs.Sides.{is_kept_beside, op_round, reads_no_row, sides_round, source_at, source_of};
+ghost use Rattle.plan_best.specs.Sides.{is_kept_beside, op_round, sides_round, source_at, source_of};
 ghost use Rattle.sql_meaning.specs.Expression.{parameter_of};
 ghost use Rattle.sql_meaning.specs.Searches.{is_given, is_good};
 
@@ -12,33 +12,23 @@ use eng_index::TermSource;
 use eng_value::{Affinity, CompareOp, MAX_VALUE_BYTES, Sides, Value};
 use sql_words::Literal;
 
-/// The rowid or the column of the table that an expression is, if it is one.
-pub(crate) fn source_of(tree: &ExprTree) -> Option<TermSource>
-    ensures { result ≡ source_of (seen tree.now) }
+/// The rowid or the column of the item that an expression is, if it is one.
+pub(crate) fn source_of(tree: &ExprTree, item: u32) -> Option<TermSource>
+    ensures { result ≡ source_of item (seen tree.now) }
 {
     match tree {
-        ExprTree::Rowid { item } => source_at(*item, TermSource::Rowid),
-        ExprTree::Column { item, column } => source_at(*item, TermSource::Column(*column)),
+        ExprTree::Rowid { item: own } => source_at(item, *own, TermSource::Rowid),
+        ExprTree::Column { item: own, column } => {
+            source_at(item, *own, TermSource::Column(*column))
+        }
         _ => None,
     }
 }
 
-fn source_at(item: u32, source: TermSource) -> Option<TermSource>
-    ensures { result ≡ source_at item source }
+fn source_at(item: u32, own: u32, source: TermSource) -> Option<TermSource>
+    ensures { result ≡ source_at item own source }
 {
-    if item == 0 { Some(source) } else { None }
-}
-
-/// Whether the value of an expression is the same at each row: literals and parameters, and operators over such.
-pub(crate) fn reads_no_row(tree: &ExprTree) -> bool
-    ensures { result ≡ reads_no_row (seen tree.now) }
-{
-    match tree {
-        ExprTree::Literal(_) | ExprTree::Parameter(_) => true,
-        ExprTree::Unary(_, a) => reads_no_row(a.get()),
-        ExprTree::Binary(_, a, b) => reads_no_row(a.get()) && reads_no_row(b.get()),
-        _ => false,
-    }
+    if own == item { Some(source) } else { None }
 }
 
 /// Whether it is a literal or a parameter that has a value.

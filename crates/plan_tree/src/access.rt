@@ -1,10 +1,12 @@
-// How the rows of a table are accessed.
+// How the rows of tables are accessed.
+use crate::conjuncts::Conjunct;
 use bound_tree::ExprTree;
 use eng_index::{Bounds, KeyTerm};
 use eng_value::Affinity;
 use sqlite_items::Items;
 
-/// What a search goes by: the value of an expression that reads no row, as it is compared (Datatypes In SQLite, section 4.2).
+/// What a search of an item's rows goes by: the value of an expression that reads none of them, as it is compared (Datatypes In SQLite, section
+/// 4.2).
 #[derive(Clone, Copy)]
 pub struct Key<'a> {
     pub value: &'a ExprTree,
@@ -44,4 +46,35 @@ pub struct Access<'a> {
     pub order: Order,
     /// Of each conjunct, whether it is true at each row that is visited, so that it need not be tested.
     pub consumed: Items<bool>,
+}
+
+/// Which rows of an item make pairs with a row of the items around it (SELECT, section 2.1).
+#[derive(Drop)]
+pub enum Pairs<'a> {
+    /// Each that is visited.
+    Each,
+    /// Of a LEFT JOIN each that is visited and that none of these conjuncts rejects; where there is none the row stays alone.
+    OrAlone(Items<Conjunct<'a>>),
+}
+
+/// A loop over the rows of an item of a FROM.
+#[derive(Drop)]
+pub struct Loop<'a> {
+    /// The place of the item in the FROM.
+    pub place: u32,
+    /// The number of its table.
+    pub table: u32,
+    pub path: Path<'a>,
+    pub pairs: Pairs<'a>,
+    /// What rejects a row behind it.
+    pub checks: Items<Conjunct<'a>>,
+}
+
+/// How the rows of a FROM are come by that a WHERE keeps.
+#[derive(Drop)]
+pub struct JoinPlan<'a> {
+    /// What rejects all rows.
+    pub checks: Items<Conjunct<'a>>,
+    /// Outermost first.
+    pub loops: Items<Loop<'a>>,
 }

@@ -6,7 +6,9 @@ ghost use Rattle.bound_tree.specs.Exprs as e;
 ghost use Rattle.bound_tree.specs.Seen.{seen};
 ghost use Rattle.eng_value.specs.declared.operators.BinaryOperator.TheVariants as binary;
 ghost use Rattle.plan_tree.specs.Conjuncts.{meant};
+ghost use Rattle.plan_tree.specs.Ignoring.{ignores};
 
+use crate::reading::ignores;
 use bound_tree::{BoundExpr, ExprTree};
 use eng_value::{CompareOp, Sides};
 use sqlite_items::Items;
@@ -20,7 +22,7 @@ pub struct Conjunct<'a> {
 }
 
 /// A conjunct in parts.
-#[derive(Drop)]
+#[derive(Clone, Copy)]
 pub enum Form<'a> {
     /// A whole expression.
     Whole(&'a BoundExpr),
@@ -46,6 +48,23 @@ impl<'a> Conjunct<'a> {
         ensures { meant result.now ≡ self.now }
     {
         &self.form
+    }
+
+    /// The same once more.
+    pub fn copied(&self) -> Conjunct<'a>
+        ensures { result ≡ self.now }
+    {
+        Conjunct { form: self.form }
+    }
+
+    /// Whether it reads nothing of the row of the item in a place.
+    pub fn ignores(&self, item: u32) -> bool
+        ensures { result ≡ ignores item self.now }
+    {
+        match &self.form {
+            Form::Whole(expression) => ignores(expression.tree(), item),
+            Form::Comparison(_, _, left, right) => ignores(left, item) && ignores(right, item),
+        }
     }
 }
 

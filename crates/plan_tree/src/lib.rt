@@ -1,14 +1,20 @@
-//! What a query over one table is planned by: its conjuncts, and how the rows that they ask for are accessed.
+//! What a query is planned by: its conjuncts, how the rows that they ask for are accessed, and the loops over the items of its FROM.
 //!
-//! `split` takes the conjuncts of a WHERE apart, so that each bound of a BETWEEN is one of its own. An `Access` says which rows are
-//! visited: all of them, or those that a search finds by keys (SQLite Query Optimizer Overview, section 2). What it has to keep to
-//! is `Fits` (specs/Visits.antt): no row that is left out would have been kept, a conjunct that is not tested any more is true
-//! wherever a row is visited, and at most so many rows are visited as the search that keeps most leaves. Which access is taken is
-//! no part of what a query means. Begin with `Access`, then specs/Visits.antt.
+//! `split` takes the conjuncts of a WHERE apart, so that each bound of a BETWEEN is one of its own. An `Access` says which rows of an item
+//! are visited: all of them, or those that a search finds by keys (SQLite Query Optimizer Overview, section 2). What it has to keep to
+//! is `Fits` (specs/Visits.antt): no row that is left out would have been kept, and a conjunct that is not tested any more is true
+//! wherever a row is visited. A `JoinPlan` is a loop for each item. What it has to keep to is `PlanFits` (specs/Plans.antt): its loops give the
+//! rows of the FROM that the conjuncts keep, in their order. Which access and which plan is taken is no part of what a query means.
+//! `ignores` tells an expression that comes to the same whatever row an item has (specs/Ignoring.antt). Begin with `Access`, then
+//! specs/Visits.antt.
 #![tactic(auto)]
 
 mod access;
 mod conjuncts;
+mod laws;
+mod reading;
 
-pub use access::{Access, Key, Order, Path, Search};
+pub use access::{Access, JoinPlan, Key, Loop, Order, Pairs, Path, Search};
 pub use conjuncts::{Conjunct, Form, split};
+pub use laws::conjuncts_move_in;
+pub use reading::ignores;

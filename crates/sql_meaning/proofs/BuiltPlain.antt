@@ -25,7 +25,7 @@ use Rattle.sql_tree.specs.declared.statement.TableConstraint.{TableConstraint}
 use Rattle.sql_tree.specs.declared.statement.TableConstraint.TheVariants as behind
 use Rattle.sql_tree.specs.declared.statement.TableDefinition.{TableDefinition}
 use Rattle.sql_words.specs.Spelled.{name_bytes}
-use Rattle.sql_meaning.specs.Built.{Test, all_pass, are_built_rows, built_step, is_aggregate, is_built_arm, is_built_behind, is_built_column, is_built_constraint, is_built_expr, is_built_filter, is_built_from, is_built_part, is_built_query, is_built_result, is_built_row, is_built_table, is_built_values, is_empty, is_plain_select, option_passes, result_is_built, stands_alone}
+use Rattle.sql_meaning.specs.Built.{Test, all_pass, are_built_rows, built_step, is_aggregate, is_built_arm, is_built_behind, is_built_column, is_built_constraint, is_built_expr, is_built_filter, is_built_item, is_built_part, is_built_query, is_built_result, is_built_row, is_built_table, is_built_values, is_empty, is_plain_select, option_passes, result_is_built, stands_alone}
 use Rattle.bound_size.specs.Plain.{all_plain, is_alone, is_plain, is_plain_arm, is_plain_behind, is_plain_column, is_plain_constraint, is_plain_filter, is_plain_part, is_plain_query, is_plain_result, is_plain_row, is_plain_table, option_plain, plain_step, result_is_plain}
 use Rattle.bound_size.proofs.BoundLaws.{both_hold, three_hold}
 use Rattle.bound_size.proofs.RollLaws.{is_plain-roll, plain_layer}
@@ -160,7 +160,7 @@ row_plain text row h = all_imply (λ x. is_built_expr x text) is_plain (λ x k. 
 part_plain : (text : List ℕ) (p : PartLayer) → is_built_part text p ≡ true → is_plain_part p ≡ true
 part_plain text (QueryPart-F.Select core) h =
     let s = of_select core in
-    let k = three_hold (is_plain_select s && is_built_from s.from) (list_all (is_built_result text) s.results) (is_built_filter text s.filter) h in
+    let k = three_hold (is_plain_select s && list_all (is_built_item text) s.from) (list_all (is_built_result text) s.results) (is_built_filter text s.filter) h in
     and_true (list_all is_plain_result s.results) (is_plain_filter s.filter) (all_imply (is_built_result text) is_plain_result (λ r b. result_plain text (of_result r) b) s.results k.1) (filter_plain text s.filter k.2)
 part_plain text (QueryPart-F.Values rows) h = all_imply (is_built_row text) is_plain_row (row_plain text) rows h
 

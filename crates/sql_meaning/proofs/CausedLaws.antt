@@ -1,9 +1,9 @@
 -- Whatever is bad in a statement has a cause, so that each refusal can be told.
-use Rattle.std.proofs.Common.{◌≡◌, ◌||◌, ◌∙◌, ap, inl, inr, Bool, true, false, ℕ, List, [], ◌∷◌, ◌++◌, Some, None, Ok, Err, Result, if◌then◌else◌, map, fold, flat_map, sym, subst, zero, suc}
+use Rattle.std.proofs.Common.{◌≡◌, ◌||◌, ◌∙◌, ap, inl, inr, Bool, true, false, ℕ, List, [], ◌∷◌, ◌++◌, Some, None, Ok, Err, Result, if◌then◌else◌, length, map, fold, flat_map, sym, subst, zero, suc}
 use Rattle.std.specs.Bool.{⊤}
 use Rattle.std.specs.Cmp.Lexicographic.{nat_list_cmp_total}
 use Rattle.std.specs.FinSet as set
-use Rattle.std.specs.Prelude.{slice_index_or, slice_set, ◌&&◌}
+use Rattle.std.specs.Prelude.{replicate, slice_index_or, slice_set, ◌&&◌}
 use Rattle.eng_entry.specs.Entries.{with_entry}
 use Rattle.eng_index.specs.Keys.{has_doubles}
 use Rattle.std.specs.Option.{option_map, option_to_list}
@@ -15,7 +15,7 @@ use Rattle.eng_number.specs.Numbers.{fits_integer}
 use Rattle.eng_value.specs.Casts.{store_as}
 use Rattle.eng_value.specs.Comparisons.{comparison_of}
 use Rattle.eng_value.specs.Collations.{keys_of}
-use Rattle.eng_value.specs.Environments.{Environment, ItemRow, carried, column_of, ignoring, no_causes, null_row, table_row, with_causes, without_column}
+use Rattle.eng_value.specs.Environments.{Environment, ItemRow, column_of, ignoring, no_causes, null_row, table_row, with_causes, without_column}
 use Rattle.eng_value.specs.StoredRows.{StoredRow, next_rowid}
 use Rattle.eng_value.specs.Truths.{truth_in, truth_of}
 use Rattle.eng_value.specs.declared.cause.Cause.{Cause}
@@ -37,12 +37,16 @@ use Rattle.bound_tree.specs.Exprs.{BoundArms, BoundExpr, BoundExprs, BoundMatche
 use Rattle.sql_words.specs.declared.literal.Literal.{Literal}
 use Rattle.sql_words.specs.declared.literal.Literal.TheVariants as literal
 use Rattle.sql_meaning.specs.declared.bound.BoundInsert.{BoundInsert}
+use Rattle.sql_meaning.specs.declared.bound.Join.{Join}
+use Rattle.sql_meaning.specs.declared.bound.Join.TheVariants as join
 use Rattle.sql_meaning.specs.declared.bound.PutColumn.{PutColumn}
 use Rattle.sql_meaning.specs.declared.bound.RowidFrom.{RowidFrom}
 use Rattle.sql_meaning.specs.declared.bound.RowidFrom.TheVariants as rowid
 use Rattle.sql_meaning.specs.Expression.{arms_of, chosen_in, first_known, literal_out, matched_in, matches_of, parameter_of, unbuilt, value_of, values_of}
+use Rattle.sql_meaning.specs.Products as from_row
+use Rattle.sql_meaning.specs.Products.{FromRow, in_row, joined, no_rows, or_alone, product_from, with_item}
 use Rattle.sql_meaning.specs.Rows.{NewRow, at_row, checked, drawn, fitted, fixed, is_met, lacks_value, new_by, new_row, or_default, passed, row_changed, row_put, rowid_beside, stored_for, unless_broken, value_for, with_row}
-use Rattle.sql_meaning.specs.Statement.{IsNamed, Item, Row, Failed, after_conjunct, begun, bound_for, bound_outcome, causes_of, closed, failed, given_of, if_some, item_by, item_of, item_rows, items_at, items_of, outcome_of, product, put_source, refusal_of, rows_put, shown, shown_rows, sifted, source_of, text_outcome, with_catalog, with_others}
+use Rattle.sql_meaning.specs.Statement.{IsNamed, Item, Row, Failed, after_conjunct, begun, bound_for, bound_outcome, causes_of, closed, failed, given_of, if_some, item_by, item_of, from_rows, item_rows, items_at, items_of, joined_item, outcome_of, put_source, refusal_of, rows_put, shown, shown_rows, sifted, source_of, text_outcome, with_catalog, with_others}
 use Rattle.sql_meaning.specs.Steps.{Step, Done, Left, Fails, Effect, ◌then◌, done, each, or_next, settled}
 use Rattle.sql_meaning.specs.Statement as outcome
 use Rattle.sql_meaning.specs.World.{Context, State, environment_at, rows_at, seen}
@@ -225,49 +229,91 @@ shown-told : (results : List BoundExpr) (env : Environment) (o : Option Out) →
 shown-told results env None r c = tt
 shown-told results env (Some a) r c = (item_of-told a (map (λ r. value_of r env) results) c (results-caused results env r), tt)
 
-causes-caused : (rows : List ItemRow) → RowsCaused rows → AreCaused (map (λ (r : ItemRow). r.causes) rows)
-causes-caused [] c = tt
-causes-caused (r ∷ rows) c = (c.0.1, causes-caused rows c.1)
-
-carried-caused : (rows : List ItemRow) → RowsCaused rows → IsCaused (carried rows)
-carried-caused rows c = all_causes-caused no_causes (map (λ (r : ItemRow). r.causes) rows) (good value.Null) (causes-caused rows c)
-
-at-told : (conjuncts results : List BoundExpr) (env : Environment) → RowsCaused env.rows → AreTold (items_at conjuncts results env)
-at-told conjuncts results env c = shown-told results env (sifted conjuncts env (carried env.rows)) c (sifted-caused conjuncts env (carried env.rows) c (carried-caused env.rows c))
+at-told : (conjuncts results : List BoundExpr) (env : Environment) (causes : Out) → RowsCaused env.rows → IsCaused causes → AreTold (items_at conjuncts results env causes)
+at-told conjuncts results env causes r c = shown-told results env (sifted conjuncts env causes) r (sifted-caused conjuncts env causes r c)
 
 -- ---- the rows of a FROM
 
-abbrev EachCaused : List (List ItemRow) → Type 0
-EachCaused [] = ⊤
-EachCaused (rows ∷ others) = RowsCaused rows × EachCaused others
+abbrev FromCaused : FromRow → Type 0
+FromCaused row = RowsCaused row.rows × IsCaused row.causes
 
-each-append : (xs ys : List (List ItemRow)) → EachCaused xs → EachCaused ys → EachCaused (xs ++ ys)
+abbrev EachCaused : List FromRow → Type 0
+EachCaused [] = ⊤
+EachCaused (row ∷ others) = FromCaused row × EachCaused others
+
+each-append : (xs ys : List FromRow) → EachCaused xs → EachCaused ys → EachCaused (xs ++ ys)
 each-append [] ys c d = d
 each-append (x ∷ xs) ys c d = (c.0, each-append xs ys c.1 d)
 
-each-flat : (f : ItemRow → List (List ItemRow)) (rows : List ItemRow) → RowsCaused rows → ((r : ItemRow) → RowCaused r → EachCaused (f r)) → EachCaused (flat_map f rows)
+-- those of each row of an item
+each-flat : (f : ItemRow → List FromRow) (rows : List ItemRow) → RowsCaused rows → ((r : ItemRow) → RowCaused r → EachCaused (f r)) → EachCaused (flat_map f rows)
 each-flat f [] c h = tt
 each-flat f (r ∷ rows) c h = each-append (f r) (flat_map f rows) (h r c.0) (each-flat f rows c.1 h)
 
-behind-caused : (rows : List ItemRow) (r : ItemRow) → RowsCaused rows → RowCaused r → RowsCaused (rows ++ r ∷ [])
-behind-caused [] r c d = (d, tt)
-behind-caused (x ∷ rows) r c d = (c.0, behind-caused rows r c.1 d)
+each-map : (f : ItemRow → FromRow) (rows : List ItemRow) → RowsCaused rows → ((r : ItemRow) → RowCaused r → FromCaused (f r)) → EachCaused (map f rows)
+each-map f [] c h = tt
+each-map f (r ∷ rows) c h = (h r c.0, each-map f rows c.1 h)
+
+-- those of each row of a FROM
+each-more : (f : FromRow → List FromRow) (rows : List FromRow) → EachCaused rows → ((row : FromRow) → FromCaused row → EachCaused (f row)) → EachCaused (flat_map f rows)
+each-more f [] c h = tt
+each-more f (row ∷ rows) c h = each-append (f row) (flat_map f rows) (h row c.0) (each-more f rows c.1 h)
+
+no_row-caused : RowCaused null_row
+no_row-caused = (tt, good value.Null, good value.Null)
+
+no_rows-caused : (width : ℕ) → RowsCaused (replicate width null_row)
+no_rows-caused zero = tt
+no_rows-caused (suc width) = (no_row-caused, no_rows-caused width)
+
+placed-caused : (rows : List ItemRow) (place : ℕ) (r : ItemRow) → RowsCaused rows → RowCaused r → RowsCaused (slice_set rows place r)
+placed-caused [] place r c d = tt
+placed-caused (x ∷ rows) zero r c d = (d, c.1)
+placed-caused (x ∷ rows) (suc place) r c d = (c.0, placed-caused rows place r c.1 d)
+
+with_item-caused : (place : ℕ) (row : FromRow) (r : ItemRow) → FromCaused row → RowCaused r → FromCaused (with_item place row r)
+with_item-caused place row r c d = (placed-caused row.rows place r c.0 d, merged-caused r.causes row.causes d.1 c.1)
+
+passed_by-caused : (row : FromRow) (kept : Option Out) → RowsCaused row.rows → MayBeCaused kept → EachCaused (option_to_list (option_map (λ causes. record row { causes = causes }) kept))
+passed_by-caused row None c d = tt
+passed_by-caused row (Some causes) c d = ((c, d), tt)
+
+passed-caused : (env : Environment) (conjuncts : List BoundExpr) (row : FromRow) → FromCaused row → EachCaused (from_row.passed env conjuncts row)
+passed-caused env conjuncts row c =
+    passed_by-caused row (sifted conjuncts (in_row env row) row.causes) c.0 (sifted-caused conjuncts (in_row env row) row.causes c.0 c.1)
+
+or_alone-caused : (row : FromRow) (pairs : List FromRow) → FromCaused row → EachCaused pairs → EachCaused (or_alone row pairs)
+or_alone-caused row [] c d = (c, tt)
+or_alone-caused row (pair ∷ pairs) c d = d
+
+joined-caused : (env : Environment) (place : ℕ) (rows : List ItemRow) (j : Join) (row : FromRow) → RowsCaused rows → FromCaused row → EachCaused (joined env place rows j row)
+joined-caused env place rows join.Inner row c d = each-map (with_item place row) rows c (λ r h. with_item-caused place row r d h)
+joined-caused env place rows (join.Left ons) row c d =
+    let pairs : ItemRow → List FromRow = λ r. from_row.passed env ons (with_item place row r) in
+    or_alone-caused row (flat_map pairs rows) d (each-flat pairs rows c (λ r h. passed-caused env ons (with_item place row r) (with_item-caused place row r d h)))
 
 table-caused : (ignored : List (Option ℕ)) (column : Option ℕ) (rows : List StoredRow) → RowsCaused (map (λ r. ignoring ignored (table_row (seen column r))) rows)
 table-caused ignored column [] = tt
 table-caused ignored column (r ∷ rows) = (ignoring-caused ignored (table_row (seen column r)) (row-caused (seen column r)), table-caused ignored column rows)
 
-product-caused : (ctx : Context) (items : List FromItem) (rows : List ItemRow) → RowsCaused rows → EachCaused (product ctx items rows)
-product-caused ctx [] rows c = (c, tt)
-product-caused ctx (i ∷ items) rows c =
-    each-flat (λ r. product ctx items (rows ++ r ∷ [])) (item_rows ctx i) (table-caused i.ignored i.table.rowid (rows_at ctx.state.world.tables i.table.number))
-    (λ r d. product-caused ctx items (rows ++ r ∷ []) (behind-caused rows r c d))
+product_from-caused : (ctx : Context) (env : Environment) (place : ℕ) (items : List FromItem) (row : FromRow) → FromCaused row → EachCaused (product_from env place (map (joined_item ctx) items) row)
+product_from-caused ctx env place [] row c = (c, tt)
+product_from-caused ctx env place (i ∷ items) row c =
+    each-more (product_from env (suc place) (map (joined_item ctx) items)) (joined env place (item_rows ctx i) i.join row)
+    (joined-caused env place (item_rows ctx i) i.join row (table-caused i.ignored i.table.rowid (rows_at ctx.state.world.tables i.table.number)) c)
+    (λ pair d. product_from-caused ctx env (suc place) items pair d)
 
-items-told : (ctx : Context) (conjuncts results : List BoundExpr) (all : List (List ItemRow)) → EachCaused all → AreTold (flat_map (λ rows. items_at conjuncts results (environment_at ctx rows)) all)
+-- the rows of a FROM, and the causes that they carry
+product-caused : (ctx : Context) (items : List FromItem) → EachCaused (from_rows ctx items)
+product-caused ctx items =
+    let width = length (map (joined_item ctx) items) in
+    product_from-caused ctx (environment_at ctx []) 0 items (no_rows width) (no_rows-caused width, good value.Null)
+
+items-told : (ctx : Context) (conjuncts results : List BoundExpr) (all : List FromRow) → EachCaused all → AreTold (flat_map (λ (row : FromRow). items_at conjuncts results (environment_at ctx row.rows) row.causes) all)
 items-told ctx conjuncts results [] c = tt
-items-told ctx conjuncts results (rows ∷ all) c =
-    told-append (items_at conjuncts results (environment_at ctx rows)) (flat_map (λ rows. items_at conjuncts results (environment_at ctx rows)) all)
-    (at-told conjuncts results (environment_at ctx rows) c.0) (items-told ctx conjuncts results all c.1)
+items-told ctx conjuncts results (row ∷ all) c =
+    told-append (items_at conjuncts results (environment_at ctx row.rows) row.causes) (flat_map (λ (row : FromRow). items_at conjuncts results (environment_at ctx row.rows) row.causes) all)
+    (at-told conjuncts results (environment_at ctx row.rows) row.causes c.0.0 c.0.1) (items-told ctx conjuncts results all c.1)
 
 -- ---- a refusal
 
@@ -435,7 +481,7 @@ outcome_of-told ctx (Unindexes name) = tt
 outcome_of-told ctx (Puts p) = put_source-told ctx p (causes_of (source_of ctx p)) (given_of (source_of ctx p)) (causes_of-told (source_of ctx p) (rows-told ctx p.insert.rows))
 outcome_of-told ctx (Shows rows) = refusal-named (refusal_of (shown_rows ctx rows)) (refusal_of-told (shown_rows ctx rows) (rows-told ctx rows))
 outcome_of-told ctx DoesNothing = tt
-outcome_of-told ctx (Queries q) = refusal-named (refusal_of (items_of ctx q)) (refusal_of-told (items_of ctx q) (items-told ctx q.conjuncts q.results (product ctx q.from []) (product-caused ctx q.from [] tt)))
+outcome_of-told ctx (Queries q) = refusal-named (refusal_of (items_of ctx q)) (refusal_of-told (items_of ctx q) (items-told ctx q.conjuncts q.results (from_rows ctx q.from) (product-caused ctx q.from)))
 
 bound_outcome-told : (ctx : Context) (r : Result Runnable Cause) → ToldRefusal (bound_outcome ctx r).refusal
 bound_outcome-told ctx (Ok b) = outcome_of-told ctx b

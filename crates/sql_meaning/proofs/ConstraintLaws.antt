@@ -64,7 +64,7 @@ use Rattle.sql_meaning.specs.declared.column.TableEntry.{TableEntry}
 use Rattle.sql_meaning.specs.Built.{is_built, is_built_command}
 use Rattle.sql_meaning.specs.Declarations.{columns_created, table_called, table_of, table_with, tables_among, tables_of}
 use Rattle.sql_meaning.specs.Permits.{Asking, Denies, Ignores, Permit, permitted}
-use Rattle.sql_meaning.specs.Running.{columns_put, command_of, first_part, found_table, from_of, has_own_keys, is_plain_core, keys_of, part_of, put_at, put_into, put_of, query_of, rowid_from, rows_of_part, runnable_of, table_of_source}
+use Rattle.sql_meaning.specs.Running.{columns_put, command_of, first_part, found_table, from_of, has_own_keys, is_plain_core, keys_of, part_of, put_at, put_into, put_of, query_of, rejecting, rowid_from, rows_of_part, runnable_of, table_of_source}
 use Rattle.sql_meaning.specs.Runnables.{Runnable, Creates, DoesNothing, Drops, FromItem, Indexes, Put, Puts, Queries, Shows, Unindexes}
 use Rattle.sql_meaning.specs.Statement.{answer_bound, around, limit_kind, statement_bound, text_bound}
 use Rattle.sql_meaning.specs.Valid.{IsEntry, IsTableEntry, IsWorld}
@@ -189,7 +189,7 @@ aside-spelled (Shows rows) a = tt
 part-spelled : (tables : List TableEntry) (p : BoundPart) (x : Runnable) → part_of tables p ≡ Ok x → IsSpelled x
 part-spelled tables (part.Values rows) x e = subst IsSpelled (same-ok (Shows rows) x e) tt
 part-spelled tables (part.Select c) x e =
-    let shown : List FromItem → Result Runnable Cause = λ from. Ok (Queries (record { from = from; conjuncts = flat_map conditions_of c.conjuncts; results = c.results })) in
+    let shown : List FromItem → Result Runnable Cause = λ from. Ok (Queries (record { from = from; conjuncts = flat_map conditions_of (rejecting c); results = c.results })) in
     let one = then-ok (from_of tables c.items) shown x (if_built-ok (is_plain_core c) (from_of tables c.items >>= shown) x e).1 in
     subst IsSpelled (same-ok _ x one.2) tt
 

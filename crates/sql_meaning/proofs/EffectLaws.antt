@@ -5,7 +5,7 @@ use Rattle.std.proofs.lemmas.List.Elements.{All-cons, All-nil}
 use Rattle.std.proofs.lemmas.List.{get_or-set_same, length-set, set-get_or, set-set}
 use Rattle.eng_number.specs.Numbers.{fits_integer}
 use Rattle.eng_value.specs.Causes.{only}
-use Rattle.eng_value.specs.Environments.{Environment, carried}
+use Rattle.eng_value.specs.Environments.{Environment}
 use Rattle.eng_value.specs.StoredRows.{StoredRow, next_rowid, rowid_behind}
 use Rattle.eng_value.specs.Truths.{truth_in, truth_of}
 use Rattle.eng_value.specs.Written.{Written}
@@ -48,8 +48,8 @@ sifted-rejects [] after c env fails causes = rejected_by causes (truth_in (truth
 sifted-rejects (b ∷ before) after c env fails causes =
     none_behind (after_conjunct causes (truth_in (truth_of (value_of b env)))) (sifted (before ++ c ∷ after) env) (sifted-rejects before after c env fails)
 
-pub rejects : (before after : List BoundExpr) (c : BoundExpr) (results : List BoundExpr) (env : Environment) → (truth_in (truth_of (value_of c env)) ≡ truth.False) ⊎ (truth_in (truth_of (value_of c env)) ≡ truth.Unknown) → items_at (before ++ c ∷ after) results env ≡ []
-rejects before after c results env fails = rw (sifted-rejects before after c env fails (carried env.rows)) refl
+pub rejects : (before after : List BoundExpr) (c : BoundExpr) (results : List BoundExpr) (env : Environment) (causes : Out) → (truth_in (truth_of (value_of c env)) ≡ truth.False) ⊎ (truth_in (truth_of (value_of c env)) ≡ truth.Unknown) → items_at (before ++ c ∷ after) results env causes ≡ []
+rejects before after c results env causes fails = rw (sifted-rejects before after c env fails causes) refl
 
 -- ---- rowids
 

@@ -8,11 +8,11 @@ use Rattle.std.proofs.lemmas.Bool.{eq-eqb, eqb-true}
 use Rattle.std.proofs.lemmas.List.{get_or-set_other, get_or-set_same, length-map, map-set}
 use Rattle.bound_tree.specs.Exprs as e
 use Rattle.bound_tree.specs.Exprs.{BoundArms, BoundExpr, BoundExprs, BoundMatches, NoExprs, AnExpr, NoArms, AnArm, NoMatches, AMatch}
-use Rattle.bound_ignored.specs.Erased.{ItemMarks, Marks, column_or_rowid, erased, erased_arms, erased_in, erased_matches, is_marked, is_rowid, marks_at, no_marks, or_null, same_place}
+use Rattle.bound_ignored.specs.Erased.{ItemMarks, Marks, column_or_rowid, erased, erased_arms, erased_in, erased_matches, is_marked, is_rowid, marks_at, or_null, same_place}
 use Rattle.eng_value.specs.Applied.{binary_of, member_of, unary_of}
 use Rattle.eng_value.specs.Collations.{keys_of}
 use Rattle.eng_value.specs.Comparisons.{comparison_of, like_escaped_of}
-use Rattle.eng_value.specs.Environments.{Environment, ItemRow, carried, column_of, ignoring, null_row, row_at, table_row, without_column}
+use Rattle.eng_value.specs.Environments.{Environment, ItemRow, column_of, ignoring, null_row, row_at, table_row, without_column}
 use Rattle.eng_value.specs.StoredRows.{StoredRow}
 use Rattle.eng_value.specs.Truths.{choice_of, truth_in, truth_of}
 use Rattle.eng_value.specs.declared.compare_op.CompareOp.TheVariants as compare
@@ -91,9 +91,21 @@ pub record ReadsAs (k : ItemMarks) (row other : ItemRow) : Type 0 where
   pub rowid : other.rowid ≡ null_if (list_any (same_place None) k.ignored) row.rowid
   pub causes : other.causes ≡ row.causes
 
--- where there is no row
-pub null-reads : ReadsAs no_marks null_row null_row
-null-reads = record { column = λ place. refl; rowid = refl; causes = refl }
+null_if-null : (b : Bool) → null_if b (Good value.Null) ≡ Good value.Null
+null_if-null true = refl
+null_if-null false = refl
+
+rowid_if-same : (b : Bool) (o : Out) → rowid_if b o o ≡ o
+rowid_if-same true o = refl
+rowid_if-same false o = refl
+
+-- where there is no row yet
+pub null-reads : (k : ItemMarks) → ReadsAs k null_row null_row
+null-reads k = record {
+  column = λ place. sym (ap (null_if (list_any (same_place (Some place)) k.ignored)) (rowid_if-same (same_place (Some place) k.rowid) (Good value.Null)) ∙ null_if-null (list_any (same_place (Some place)) k.ignored));
+  rowid = sym (null_if-null (list_any (same_place None) k.ignored));
+  causes = refl;
+}
 
 set-read : (outs : List Out) (p k : ℕ) (o : Out) → p < length outs → slice_index_or (slice_set outs p o) k (Good value.Null) ≡ rowid_if (nat_eq k p) o (slice_index_or outs k (Good value.Null))
 set-read outs p k o within = by (nat_eq k p) refl
@@ -213,20 +225,7 @@ module _ (m : Marks) (x : Environment) (rows : List ItemRow) (reads : (item : �
   pub shown-erased : (results : List BoundExpr) (causes : Out) → shown (map (erased m) results) x causes ≡ shown results other causes
   shown-erased results causes = ap (item_of causes) (values-erased results)
 
-  pub items_at-erased : (conjuncts results : List BoundExpr) → carried rows ≡ carried x.rows → items_at (map (erased m) conjuncts) (map (erased m) results) x ≡ items_at conjuncts results other
-  items_at-erased conjuncts results same =
-      ap (λ kept. option_to_list (option_map (shown (map (erased m) results) x) kept)) (sifted-erased conjuncts (carried x.rows))
-      ∙ listed-same (sifted conjuncts other (carried x.rows)) (shown (map (erased m) results) x) (shown results other) (λ causes. shown-erased results causes)
-      ∙ ap (λ causes. option_to_list (option_map (shown results other) (sifted conjuncts other causes))) (sym same)
-
--- ---- over the rows of one item
-
-one-reads : (k : ItemMarks) (row another : ItemRow) (item : ℕ) → ReadsAs k row another → ReadsAs (marks_at (k ∷ []) item) (slice_index_or (row ∷ []) item null_row) (slice_index_or (another ∷ []) item null_row)
-one-reads k row another zero reads = reads
-one-reads k row another (suc item) reads = null-reads
-
-pub items_at-erased_one : (k : ItemMarks) (row another : ItemRow) (x : Environment) (conjuncts results : List BoundExpr) → ReadsAs k row another
-    → items_at (map (erased (k ∷ [])) conjuncts) (map (erased (k ∷ [])) results) (record x { rows = row ∷ [] }) ≡ items_at conjuncts results (record x { rows = another ∷ [] })
-items_at-erased_one k row another x conjuncts results reads =
-    items_at-erased (k ∷ []) (record x { rows = row ∷ [] }) (another ∷ []) (λ item. one-reads k row another item reads) conjuncts results
-    (ap (λ (causes : Out). carried (record row { causes = causes } ∷ [])) reads.causes)
+  pub items_at-erased : (conjuncts results : List BoundExpr) (causes : Out) → items_at (map (erased m) conjuncts) (map (erased m) results) x causes ≡ items_at conjuncts results other causes
+  items_at-erased conjuncts results causes =
+      ap (λ kept. option_to_list (option_map (shown (map (erased m) results) x) kept)) (sifted-erased conjuncts causes)
+      ∙ listed-same (sifted conjuncts other causes) (shown (map (erased m) results) x) (shown results other) (λ more. shown-erased results more)

@@ -18,6 +18,7 @@ pub mod ConstraintLaws
 pub mod PermitLaws
 pub mod RowidPlaces
 pub mod ErasedValues
+pub mod ErasedRows
 pub mod DoneLaws
 pub mod TellingLaws
 pub mod OutcomeLaws

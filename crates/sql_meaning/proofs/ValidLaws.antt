@@ -55,7 +55,7 @@ use Rattle.sql_meaning.specs.Built.{is_built, is_built_command, is_built_definit
 use Rattle.sql_meaning.specs.Permits.{Asking, Denies, Ignores, Permit, asked_by, permitted}
 use Rattle.sql_meaning.specs.Declarations.{columns_created, columns_kept, columns_of, table_called, table_of, table_with, tables_among, tables_of}
 use Rattle.eng_entry.specs.Entries.{is_index, is_index_on}
-use Rattle.sql_meaning.specs.Running.{are_own, columns_put, command_of, creation_by, entry_with, has_own_keys, index_on, item_of_table, keys_of, kind_removed, first_part, found_table, from_of, if_built, is_plain_core, part_of, put_at, put_into, put_of, put_with, query_of, removal_of, rowid_from, rows_of_part, runnable_of, stores_integers, table_of_source}
+use Rattle.sql_meaning.specs.Running.{are_own, columns_put, command_of, creation_by, entry_with, has_own_keys, index_on, item_of_table, keys_of, kind_removed, first_part, found_table, from_of, if_built, is_plain_core, part_of, put_at, put_into, put_of, put_with, query_of, rejecting, removal_of, rowid_from, rows_of_part, runnable_of, stores_integers, table_of_source}
 use Rattle.sql_meaning.specs.Runnables.{FromItem}
 use Rattle.sql_meaning.specs.Rows.{rowid_column}
 use Rattle.bound_tree.specs.Conditions.{conditions_of}
@@ -170,18 +170,19 @@ source-own tables source.Queue t e = absurd (let bad : Err cause.NotYet ≡ Ok t
 
 from-found : (tables : List TableEntry) (items : List BoundItem) (from : List FromItem) → from_of tables items ≡ Ok from → All (IsFound tables) from
 from-found tables [] from e = subst (All (IsFound tables)) (same-ok [] from e) (All-nil (IsFound tables))
-from-found tables (i ∷ []) from e =
-    let made : TableEntry → Result (List FromItem) Cause = λ t. Ok (item_of_table i t ∷ []) in
-    let table = then-ok (table_of_source tables i.source) made from e in
+from-found tables (i ∷ items) from e =
+    let behind : TableEntry → List FromItem → Result (List FromItem) Cause = λ t others. Ok (item_of_table i t ∷ others) in
+    let table = then-ok (table_of_source tables i.source) (λ t. from_of tables items >>= behind t) from e in
+    let others = then-ok (from_of tables items) (behind table.0) from table.2 in
     let item : FromItem = item_of_table i table.0 in
-    subst (All (IsFound tables)) (same-ok (item ∷ []) from table.2) (All-cons (IsFound tables) item [] (source-own tables i.source table.0 table.1) (All-nil (IsFound tables)))
-from-found tables (i ∷ j ∷ items) from e = absurd (let bad : Err cause.NotYet ≡ Ok from = e in cc)
+    subst (All (IsFound tables)) (same-ok (item ∷ others.0) from others.2)
+    (All-cons (IsFound tables) item others.0 (source-own tables i.source table.0 table.1) (from-found tables items others.0 others.1))
 
 part-fits : (catalog : Entries) (number : ℕ) (p : BoundPart) (r : Runnable) → part_of (tables_of catalog) p ≡ Ok r → FitsIn catalog number r
 part-fits catalog number (part.Values rows) r e = subst (FitsIn catalog number) (same-ok (Shows rows) r e) tt
 part-fits catalog number (part.Select c) r e =
     let tables = tables_of catalog in
-    let shown : List FromItem → Result Runnable Cause = λ from. Ok (Queries (record { from = from; conjuncts = flat_map conditions_of c.conjuncts; results = c.results })) in
+    let shown : List FromItem → Result Runnable Cause = λ from. Ok (Queries (record { from = from; conjuncts = flat_map conditions_of (rejecting c); results = c.results })) in
     let made = then-ok (from_of tables c.items) shown r (if_built-ok (is_plain_core c) (from_of tables c.items >>= shown) r e).1 in
     subst (FitsIn catalog number) (same-ok _ r made.2) (from-found tables c.items made.0 made.1)
 

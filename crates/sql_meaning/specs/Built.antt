@@ -1,14 +1,14 @@
--- Which statements are built: CREATE and DROP of tables and indexes, INSERT of rows of values, VALUES, SELECT of expressions from one table or none,
+-- Which statements are built: CREATE and DROP of tables and indexes, INSERT of rows of values, VALUES, SELECT of expressions from tables or none,
 -- and PRAGMA. What any other holds does not run yet.
 use Rattle.std.specs.Prelude.{ℕ, nat_eq, Bool, true, false, not, ◌&&◌, ◌||◌, List, [], ◌∷◌, length, Option, Some, None, is_some, codes}
 use Rattle.std.specs.List.{list_all}
 use Rattle.sql_tree.specs.declared.expr.Arguments.{Arguments}
 use Rattle.sql_tree.specs.declared.expr.Arguments.TheVariants as arguments
 use Rattle.sql_tree.specs.Folds.{ExprStep, ArmStep, fold_expr, fold_arm}
-use Rattle.sql_tree.specs.Layers.{ItemLayer, PartLayer, QueryLayer, ResultLayer, SelectLayer, SourceLayer, of_item, of_part, of_query, of_result, of_select, of_source}
+use Rattle.sql_tree.specs.Layers.{ConstraintLayer, ItemLayer, PartLayer, QueryLayer, ResultLayer, SelectLayer, SourceLayer, of_constraint, of_item, of_part, of_query, of_result, of_select, of_source}
 use Rattle.sql_tree.specs.declared.expr.Arm.{Arm}
 use Rattle.sql_tree.specs.declared.expr.Expr.{Expr}
-use Rattle.sql_tree.specs.declared.expr.Expr.TheOpen.{Expr-F, QueryPart-F, ResultColumn-F, Source-F}
+use Rattle.sql_tree.specs.declared.expr.Expr.TheOpen.{Expr-F, JoinConstraint-F, QueryPart-F, ResultColumn-F, Source-F}
 use Rattle.sql_tree.specs.declared.query.FromItem.{FromItem}
 use Rattle.sql_tree.specs.declared.query.ResultColumn.{ResultColumn}
 use Rattle.sql_tree.specs.declared.statement.ColumnConstraint.{ColumnConstraint}
@@ -136,14 +136,16 @@ is_built_source (Source-F.Table t None) = true
 is_built_source (Source-F.Table t (Some arguments)) = false
 is_built_source (Source-F.Derived q) = false
 
-abbrev pub is_built_item : ItemLayer → Bool
-is_built_item item = is_built_source (of_source item.source)
+abbrev pub is_built_join : List ℕ → ConstraintLayer → Bool
+is_built_join text JoinConstraint-F.Unconstrained = true
+is_built_join text (JoinConstraint-F.On x) = is_built_expr x text
+is_built_join text (JoinConstraint-F.Using names) = true
 
--- no item, or one
-abbrev pub is_built_from : List FromItem → Bool
-is_built_from [] = true
-is_built_from (item ∷ []) = is_built_item (of_item item)
-is_built_from (item ∷ other ∷ items) = false
+abbrev pub is_built_layer : List ℕ → ItemLayer → Bool
+is_built_layer text item = is_built_source (of_source item.source) && is_built_join text (of_constraint item.constraint)
+
+abbrev pub is_built_item : List ℕ → FromItem → Bool
+is_built_item text item = is_built_layer text (of_item item)
 
 -- no DISTINCT, no GROUP BY and no HAVING
 abbrev pub is_plain_select : SelectLayer → Bool
@@ -151,7 +153,7 @@ is_plain_select s = not s.distinct && is_empty s.group_by && not (is_some s.havi
 
 abbrev pub is_built_select : List ℕ → SelectLayer → Bool
 is_built_select text s =
-    is_plain_select s && is_built_from s.from && list_all (is_built_result text) s.results && is_built_filter text s.filter
+    is_plain_select s && list_all (is_built_item text) s.from && list_all (is_built_result text) s.results && is_built_filter text s.filter
 
 abbrev pub is_built_row : List ℕ → List Expr → Bool
 is_built_row text row = list_all (λ x. is_built_expr x text) row

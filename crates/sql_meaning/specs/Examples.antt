@@ -29,6 +29,7 @@ use Rattle.sql_words.specs.Spelled.{the_text_test}
 use Rattle.bound_tree.specs.Exprs as e
 use Rattle.sql_words.specs.declared.literal.Literal.TheVariants as literal
 use Rattle.sql_meaning.specs.declared.bound.BoundInsert.{BoundInsert}
+use Rattle.sql_meaning.specs.declared.bound.Join.TheVariants as join
 use Rattle.sql_meaning.specs.declared.bound.PutColumn.{PutColumn}
 use Rattle.sql_meaning.specs.declared.bound.RowidFrom.TheVariants as rowid
 use Rattle.sql_meaning.specs.declared.column.Column.{Column}
@@ -162,7 +163,7 @@ seen_rows = (refl, refl)
 
 -- a query, also one where the column is ignored, which the rowid isn't by that
 abbrev shown_where : List (Option ℕ) → List Item
-shown_where places = items_of (context no_hosts with_a_row []) (record { from = record { table = table_with_key; width = 2; ignored = places; indexes = [] } ∷ []; conjuncts = e.Column 0 0 ∷ []; results = e.Column 0 1 ∷ e.Rowid 0 ∷ [] })
+shown_where places = items_of (context no_hosts with_a_row []) (record { from = record { table = table_with_key; width = 2; ignored = places; indexes = []; join = join.Inner } ∷ []; conjuncts = e.Column 0 0 ∷ []; results = e.Column 0 1 ∷ e.Rowid 0 ∷ [] })
 
 shown_rows_of_it : (shown_where [] ≡ Row (value.Integer (pos 7) ∷ value.Integer (pos 7) ∷ []) ∷ []) × (shown_where (Some 1 ∷ []) ≡ Row (value.Null ∷ value.Integer (pos 7) ∷ []) ∷ []) × (shown_where (None ∷ []) ≡ Row (value.Integer (pos 7) ∷ value.Null ∷ []) ∷ [])
 unfolding all_statement_rules count tokens_of word_kind the_text_test truth_of

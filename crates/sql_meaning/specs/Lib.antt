@@ -5,6 +5,7 @@ pub mod World
 pub mod Valid
 pub mod Built
 pub mod Expression
+pub mod Products
 pub mod Clauses
 pub mod ExpressionExamples
 pub mod Permits

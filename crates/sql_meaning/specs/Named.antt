@@ -14,6 +14,7 @@ use Rattle.bound_tree.specs.Exprs.{BoundArms, BoundExpr, BoundExprs, BoundMatche
 use Rattle.sql_meaning.specs.declared.bound.BoundInsert.{BoundInsert}
 use Rattle.sql_meaning.specs.declared.bound.PutColumn.{PutColumn}
 use Rattle.sql_meaning.specs.Runnables.{Runnable, Creates, DoesNothing, Drops, Indexes, Puts, Queries, Query, Shows, Unindexes}
+use Rattle.sql_meaning.specs.Work.{tested_in}
 use Rattle.sql_meaning.specs.Statement.{bound_for}
 use Rattle.sql_meaning.specs.World.{Context}
 
@@ -74,7 +75,7 @@ abbrev pub named_by_row : List BoundExpr → Names
 named_by_row row = flat_map named_in row
 
 abbrev pub named_by_query : Query → Names
-named_by_query q = named_by_row q.conjuncts ++ named_by_row q.results
+named_by_query q = named_by_row (tested_in q) ++ named_by_row q.results
 
 abbrev pub named_by_column : PutColumn → Names
 named_by_column c = flat_map named_in (option_to_list c.default)

@@ -4,17 +4,19 @@ use Rattle.eng_entry.specs.declared.entry.Entry.{Entry}
 use Rattle.eng_index.specs.declared.key_term.KeyTerm.{KeyTerm}
 use Rattle.bound_tree.specs.Exprs.{BoundExpr}
 use Rattle.sql_meaning.specs.declared.bound.BoundInsert.{BoundInsert}
+use Rattle.sql_meaning.specs.declared.bound.Join.{Join}
 use Rattle.sql_meaning.specs.declared.column.TableEntry.{TableEntry}
 
--- an item of a FROM: its table, how many columns it has, which of them are ignored, so that they read NULL, where that without a place is the rowid, and the terms
--- of the keys of its indexes, oldest first
+-- an item of a FROM: its table, how many columns it has, which of them are ignored, so that they read NULL, where that without a place is the rowid, the terms
+-- of the keys of its indexes, oldest first, and how it is joined with those on its left
 pub record FromItem : Type 0 where
   pub table : TableEntry
   pub width : ℕ
   pub ignored : List (Option ℕ)
   pub indexes : List (List KeyTerm)
+  pub join : Join
 
--- a query: the items of its FROM, leftmost first, the conjuncts of its WHERE, and what is shown
+-- a query: the items of its FROM, leftmost first, the conjuncts of its WHERE and of each ON that is no LEFT JOIN's, and what is shown
 pub record Query : Type 0 where
   pub from : List FromItem
   pub conjuncts : List BoundExpr

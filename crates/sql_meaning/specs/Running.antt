@@ -1,6 +1,6 @@
--- What runs of a statement whose names are bound: a query over one table or none, rows of values, an INSERT of such rows, CREATE and DROP of tables and
+-- What runs of a statement whose names are bound: a query over tables or none, rows of values, an INSERT of such rows, CREATE and DROP of tables and
 -- indexes, and what does nothing. Anything else is not built.
-use Rattle.std.specs.Prelude.{ℕ, nat_eq, Bool, true, false, not, ◌&&◌, List, [], ◌∷◌, drop, length, map, Option, Some, None, Result, Ok, Err, is_some, if◌then◌else◌, slice_get}
+use Rattle.std.specs.Prelude.{ℕ, nat_eq, Bool, true, false, not, ◌&&◌, List, [], ◌∷◌, ◌++◌, drop, length, map, Option, Some, None, Result, Ok, Err, is_some, if◌then◌else◌, slice_get}
 use Rattle.std.specs.List.{filter, flat_map, list_all}
 use Rattle.eng_entry.specs.declared.entry.Entry.{Entry}
 use Rattle.eng_entry.specs.declared.entry.EntryKind.TheVariants as entry_kind
@@ -39,10 +39,14 @@ use Rattle.bound_tree.specs.declared.units.BoundSource.{BoundSource}
 use Rattle.bound_tree.specs.declared.units.BoundSource.TheVariants as source
 use Rattle.bound_tree.specs.declared.units.BoundUnit.{BoundUnit}
 use Rattle.bound_tree.specs.declared.units.BoundUnit.TheVariants as unit
+use Rattle.bound_tree.specs.declared.units.JoinKind.{JoinKind}
+use Rattle.bound_tree.specs.declared.units.JoinKind.TheVariants as kind
 use Rattle.bound_tree.specs.declared.writes.BoundChange.{BoundChange}
 use Rattle.bound_tree.specs.declared.writes.BoundChange.TheVariants as change
 use Rattle.bound_tree.specs.declared.writes.BoundTarget.{BoundTarget}
 use Rattle.bound_tree.specs.declared.writes.BoundWrite.{BoundWrite}
+use Rattle.sql_meaning.specs.declared.bound.Join.{Join}
+use Rattle.sql_meaning.specs.declared.bound.Join.TheVariants as join
 use Rattle.sql_meaning.specs.declared.bound.PutColumn.{PutColumn}
 use Rattle.sql_meaning.specs.declared.bound.RowidFrom.{RowidFrom}
 use Rattle.sql_meaning.specs.declared.bound.RowidFrom.TheVariants as rowid
@@ -103,13 +107,28 @@ keys_of rowid indexes = map (λ (i : BoundIndex). terms_of rowid i.parts) (uniqu
 abbrev pub index_terms : Option ℕ → List BoundIndex → List (List KeyTerm)
 index_terms rowid indexes = map (λ (i : BoundIndex). terms_of rowid i.parts) (filter (λ (i : BoundIndex). are_own i.parts) indexes)
 
+-- the ON of a LEFT JOIN makes its pairs
+abbrev pub join_by : JoinKind → List BoundExpr → Join
+join_by kind.Inner ons = join.Inner
+join_by kind.Left ons = join.Left (flat_map conditions_of ons)
+
+-- any other is tested with the WHERE
+abbrev pub tested_by : JoinKind → List BoundExpr → List BoundExpr
+tested_by kind.Inner ons = ons
+tested_by kind.Left ons = []
+
 abbrev pub item_of_table : BoundItem → TableEntry → FromItem
-item_of_table i t = record { table = t; width = length i.columns; ignored = i.ignored; indexes = index_terms t.rowid i.indexes }
+item_of_table i t =
+    record { table = t; width = length i.columns; ignored = i.ignored; indexes = index_terms t.rowid i.indexes; join = join_by i.join i.ons }
 
 abbrev pub from_of : List TableEntry → List BoundItem → Result (List FromItem) Cause
 from_of tables [] = Ok []
-from_of tables (i ∷ []) = table_of_source tables i.source >>= λ t. Ok (item_of_table i t ∷ [])
-from_of tables (i ∷ other ∷ items) = not_built
+from_of tables (i ∷ items) =
+    table_of_source tables i.source >>= λ t. from_of tables items >>= λ others. Ok (item_of_table i t ∷ others)
+
+-- what a row of the FROM has to pass
+abbrev pub rejecting : BoundCore → List BoundExpr
+rejecting c = flat_map (λ (i : BoundItem). tested_by i.join i.ons) c.items ++ c.conjuncts
 
 abbrev pub is_plain_core : BoundCore → Bool
 is_plain_core c = not (is_some c.groups) && not c.distinct
@@ -117,7 +136,7 @@ is_plain_core c = not (is_some c.groups) && not c.distinct
 abbrev pub select_of : List TableEntry → BoundCore → Result Runnable Cause
 select_of tables c =
     if_built (is_plain_core c) (from_of tables c.items >>= λ from.
-    Ok (Queries (record { from = from; conjuncts = flat_map conditions_of c.conjuncts; results = c.results })))
+    Ok (Queries (record { from = from; conjuncts = flat_map conditions_of (rejecting c); results = c.results })))
 
 abbrev pub part_of : List TableEntry → BoundPart → Result Runnable Cause
 part_of tables (part.Select c) = select_of tables c

@@ -42,6 +42,7 @@ use Rattle.sql_meaning.specs.Declarations.{tables_of}
 use Rattle.sql_meaning.specs.Built.{is_built}
 use Rattle.sql_meaning.specs.Expression.{value_of}
 pub use Rattle.sql_meaning.specs.Rows.{good_or_null}
+pub use Rattle.sql_meaning.specs.Products.{FromRow, JoinedItem, after_conjunct, if_some, product, sifted}
 use Rattle.sql_meaning.specs.Rows.{row_put}
 use Rattle.sql_meaning.specs.Steps.{Effect, Done, Left, Fails, each, or_next}
 use Rattle.sql_meaning.specs.World.{Context, State, World, environment_at, rows_at, seen}
@@ -131,40 +132,26 @@ refusal_of (Failed causes ∷ items) = Some causes
 
 -- ---- queries
 
--- the causes so far with those of a conjunct; none where it is false or NULL
-abbrev pub after_conjunct : Out → Truth → Option Out
-after_conjunct causes truth.True = Some causes
-after_conjunct causes truth.False = None
-after_conjunct causes truth.Unknown = None
-after_conjunct causes (truth.Failed why) = Some (merged (Bad why) causes)
-
-abbrev pub if_some : {A B : Type 0} → Option A → (A → Option B) → Option B
-if_some None f = None
-if_some (Some a) f = f a
-
--- no conjunct rejects the row; then with the causes of all of them
-abbrev pub sifted : List BoundExpr → Environment → Out → Option Out
-sifted [] env causes = Some causes
-sifted (c ∷ cs) env causes = if_some (after_conjunct causes (truth_in (truth_of (value_of c env)))) (sifted cs env)
-
 abbrev pub shown : List BoundExpr → Environment → Out → Item
 shown results env causes = item_of causes (map (λ r. value_of r env) results)
 
 -- the item of some rows, unless they are rejected; it is bad for the causes that they carry, too
-abbrev pub items_at : List BoundExpr → List BoundExpr → Environment → List Item
-items_at conjuncts results env = option_to_list (option_map (shown results env) (sifted conjuncts env (carried env.rows)))
+abbrev pub items_at : List BoundExpr → List BoundExpr → Environment → Out → List Item
+items_at conjuncts results env causes = option_to_list (option_map (shown results env) (sifted conjuncts env causes))
 
 -- the rows of an item, as they are seen
 abbrev pub item_rows : Context → FromItem → List ItemRow
 item_rows ctx i = map (λ r. ignoring i.ignored (table_row (seen i.table.rowid r))) (rows_at ctx.state.world.tables i.table.number)
 
--- the rows of a FROM, a row for each of its items, behind these: in nested order, leftmost item outermost
-abbrev pub product : Context → List FromItem → List ItemRow → List (List ItemRow)
-product ctx [] rows = rows ∷ []
-product ctx (i ∷ items) rows = flat_map (λ r. product ctx items (rows ++ r ∷ [])) (item_rows ctx i)
+abbrev pub joined_item : Context → FromItem → JoinedItem
+joined_item ctx i = record { rows = item_rows ctx i; join = i.join }
+
+-- the rows of its FROM
+abbrev pub from_rows : Context → List FromItem → List FromRow
+from_rows ctx items = product (environment_at ctx []) (map (joined_item ctx) items)
 
 abbrev pub items_of : Context → Query → List Item
-items_of ctx q = flat_map (λ rows. items_at q.conjuncts q.results (environment_at ctx rows)) (product ctx q.from [])
+items_of ctx q = flat_map (λ (row : FromRow). items_at q.conjuncts q.results (environment_at ctx row.rows) row.causes) (from_rows ctx q.from)
 
 -- the items of rows of values, which see no row of a table
 abbrev pub shown_rows : Context → List (List BoundExpr) → List Item

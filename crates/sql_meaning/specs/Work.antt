@@ -1,5 +1,5 @@
 -- The size of a statement and the work that it asks for. Together they bound the instructions that it runs, whatever its plan.
-use Rattle.std.specs.Prelude.{ℕ, ◌+◌, ◌*◌, ◌-◌, List, [], ◌∷◌, length, map, sum, Option, Some, None, Result, Ok, Err}
+use Rattle.std.specs.Prelude.{ℕ, ◌+◌, ◌*◌, ◌-◌, List, [], ◌∷◌, ◌++◌, length, map, sum, Option, Some, None, Result, Ok, Err}
 use Rattle.std.specs.List.{flat_map, filter}
 use Rattle.std.specs.Option.{option_to_list}
 use Rattle.eng_entry.specs.Entries.{Entries, is_index_on}
@@ -9,9 +9,11 @@ use Rattle.eng_value.specs.declared.cause.Cause.{Cause}
 use Rattle.eng_value.specs.declared.value.Value.{Value}
 use Rattle.sql_lex.specs.Tokens.{tokens_of}
 use Rattle.sql_meaning.specs.declared.bound.BoundInsert.{BoundInsert}
+use Rattle.sql_meaning.specs.declared.bound.Join.{Join}
+use Rattle.sql_meaning.specs.declared.bound.Join.TheVariants.{Inner, Left}
 use Rattle.sql_meaning.specs.declared.bound.PutColumn.{PutColumn}
 use Rattle.sql_meaning.specs.declared.column.TableEntry.{TableEntry}
-use Rattle.sql_meaning.specs.Runnables.{Runnable, Creates, DoesNothing, Drops, FromItem, Indexes, Puts, Queries, Shows, Unindexes}
+use Rattle.sql_meaning.specs.Runnables.{Runnable, Creates, DoesNothing, Drops, FromItem, Indexes, Puts, Queries, Query, Shows, Unindexes}
 use Rattle.bound_ignored.specs.Erased.{erased}
 use Rattle.bound_size.specs.Sizes.{all_nodes}
 use Rattle.bound_tree.specs.Exprs.{BoundExpr}
@@ -48,16 +50,30 @@ opened_size c (Queries q) = from_size c q.from
 opened_size c (Shows rows) = 0
 opened_size c DoesNothing = 0
 
--- a WHERE repeats an expression wherever it names the result: what its tree has beyond sixteen nodes for each of so many tokens
+-- the conjuncts that reject pairs of an item
+abbrev pub ons_of : Join → List BoundExpr
+ons_of Inner = []
+ons_of (Left ons) = ons
+
+-- all conjuncts of a query
+abbrev pub tested_in : Query → List BoundExpr
+tested_in q = q.conjuncts ++ flat_map (λ (i : FromItem). ons_of i.join) q.from
+
+-- a WHERE repeats an expression wherever it names the result: what the trees of conjuncts have beyond sixteen nodes for each token and column that
+-- the size counts already
 abbrev pub repeated_size : ℕ → Runnable → ℕ
-repeated_size tokens (Creates e) = 0
-repeated_size tokens (Drops t) = 0
-repeated_size tokens (Indexes i) = 0
-repeated_size tokens (Unindexes name) = 0
-repeated_size tokens (Puts p) = 0
-repeated_size tokens (Queries q) = all_nodes q.conjuncts - 16 * tokens
-repeated_size tokens (Shows rows) = 0
-repeated_size tokens DoesNothing = 0
+repeated_size size (Creates e) = 0
+repeated_size size (Drops t) = 0
+repeated_size size (Indexes i) = 0
+repeated_size size (Unindexes name) = 0
+repeated_size size (Puts p) = 0
+repeated_size size (Queries q) = all_nodes (tested_in q) - 16 * size
+repeated_size size (Shows rows) = 0
+repeated_size size DoesNothing = 0
+
+-- of a text of so many tokens
+abbrev pub size_of : Entries → ℕ → Runnable → ℕ
+size_of c tokens b = let told = tokens + opened_size c b in told + repeated_size told b
 
 -- ---- work
 
@@ -71,9 +87,14 @@ abbrev pub item_work : Context → List BoundExpr → FromItem → ℕ
 item_work ctx conjuncts i =
     rows_counted (surroundings_of ctx) i.indexes (map (erased (marks_in (i ∷ []))) conjuncts) (rows_at ctx.state.world.tables i.table.number)
 
+-- of an item that stands alone; a LEFT JOIN tests its own ON alone
+abbrev pub alone_work : Context → List BoundExpr → FromItem → Join → ℕ
+alone_work ctx conjuncts i Inner = 1 + item_work ctx conjuncts i
+alone_work ctx conjuncts i (Left ons) = product_work ctx (i ∷ [])
+
 -- the work of a FROM under the conjuncts of a WHERE
 abbrev pub from_work : Context → List BoundExpr → List FromItem → ℕ
-from_work ctx conjuncts (i ∷ []) = 1 + item_work ctx conjuncts i
+from_work ctx conjuncts (i ∷ []) = alone_work ctx conjuncts i i.join
 from_work ctx conjuncts items = product_work ctx items
 
 -- a write takes the rows of its source whole, and has a turn for each; a bad source has none
@@ -97,7 +118,7 @@ work_of ctx DoesNothing = 0
 
 -- of a text of so many tokens; what is refused before evaluation runs nothing
 abbrev pub bound_within : Context → ℕ → Result Runnable Cause → ℕ
-bound_within ctx tokens (Ok b) = 256 * (tokens + opened_size ctx.state.world.catalog b + repeated_size tokens b) * (work_of ctx b + 1)
+bound_within ctx tokens (Ok b) = 256 * size_of ctx.state.world.catalog tokens b * (work_of ctx b + 1)
 bound_within ctx tokens (Err why) = 0
 
 -- the most instructions that a text runs, where this is said of what statements do

@@ -38,17 +38,27 @@ pub struct BoundInsert {
     pub rows: Items<Items<BoundExpr>>,
 }
 
-/// The table that a query reads: its number, and the terms of the keys of its indexes, oldest first.
+/// How an item of a FROM is joined with those on its left (SELECT, section 2.1).
+#[derive(Drop)]
+pub enum Join {
+    /// Each of their rows with each of its own. What its ON says rejects rows as the WHERE does.
+    Inner,
+    /// Each of their rows stays, with NULLs where none of its own makes a pair with it: these conjuncts of its ON reject pairs.
+    Left(Items<BoundExpr>),
+}
+
+/// An item of a FROM that a query reads: the number of its table, the terms of the keys of its indexes, oldest first, and how it is joined.
 #[derive(Drop)]
 pub struct FromTable {
     pub table: u32,
     pub indexes: Items<Items<KeyTerm>>,
+    pub join: Join,
 }
 
-/// A query over a table, or over none: what each row has to pass, and what is shown of it.
+/// A query: the items of its FROM, leftmost first, what each row has to pass, and what is shown of it.
 #[derive(Drop)]
 pub struct BoundSelect {
-    pub from: Option<FromTable>,
+    pub from: Items<FromTable>,
     pub conjuncts: Items<BoundExpr>,
     pub results: Items<BoundExpr>,
 }

@@ -12,7 +12,7 @@ mod laws;
 mod script;
 mod states;
 
-pub use bound::{BoundInsert, BoundSelect, FromTable, PutColumn, RowidFrom};
+pub use bound::{BoundInsert, BoundSelect, FromTable, Join, PutColumn, RowidFrom};
 pub use column::{Column, TableEntry};
 pub use laws::{
     a_refusal_keeps_the_state, a_search_counts_the_rows_that_meet_it, each_refusal_has_a_cause,

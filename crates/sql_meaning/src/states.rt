@@ -7,6 +7,7 @@ ghost use Rattle.eng_value.specs.StoredRows.{StoredRow};
 ghost use Rattle.eng_value.specs.Truths.{truth_in, truth_of};
 ghost use Rattle.eng_value.specs.Written.{Written};
 ghost use Rattle.eng_value.specs.declared.cause.Cause.TheVariants.{Full};
+ghost use Rattle.eng_value.specs.declared.out.Out.{Out};
 ghost use Rattle.eng_value.specs.declared.truth.Truth.TheVariants as truth;
 ghost use Rattle.eng_value.specs.declared.value.Value.TheVariants as value;
 ghost use Rattle.bound_tree.specs.Exprs.{BoundExpr};
@@ -78,9 +79,9 @@ pub fn tests_change_nothing()
     ensures { (env : Environment) (b : BoundInsert) (rows : List StoredRow) (new : NewRow) (x : Written) → KeepsWritten x (fitted env b rows new x) }
 {}
 
-/// A conjunct that is false or NULL rejects a row, whatever the others are: values, or bad.
+/// A conjunct that is false or NULL rejects a row, whatever the others are, values or bad, and whatever causes the row carries.
 pub fn a_false_conjunct_rejects()
-    ensures { (before after : List BoundExpr) (conjunct : BoundExpr) (results : List BoundExpr) (env : Environment)
+    ensures { (before after : List BoundExpr) (conjunct : BoundExpr) (results : List BoundExpr) (env : Environment) (causes : Out)
         → (truth_in (truth_of (value_of conjunct env)) ≡ truth.False) ⊎ (truth_in (truth_of (value_of conjunct env)) ≡ truth.Unknown)
-        → items_at (before ++ conjunct ∷ after) results env ≡ [] }
+        → items_at (before ++ conjunct ∷ after) results env causes ≡ [] }
 {}

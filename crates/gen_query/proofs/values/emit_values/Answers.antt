@@ -8,8 +8,8 @@ use Rattle.gen_query.proofs.values.emit_values.Goals as goal
 pub loop-row-init : goal.loop-row-init
 loop-row-init c = record { does = values_none c.args.b.now; cursors = search rules }
 
-pub emit_row-requires : goal.emit_row-requires
-emit_row-requires c = omega (arith, c.loop-row.invariant.does.next, c.loop-row.invariant.does.grows.most, c.requires)
+pub emit_value_row-requires : goal.emit_value_row-requires
+emit_value_row-requires c = omega (arith, c.loop-row.invariant.does.next, c.loop-row.invariant.does.grows.most, c.requires)
 
 pub loop-row-preserved : goal.loop-row-preserved
 loop-row-preserved c =
@@ -17,10 +17,10 @@ loop-row-preserved c =
     let all = c.args.rows.now in
     let one = c.row-item.result in
     let more : take (i + 1) all ≡ take i all ++ one ∷ [] = take_more all i one c.loop-row-test.true ∙ ap (λ x. take i all ++ x ∷ []) (sym c.row-item.is) in
-    let row = rw c.as_slice.ensures at c.in_ok-emit_row.ensures.does in
+    let row = rw c.as_slice.ensures at c.in_ok-emit_value_row.ensures.does in
     record {
-      does = subst (λ l. Does no_calls c.args.b.now c.emit_row.new.b 0 0 None (values_effect l) (by_world (λ w. rows_in_turn_steps l))) (sym more) (values_more c.args.b.now c.loop-row.b c.emit_row.new.b (take i all) one c.loop-row.invariant.does row);
-      cursors = c.in_ok-emit_row.ensures.cursors ∙ c.loop-row.invariant.cursors;
+      does = subst (λ l. Does no_calls c.args.b.now c.emit_value_row.new.b 0 0 None (values_effect l) (by_world (λ w. rows_in_turn_steps l))) (sym more) (values_more c.args.b.now c.loop-row.b c.emit_value_row.new.b (take i all) one c.loop-row.invariant.does row);
+      cursors = c.in_ok-emit_value_row.ensures.cursors ∙ c.loop-row.invariant.cursors;
     }
 
 pub returns-clause-does : goal.returns-clause-does

@@ -13,7 +13,7 @@ use Rattle.plan_best.proofs.choosing.begun_by.Goals as goal
 
 pub returns-in_ok-better-in-Rowid : goal.returns-in_ok-better-in-Rowid
 returns-in_ok-better-in-Rowid g c = λ e at.
-    c.in_ok-better-in-Rowid.ensures c.args.params.now c.args.indexes.now c.args.conjuncts.now c.requires.best (c.in_ok-draft-in-Rowid.ensures c.args.indexes.now (ap (is_searchable c.args.indexes.now c.in-Some.comparison.collation) c.in-Rowid.is))
+    c.in_ok-better-in-Rowid.ensures c.args.params.now 0 c.args.indexes.now c.args.conjuncts.now c.requires.best (c.in_ok-draft-in-Rowid.ensures c.args.indexes.now (ap (is_searchable c.args.indexes.now c.in-Some.comparison.collation) c.in-Rowid.is))
 
 pub returns-in-Column : goal.returns-in-Column
 returns-in-Column g c =

@@ -20,7 +20,7 @@ loop-terms-preserved g c =
       | then-begins+in_ok-draft+in_ok-better w ↦
           let able : is_searchable indexes comparison.collation comparison.source ≡ true = begun_at comparison indexes place c.loop-terms-test.true c.terms-item.result c.as_slice-terms.result.now c.terms-item.is c.as_slice-terms.ensures c.begins.result c.begins.ensures w.if-begins.true in
           let may = unless_may params indexes cs (list_any (is_begun comparison) (take place indexes)) c.args.best c.loop-terms.best c.loop-terms.invariant in
-          subst (λ (o : Option Draft). BestUnless params indexes cs any c.args.best o) (sym w.best-is) (w.in_ok-better.ensures params indexes cs may (w.in_ok-draft.ensures indexes able))
+          subst (λ (o : Option Draft). BestUnless params indexes cs any c.args.best o) (sym w.best-is) (w.in_ok-better.ensures params 0 indexes cs may (w.in_ok-draft.ensures indexes able))
       | else-begins w ↦
           subst (λ (o : Option Draft). BestUnless params indexes cs any c.args.best o) (sym w.best-is) (unless_next params indexes cs comparison place c.loop-terms-test.true c.terms-item.result c.as_slice-terms.result.now c.terms-item.is c.as_slice-terms.ensures c.begins.result c.begins.ensures w.if-begins.false c.args.best c.loop-terms.best c.loop-terms.invariant)
     ]

@@ -7,4 +7,4 @@ returns-in-Some c = c.in-Some.ensures.0
 
 pub returns-in-None : goal.returns-in-None
 returns-in-None c =
-    stands_round c.args.params.now c.args.op c.args.sides (seen c.args.a.now) (seen c.args.b.now) c.op_round.result c.sides_round.result c.op_round.ensures c.sides_round.ensures _ c.in-None.ensures c.one_way-in-None.ensures
+    stands_round c.args.params.now c.args.item c.args.op c.args.sides (seen c.args.a.now) (seen c.args.b.now) c.op_round.result c.sides_round.result c.op_round.ensures c.sides_round.ensures _ c.in-None.ensures c.one_way-in-None.ensures

@@ -1,0 +1,68 @@
+-- What the stretches of the code of loops do.
+use Rattle.std.specs.Prelude.{◌≡◌, ◌≢◌, ⊤, ℕ, ◌+◌, ◌<◌, List, [], ◌∷◌, length, map, sum_by, None}
+use Rattle.eng_value.specs.Environments.{Environment}
+use Rattle.gen_loop.specs.Loops.{key_steps}
+use Rattle.plan_tree.specs.Visits.{IsCounted, key_outs}
+use Rattle.plan_tree.specs.declared.access.Loop.{Loop}
+use Rattle.plan_tree.specs.declared.access.Path.{Path}
+use Rattle.plan_tree.specs.declared.access.Path.TheVariants as path
+use Rattle.plan_tree.specs.declared.access.Search.{Search}
+use Rattle.vm_code.specs.declared.op.Op.TheVariants as op
+use Rattle.vm_code.specs.Draft.{Draft, released, with_cursor, with_op}
+use Rattle.vm_code.specs.Tracked.{Steady}
+use Rattle.vm_code.specs.Frames.{Did, Effect, Fills, Grows, Holds, Ready, Shut, effect_at, environment_of, here, no_calls}
+use Rattle.vm_code.specs.Machine.{Cursor, Open, Setting, State, cursor_at}
+
+-- ---- onto the first row
+
+-- the keys of a search in registers that they take, and the search by them; behind it these are free
+pub record Seeks (a b : Draft) (cursor end : ℕ) (s : Search) : Type 0 where
+  pub keyed : Draft
+  pub fills : Fills no_calls a keyed (length s.keys) (λ env. key_outs env s.keys) (λ env. sum_by key_steps s.keys)
+  pub cursors : keyed.cursors ≡ a.cursors
+  pub is : b ≡ released (with_op keyed (op.Search cursor s.terms s.bounds a.next end)) a.next
+
+-- a cursor that is open comes onto the first of the rows that a path visits, or code goes on at a label where there is none
+abbrev pub Comes : Draft → Draft → ℕ → ℕ → Path → Type 0
+Comes a b cursor end path.Scan = b ≡ with_op a (op.Rewind cursor end)
+Comes a b cursor end (path.Search s) = Seeks a b cursor end s
+
+-- ---- cursors
+
+-- the next cursors are open on the tables of loops
+abbrev pub opened_all : Draft → List Loop → Draft
+opened_all d [] = d
+opened_all d (l ∷ loops) = opened_all (with_op (with_cursor d) (op.OpenRead d.cursors l.table)) loops
+
+-- ---- loops
+
+-- the cursors of loops that are still to come are open on their tables, and on no row
+abbrev pub Stand : List Loop → List Cursor → Type 0
+Stand [] cursors = ⊤
+Stand (l ∷ loops) cursors = (cursor_at cursors l.place ≡ Open l.table None) × Stand loops cursors
+
+-- none of the loops goes by this cursor
+abbrev pub Apart : ℕ → List Loop → Type 0
+Apart c [] = ⊤
+Apart c (l ∷ loops) = (l.place ≢ c) × Apart c loops
+
+-- loops go by cursors of a draft, each by one of its own, and have as many keys as their bounds ask for
+abbrev pub ArePlaced : ℕ → List Loop → Type 0
+ArePlaced n [] = ⊤
+ArePlaced n (l ∷ loops) = (l.place < n) × IsCounted l.path × Apart l.place loops × ArePlaced n loops
+
+-- the same, where their cursors are counted up from one
+abbrev pub AreInTurn : ℕ → List Loop → Type 0
+AreInTurn c [] = ⊤
+AreInTurn c (l ∷ loops) = (l.place ≡ c) × IsCounted l.path × AreInTurn (c + 1) loops
+
+abbrev pub places_of : List Loop → List ℕ
+places_of loops = map (λ (l : Loop). l.place) loops
+
+-- code with an effect, which finds the cursors of these loops open and on no row, and those from its own on closed, and leaves all so
+pub record Nests (loops : List Loop) (a b : Draft) (lo causes : ℕ) (f : Effect) (cost : Environment → ℕ) : Type 0 where
+  pub grows : Grows a b
+  pub next : b.next ≡ a.next
+  pub steady : Steady (places_of loops) [] a b
+  pub does : (m : Setting) → ArePlaced a.cursors loops → (u : ℕ) (at : ℕ → ℕ) → Holds b m.prog u at → (s : State) → Ready b u s → s.pc ≡ length a.code → Stand loops s.scene.cursors → Shut a.cursors s.scene.cursors
+      → Did m (cost (environment_of m (here s))) s (length b.code) None lo a.next a.cursors (effect_at m f lo causes (here s))

@@ -1,0 +1,19 @@
+//! The bytecode of nested loops.
+//!
+//! `emit` writes the loops of a plan (plan_tree's `JoinPlan`) around a body, which is written once and runs once for each row that the plan
+//! gives, in their order. Its contract, `Does`, says so by `from_effect`: the body's effect at each row of plan_tree's `planned`, one after
+//! the other. The body is handed in as a `LoopBody`, so that queries and writes have the same loops. The code goes in layers, each with one
+//! contract: conjuncts (`Sifts`), what comes onto the first row of a path (`Comes`), a loop over what is left of the plan (`Nests`), and the
+//! cursors, which are opened in front of all loops and closed behind them. The cursor of an item has the number of its place, so that
+//! expressions read the item's row by it, and NULLs where it is on no row: that is what a LEFT JOIN leaves where a row stays alone.
+//! Begin with `LoopBody`, then `emit`.
+#![tactic(auto)]
+
+mod body;
+mod nesting;
+mod opening;
+mod sifting;
+mod visiting;
+
+pub use body::LoopBody;
+pub use opening::emit;
