@@ -7,6 +7,7 @@ may name any of several causes, all are printed, joined by a tab.
 import re
 import sys
 
+from items import Item, all_columns, column_named, columns_of, from_items, rows_of
 from syntax import *
 from values import *
 
@@ -49,10 +50,6 @@ class Table:
                 raise Refused("1: no such column: " + name)
             found.append((place, collation_named(collation) if collation else self.columns[place].collation))
         return found
-
-    def values(self):
-        """What each column comes to."""
-        return [lambda row, i=i: row[i] for i in range(1, len(self.columns))]
 
     def rows_in_order(self):
         return [self.rows[rowid] for rowid in sorted(self.rows)]
@@ -111,7 +108,7 @@ class Connection:
     def run(self, text):
         """The rows that are given, and the causes any of which may be named."""
         try:
-            p = Parser(tokens_of(text))
+            p = Parser(tokens_of(text), column_named)
             known = {"CREATE": self.create, "DROP": self.drop, "INSERT": self.insert, "VALUES": self.values, "SELECT": self.select}
             found = known.get(p.kind(), self.pragma)(p)
             if p.kind() != "end":
@@ -148,11 +145,12 @@ class Connection:
         if unless_there and self.has(name):
             return [], set()
         self.be_free(name)
-        p.table, p.shown = Table(name, [column for kind, column, held in declared if kind == "COLUMN"], key), name
+        table = Table(name, [column for kind, column, held in declared if kind == "COLUMN"], key)
+        p.items = [Item(table, name, 0)]
         for number in range(len(declared)):
-            self.declare(p, declared[number], declared[:number])
+            self.declare(p, table, declared[number], declared[:number])
         p.at = end
-        self.tables[folded(name)] = p.table
+        self.tables[folded(name)] = table
         return [], set()
 
     def create_index(self, p, unique):
@@ -188,23 +186,23 @@ class Connection:
             if folded(name) in named:
                 raise Refused("1: %s already exists: %s" % (kind, named[folded(name)].name))
 
-    def declare(self, p, declaration, before):
+    def declare(self, p, table, declaration, before):
         """Each declaration may be refused in its turn, behind those in front of it."""
         kind, column, held = declaration
         if kind == "COLUMN":
             self.new_column(column, [c for k, c, h in before if k == kind])
         elif kind == "PRIMARY":
             if any(k == kind for k, c, h in before):
-                raise Refused("1: misuse of: " + p.table.name)
-            self.add_unique(p.table, column, held, p.table.key)
+                raise Refused("1: misuse of: " + table.name)
+            self.add_unique(table, column, held, table.key)
         elif kind == "UNIQUE":
-            self.add_unique(p.table, column, held, None)
+            self.add_unique(table, column, held, None)
         elif kind == "COLLATE":
             collation_named(held)
         elif kind == "DEFAULT":
             column.default = p.held(held, False)
         elif kind == "CHECK":
-            p.table.checks.append(p.held(held, True))
+            table.checks.append(p.held(held, True))
 
     def add_unique(self, table, column, held, rowid):
         """What a column's own constraint or one of the table makes unique, unless it is the rowid."""
@@ -326,11 +324,9 @@ class Connection:
             elif depth == 0 and kind in ("word", "name") and p.at - 1 > first and p.kind(-2) in ENDS:
                 names.append((name_of(p.tokens[p.at - 1]), first))
         behind = p.at
-        if p.takes("FROM"):
-            p.table = self.table(p.name())
-            p.shown = p.alias() or p.table.name
+        items, conjuncts = from_items(p, self.table) if p.takes("FROM") else ([], [])
         p.given = names
-        conjuncts = p.expr().conjuncts if p.takes("WHERE") else []
+        conjuncts += p.expr().conjuncts if p.takes("WHERE") else []
         p.given = []
         if p.kind() != "end":
             raise NotYet
@@ -341,31 +337,31 @@ class Connection:
         if p.at != behind:
             raise NotYet
         p.at = end
-        return self.shown(conjuncts, results, p.table.rows_in_order() if p.table else [[]])
+        return self.shown(conjuncts, results, rows_of(items))
 
     def result(self, p):
         if p.takes("*"):
-            if p.table is None:
+            if not p.items:
                 raise Refused("1: misuse of: *")
-            return p.table.values()
+            return all_columns(p.items)
         if p.kind() in ("word", "name") and p.kind(1) == "." and p.kind(2) == "*":
             name = p.name()
             p.at += 2
-            if p.table is None or not same(p.shown, name):
+            if not any(same(item.shown, name) for item in p.items):
                 raise Refused("1: no such table: " + name)
-            return p.table.values()
+            return columns_of(p.items, name)
         found = p.expr().value
         p.alias()
         return [found]
 
     def shown(self, conjuncts, results, rows):
         given = []
-        for row in rows:
+        for row, carried in rows:
             outs = [truth_of(c(row)) for c in conjuncts]
             if any(not isinstance(t, Bad) and t != 1 for t in outs):
                 continue
             values = [r(row) for r in results]
-            causes = causes_of(outs + values)
+            causes = carried | causes_of(outs + values)
             if causes:
                 return given, causes
             given.append(values)

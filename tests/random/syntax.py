@@ -124,11 +124,11 @@ def affinity_of(words):
 
 
 class Parser:
-    """A statement's tokens, the table whose columns its names are, what it is called, and whether columns may be named. Names are bound
-    while they are read, from left to right."""
+    """A statement's tokens, the items whose columns its names are, and whether columns may be named; `look_up` finds a column among the items.
+    Names are bound while they are read, from left to right."""
 
-    def __init__(self, tokens):
-        self.tokens, self.at, self.table, self.shown, self.given, self.names_columns = tokens, 0, None, None, [], True
+    def __init__(self, tokens, look_up):
+        self.tokens, self.at, self.items, self.given, self.names_columns, self.look_up = tokens, 0, [], [], True, look_up
 
     def kind(self, ahead=0):
         return self.tokens[self.at + ahead][0] if self.at + ahead < len(self.tokens) else "end"
@@ -376,12 +376,10 @@ class Parser:
     def column(self, name, table=None):
         shown = name if table is None else table + "." + name
         if not self.names_columns:
-            raise Refused("1: misuse of: " + next((c.name for c in self.table.columns[1:] if same(c.name, name)), name))
-        place = self.table.place(name) if self.table and (table is None or same(self.shown, table)) else None
-        if place is not None:
-            column = self.table.columns[place]
-            found = Bound(lambda row: row[place], affinity=column.affinity)
-            found.column = column.collation
+            declared = [c.name for item in self.items for c in item.columns]
+            raise Refused("1: misuse of: " + next((c for c in declared if same(c, name)), name))
+        found = self.look_up(self.items, name, table)
+        if found is not None:
             return found
         result = next((at for given, at in self.given if table is None and same(given, name)), None)
         if result is None:
