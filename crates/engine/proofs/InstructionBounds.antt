@@ -73,7 +73,7 @@ within_rows each size turns work is le =
 
 -- what one turn takes, where the statement has so many tokens and tables add so much
 each_few : (from : List FromItem) (tokens opened more shown filter stars tests results : ℕ) → 1 + shown + table_tokens from + filter ≤ tokens → stars ≤ 100 → stars ≤ 100 * columns_in from → columns_in from ≤ opened
-    → tests ≤ 16 * (tokens + opened) + more → results ≤ 2 * shown + stars → 6 * tests + 4 * results + 9 * length from + 6 + 16 ≤ 256 * (tokens + opened + more)
+    → tests ≤ 16 * (tokens + opened) + more → results ≤ 2 * shown + stars → 6 * tests + 4 * results + 11 * length from + 9 + 16 ≤ 256 * (tokens + opened + more)
 each_few [] tokens opened more shown filter stars tests results within hundred narrow wide few shows = omega (arith, within, hundred, narrow, wide, few, shows)
 each_few (i ∷ from) tokens opened more shown filter stars tests results within hundred narrow wide few shows = omega (arith, within, hundred, narrow, wide, few, shows)
 
@@ -222,9 +222,9 @@ module _ (asked : Asking) (hosts : HostMeanings) (entries : Entries) (lists : Li
       let more = nodes - 16 * (tokens + opened) in
       let shows : all_nodes b.results ≤ 2 * small.shown + small.stars = subst (λ n. n ≤ 2 * small.shown + small.stars) (sym (ap all_nodes at.results ∙ all_nodes-erased (marks_in q.from) q.results)) small.results in
       let tests : all_nodes (all_conjuncts b.from (conjuncts_of b)) ≤ 16 * (tokens + opened) + more = omega (arith, tests_nodes q b at, within_beyond nodes (16 * (tokens + opened))) in
-      let each = 6 * all_nodes (all_conjuncts b.from (conjuncts_of b)) + 4 * all_nodes b.results + 9 * length b.from + 6 in
+      let each = 6 * all_nodes (all_conjuncts b.from (conjuncts_of b)) + 4 * all_nodes b.results + 11 * length b.from + 9 in
       let few : each + 16 ≤ 256 * (tokens + opened + more) =
-      subst (λ n. 6 * all_nodes (all_conjuncts b.from (conjuncts_of b)) + 4 * all_nodes b.results + 9 * n + 6 + 16 ≤ 256 * (tokens + opened + more)) (sym (same_count (marks_in q.from) q.from b.from at.from))
+      subst (λ n. 6 * all_nodes (all_conjuncts b.from (conjuncts_of b)) + 4 * all_nodes b.results + 11 * n + 9 + 16 ≤ 256 * (tokens + opened + more)) (sym (same_count (marks_in q.from) q.from b.from at.from))
       (each_few q.from tokens opened more small.shown small.filter small.stars (all_nodes (all_conjuncts b.from (conjuncts_of b))) (all_nodes b.results) small.within small.hundred small.of_table (columns_few q.from) tests shows) in
       let turned : turns b around ≡ from_work ctx q.conjuncts q.from = turns_are q (conjuncts_of b) q.from b.from at.conjuncts at.from in
       omega (arith, steps-few b around, within_rows each (tokens + opened + more) (turns b around) (from_work ctx q.conjuncts q.from) turned few)

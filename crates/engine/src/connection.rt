@@ -11,6 +11,7 @@ ghost use Rattle.vm_core.specs.Meant.{meant};
 
 use crate::answers::{Done, Refusal};
 use crate::database::{Database, run_text};
+use crate::planning::JoinOrder;
 use crate::row_sink::RowSink;
 use eng_entry::is_same_name;
 use eng_value::{Cause, Row, Rows, Steps, StoredRow, Value};
@@ -60,6 +61,14 @@ impl Connection {
             database: Database::new(alloc),
             budget,
         }
+    }
+
+    /// From now on the loops of joins are in this order, as near as may be. No answer changes: it is for comparing how long one takes, and for
+    /// tests. A new connection takes the cheapest one.
+    pub fn set_join_order(&mut self, order: JoinOrder)
+        ensures { self.new ≡ self.old }
+    {
+        self.database.join_order = order;
     }
 
     /// Runs one statement and hands its rows to the sink. A parameter that is missing is NULL. Where each host that the statement

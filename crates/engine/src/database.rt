@@ -15,7 +15,7 @@ ghost use Rattle.vm_core.specs.Meant.{meant};
 
 use crate::answers::Done;
 use crate::executing::execute;
-use crate::planning::compiled_query;
+use crate::planning::{JoinOrder, compiled_query};
 use crate::preparing::{NewEntry, NewIndexEntry, Ready, prepare};
 use crate::row_sink::RowSink;
 use crate::running::Completed;
@@ -38,6 +38,7 @@ pub(crate) struct Database {
     pub(crate) tables: Tables,
     pub(crate) changes: u64,
     pub(crate) last_rowid: i64,
+    pub(crate) join_order: JoinOrder,
 }
 
 impl Database {
@@ -53,6 +54,7 @@ impl Database {
             tables: Tables::new(alloc),
             changes: 0,
             last_rowid: 0,
+            join_order: JoinOrder::Cheapest,
         }
     }
 
@@ -312,7 +314,8 @@ fn run_other<M: Meanings, R: RowSink, L: Ledger>(
     ensures faults { R.fault_count rows.old ≤ R.fault_count rows.new }
     ensures told { meant (λ b. verdicts (b.vtable, b.value)) hosts.new ≡ M.hosts }
 {
-    let Ok(program) = compiled(alloc, ready, params, &database.tables) else {
+    let order = database.join_order;
+    let Ok(program) = compiled(alloc, ready, params, &database.tables, order) else {
         return Err(Cause::Mem);
     };
     match execute::<M, R, L>(
@@ -337,6 +340,7 @@ fn compiled(
     ready: &Ready,
     params: &[Value],
     tables: &Tables,
+    order: JoinOrder,
 ) -> Result<Program, AllocError>
     ensures { IfOk result (λ p. PerformsWith params.now p (run_in ready.now) (λ x. steps_in x ready.now)) }
 {
@@ -346,7 +350,7 @@ fn compiled(
         Ready::CreateIndex(new) => compiled_index(alloc, &new.get().index),
         Ready::DropIndex(_) => compile_nothing(alloc),
         Ready::Insert(insert) => compile_insert(alloc, insert),
-        Ready::Select(select) => compiled_query(alloc, select, params, tables),
+        Ready::Select(select) => compiled_query(alloc, select, params, tables, order),
         Ready::Values(values) => gen_query::compile_values(alloc, values.as_slice()),
         Ready::Nothing => compile_nothing(alloc),
     }

@@ -20,5 +20,6 @@ mod unkept_rows;
 pub use answers::{Done, Refusal};
 pub use connection::Connection;
 pub use kept_rows::KeptRows;
+pub use planning::JoinOrder;
 pub use row_sink::{RowSink, Took};
 pub use vm_core::Hosts;

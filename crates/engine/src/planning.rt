@@ -1,19 +1,30 @@
 // The way by which a query reads its tables.
 ghost use Rattle.std.specs.Prelude.{IfOk};
 ghost use Rattle.gen_query.specs.Queries.{query_run, query_steps};
+ghost use Rattle.plan_tree.specs.Plans.{PlanFits};
 ghost use Rattle.vm_code.specs.Machine.{PerformsWith};
 
 use eng_index::{KeyTerm, Range};
 use eng_value::Value;
 use plan_best::Counts;
-use plan_join::order;
-use plan_tree::split;
+use plan_join::{order, order_as};
+use plan_tree::{Conjunct, JoinPlan, split};
 use sql_meaning::{BoundSelect, FromTable};
+use sqlite_items::Items;
 use std::alloc::{AllocError, Global};
 use vm_code::Program;
 use vm_tables::Tables;
 
-/// How many rows of an item's table a search finds, as far as an index of them stands.
+/// In which order the loops of a join are wanted. No answer depends on it, but how long it takes may.
+#[derive(Clone, Copy)]
+pub enum JoinOrder {
+    /// The one that seems to take least.
+    Cheapest,
+    /// As near as may be to the one of this number: 0 is the order of the text, and each order of n items has a number below n!.
+    Numbered(u64),
+}
+
+/// How many rows of an item's table a search finds, as far as an index of them stands; and how many it has, by no terms.
 #[derive(Clone, Copy)]
 struct RowCounts<'a> {
     alloc: Global,
@@ -24,6 +35,9 @@ struct RowCounts<'a> {
 impl Counts for RowCounts<'_> {
     fn found(&self, item: u32, terms: &[KeyTerm], range: &Range) -> Option<usize> {
         let table = self.from.get(item as usize)?.table;
+        if terms.is_empty() {
+            return Some(self.tables.row_count(table));
+        }
         self.tables.count(self.alloc, table, terms, range)
     }
 }
@@ -34,6 +48,7 @@ pub(crate) fn compiled_query(
     query: &BoundSelect,
     params: &[Value],
     tables: &Tables,
+    wanted: JoinOrder,
 ) -> Result<Program, AllocError>
     ensures { IfOk result (λ p. PerformsWith params.now p (query_run query.now) (query_steps query.now)) }
 {
@@ -44,6 +59,56 @@ pub(crate) fn compiled_query(
         tables,
         from,
     };
-    let plan = order(alloc, from, conjuncts.as_slice(), params, &counts)?;
+    let plan = planned(alloc, from, conjuncts.as_slice(), params, &counts, wanted)?;
     gen_query::compile(alloc, query, &plan)
+}
+
+/// The loops over the items of a FROM in the order that is wanted.
+fn planned<'a>(
+    alloc: Global,
+    from: &'a [FromTable],
+    conjuncts: &[Conjunct<'a>],
+    params: &[Value],
+    counts: &RowCounts,
+    wanted: JoinOrder,
+) -> Result<JoinPlan<'a>, AllocError>
+    ensures fits { IfOk result (λ p. PlanFits params.now from.now conjuncts.now p) }
+{
+    match wanted {
+        JoinOrder::Cheapest => order(alloc, from, conjuncts, params, counts),
+        JoinOrder::Numbered(number) => {
+            let places = places_by(alloc, from.len(), number)?;
+            order_as(alloc, from, conjuncts, params, counts, places.as_slice())
+        }
+    }
+}
+
+/// The places of so many items in the order of a number.
+fn places_by(alloc: Global, items: usize, number: u64) -> Result<Items<u32>, AllocError> {
+    let mut left = Vec::new(alloc);
+    for place in 0..items {
+        if let Ok(place) = u32::try_from(place) {
+            left.push(place)?;
+        }
+    }
+    let mut places = Items::new(alloc);
+    let mut code = number;
+    for _ in 0..items {
+        let count = left.len() as u64;
+        if let Some(place) = taken(&mut left, code) {
+            places.push(place)?;
+        }
+        code = code.checked_div(count).unwrap_or(0);
+    }
+    Ok(places)
+}
+
+/// One of those that are left, by a number.
+fn taken(left: &mut Vec<u32>, number: u64) -> Option<u32> {
+    let at = number.checked_rem(left.len() as u64)? as usize;
+    if at < left.len() {
+        Some(left.remove(at))
+    } else {
+        None
+    }
 }

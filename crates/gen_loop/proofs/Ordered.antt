@@ -1,15 +1,16 @@
 -- What is done one after the other.
-use Rattle.std.proofs.Common.{◌≡◌, List, [], ◌∷◌, ◌++◌, refl, sym, ap, ◌∙◌}
+use Rattle.std.proofs.Common.{◌≡◌, List, [], ◌∷◌, ◌++◌, if◌then◌else◌, length, refl, sym, ap, ◌∙◌}
 use Rattle.std.specs.List.{flat_map}
 use Rattle.std.proofs.lemmas.List.Concat.{flat_map-cons}
 use Rattle.std.specs.Option.{option_map, option_to_list}
 use Rattle.std.specs.Prelude.{Some, None}
 use Rattle.bound_tree.specs.Exprs.{BoundExpr}
+use Rattle.eng_value.specs.Arrangements.{arranged}
 use Rattle.eng_value.specs.Environments.{Environment, ItemRow, no_causes}
 use Rattle.eng_value.specs.StoredRows.{StoredRow}
 use Rattle.eng_value.specs.declared.out.Out.{Out}
-use Rattle.gen_loop.specs.Loops.{KeepsWritten, at_row, each, from_effect, nested, paired, passing, row_seen}
-use Rattle.plan_tree.specs.Plans.{looped, paired_with, pairs_by, planned, visited_by}
+use Rattle.gen_loop.specs.Loops.{KeepsWritten, at_row, each, gathering, nested, paired, passing, row_seen}
+use Rattle.plan_tree.specs.Plans.{gathered, looped, paired_with, pairs_by, planned, stands_before, visited_by}
 use Rattle.plan_tree.specs.declared.access.JoinPlan.{JoinPlan}
 use Rattle.plan_tree.specs.declared.access.Loop.{Loop}
 use Rattle.plan_tree.specs.declared.access.Pairs.{Pairs}
@@ -92,7 +93,7 @@ module _ (f : Effect) (sight : Sight) where
   pub nested-nil : (causes : Out) (x : Memory) → nested [] f sight causes x ≡ f sight causes x
   nested-nil causes x = and_then_done (f sight causes x)
 
-  pub from-nested : (p : JoinPlan) (causes : Out) (x : Memory) → from_effect p f sight causes x ≡ passing p.checks (nested p.loops f) sight no_causes x
+  pub from-nested : (p : JoinPlan) (causes : Out) (x : Memory) → gathering p f sight causes x ≡ passing p.checks (nested p.loops f) sight no_causes x
   from-nested p causes x = passing_nested p.checks p.loops (row_seen sight no_causes) x
 
   -- a conjunct rejects, or not
@@ -123,6 +124,10 @@ nested-keeps loops f keeps sight causes x y e =
 
 -- ---- rows that are seen do not matter to those of a plan
 
+pub gathered-in : (env : Environment) (seen : List ItemRow) (p : JoinPlan) (row : FromRow) → gathered (record env { rows = seen }) p row ≡ gathered env p row
+gathered-in env seen p row =
+    flat_map_same (looped (record env { rows = seen }) p.loops) (looped env p.loops) (passed env p.checks row) (looped-in env seen p.loops)
+
 pub planned-in : (env : Environment) (seen : List ItemRow) (p : JoinPlan) (row : FromRow) → planned (record env { rows = seen }) p row ≡ planned env p row
 planned-in env seen p row =
-    flat_map_same (looped (record env { rows = seen }) p.loops) (looped env p.loops) (passed env p.checks row) (looped-in env seen p.loops)
+    ap (λ rows. if p.sort then arranged (stands_before (length p.loops)) rows else rows) (gathered-in env seen p row)

@@ -85,7 +85,7 @@ t_tests m {a} {b} {causes} {label} {n} {f} g e p q x keeps drops = record {
     })
 
 -- loops inside a stretch
-pub t_nests : (m : Setting) {loops : List Loop} {a b : Draft} {lo causes : ℕ} {f : Effect} {n : Environment → ℕ} (k : Here → ℕ) (g : Labels) (e : Last) (p q : Claim) → Nests loops a b lo causes f n → ArePlaced a.cursors loops → ((h0 h : Here) → p h0 h → n (environment_of m h) ≤ k h0) → ((h0 h : Here) → p h0 h → Stand loops h.scene.cursors) → ((h0 h : Here) → p h0 h → Shut a.cursors h.scene.cursors) → ((h0 h : Here) (regs : List Out) (x : Memory) → p h0 h → effect_at m f lo causes h ≡ Done x → take lo regs ≡ x.own → Keeps lo a.next h.regs regs → q h0 (record h { regs = regs; store = x.store; shared = x.shared })) → ((h0 h : Here) (c : CauseSet) (x : Memory) → p h0 h → effect_at m f lo causes h ≡ Fails c x → e h0 (GivesUp c) x.shared) → Triple m a b k g e p q
+pub t_nests : (m : Setting) {loops : List Loop} {a b : Draft} {lo causes : ℕ} {f : Effect} {n : Environment → ℕ} (k : Here → ℕ) (g : Labels) (e : Last) (p q : Claim) → Nests loops a b lo causes f n → ArePlaced a.cursors loops → ((h0 h : Here) → p h0 h → n (environment_of m h) ≤ k h0) → ((h0 h : Here) → p h0 h → Stand loops h.scene.cursors) → ((h0 h : Here) → p h0 h → Shut a.cursors h.scene.cursors) → ((h0 h : Here) (regs : List Out) (x : Memory) → p h0 h → effect_at m f lo causes h ≡ Done x → length regs ≡ length h.regs → take lo regs ≡ x.own → Keeps lo a.next h.regs regs → q h0 (record h { regs = regs; store = x.store; shared = x.shared })) → ((h0 h : Here) (c : CauseSet) (x : Memory) → p h0 h → effect_at m f lo causes h ≡ Fails c x → e h0 (GivesUp c) x.shared) → Triple m a b k g e p q
 t_nests m {loops} {a} {b} {lo} {causes} {f} {n} k g e p q d placed within stand shut done fails = record {
   extends = extends d.grows;
   runs = λ u at h h0 s room start pre.
@@ -101,7 +101,7 @@ t_nests m {loops} {a} {b} {lo} {causes} {f} {n} k g e p q d placed within stand 
       way = leads_more m (k h0) (within h0 (here s) pre) d.way;
       long = d.long;
       wide = refl;
-      holds = done h0 (here s) d.regs x pre is d.own d.keeps;
+      holds = done h0 (here s) d.regs x pre is d.long d.own d.keeps;
     })
     by at h0 s pre (Quit x) is d = absurd d
     by at h0 s pre (Fails c x) is d = ends (GivesUp c) x.shared (leads_more m (k h0) (within h0 (here s) pre) d) (fails h0 (here s) c x pre is)
@@ -287,7 +287,7 @@ module _ (m : Setting) (a : Draft) (l : Loop) (loops : List Loop) (lo causes : �
           ∙ ap (λ w. and_then w (each (pair_at h0) (rest h0))) (ap (λ s. K s (read h.regs mine) (memory_of lo h)) (sym pre.1.0) ∙ is)
 
       body : Triple m t y N g last body_due (pair_done x rest)
-      body = t_nests m N g last body_due (pair_done x rest) nests (subst (λ n. ArePlaced n loops) (sym depth) placed.3) (λ h0 h pre. omega (arith, within h0, ap (λ (s : Sight). nK s.env) pre.1.0)) (λ h0 h pre. stand_still loops l.place (Open l.table None) h0.scene.cursors h.scene.cursors (cursors_in h0 h pre.1.1) placed.2 pre.1.1.stand) (λ h0 h pre. subst (λ n. Shut n h.scene.cursors) (sym depth) (shut_still a.cursors l.place (Open l.table None) h0.scene.cursors h.scene.cursors (cursors_in h0 h pre.1.1) placed.0 pre.1.1.shut)) (λ h0 h regs w pre is own same. (
+      body = t_nests m N g last body_due (pair_done x rest) nests (subst (λ n. ArePlaced n loops) (sym depth) placed.3) (λ h0 h pre. omega (arith, within h0, ap (λ (s : Sight). nK s.env) pre.1.0)) (λ h0 h pre. stand_still loops l.place (Open l.table None) h0.scene.cursors h.scene.cursors (cursors_in h0 h pre.1.1) placed.2 pre.1.1.stand) (λ h0 h pre. subst (λ n. Shut n h.scene.cursors) (sym depth) (shut_still a.cursors l.place (Open l.table None) h0.scene.cursors h.scene.cursors (cursors_in h0 h pre.1.1) placed.0 pre.1.1.shut)) (λ h0 h regs w pre is long own same. (
         pre.0,
         (
           record {

@@ -1,10 +1,10 @@
 -- What the loops of a plan do with the rows that they give, and in how many instructions at most.
-use Rattle.std.specs.Prelude.{◌≡◌, ℕ, ◌+◌, List, [], ◌∷◌, length, sum_by}
+use Rattle.std.specs.Prelude.{◌≡◌, ℕ, ◌+◌, ◌*◌, List, [], ◌∷◌, if◌then◌else◌, length, sum_by}
 use Rattle.bound_tree.specs.Exprs.{BoundExpr}
 use Rattle.eng_value.specs.Environments.{Environment, no_causes}
 use Rattle.eng_value.specs.declared.out.Out.{Out}
 use Rattle.gen_expr.specs.Steps.{steps_of}
-use Rattle.plan_tree.specs.Plans.{looped, pairs_by, planned}
+use Rattle.plan_tree.specs.Plans.{gathered, looped, pairs_by, planned}
 use Rattle.plan_tree.specs.Visits.{at_item, key_expr, keys_in, visited}
 use Rattle.plan_tree.specs.declared.access.JoinPlan.{JoinPlan}
 use Rattle.plan_tree.specs.declared.access.Key.{Key}
@@ -49,7 +49,11 @@ paired l f sight causes x = each (at_row f sight) (pairs_by sight.env l (row_see
 abbrev pub nested : List Loop → Effect → Effect
 nested loops f sight causes x = each (at_row f sight) (looped sight.env loops (row_seen sight causes)) x
 
--- with each row of a plan, which begins without causes
+-- with each row that the loops of a plan give, which begins without causes
+abbrev pub gathering : JoinPlan → Effect → Effect
+gathering p f sight causes x = each (at_row f sight) (gathered sight.env p (row_seen sight no_causes)) x
+
+-- with each row of a plan, in its order
 abbrev pub from_effect : JoinPlan → Effect → Effect
 from_effect p f sight causes x = each (at_row f sight) (planned sight.env p (row_seen sight no_causes)) x
 
@@ -86,9 +90,33 @@ abbrev pub nested_steps : List Loop → ℕ → Environment → ℕ
 nested_steps [] most env = most
 nested_steps (l ∷ loops) most env = loop_steps l (nested_steps loops most) env
 
+-- of the loops of a plan and what stands in front of them
+abbrev pub gathered_steps : JoinPlan → ℕ → Environment → ℕ
+gathered_steps p most env = 1 + conjuncts_steps p.checks + nested_steps p.loops most env
+
+-- the rows that the loops of a plan give
+abbrev pub rows_gathered : JoinPlan → Environment → List FromRow
+rows_gathered p env = gathered env p (record { rows = env.rows; causes = no_causes })
+
+-- a row is put into a sorter by the rowids of its items and its causes
+abbrev pub put_steps : JoinPlan → ℕ
+put_steps p = length p.loops + 2
+
+-- it is taken from the sorter again, and each item has its cursor back on its row
+abbrev pub taken_steps : JoinPlan → ℕ
+taken_steps p = length p.loops + 2
+
+-- the sorter is opened and sorted once
+abbrev pub sorted_steps : JoinPlan → ℕ → Environment → ℕ
+sorted_steps p most env = gathered_steps p (put_steps p) env + 2 + length (rows_gathered p env) * (taken_steps p + most)
+
+-- in the order of a plan
+abbrev pub ordered_steps : JoinPlan → ℕ → Environment → ℕ
+ordered_steps p most env = if p.sort then sorted_steps p most env else gathered_steps p most env
+
 -- each cursor is opened, and all are closed at once
 abbrev pub plan_steps : JoinPlan → ℕ → Environment → ℕ
-plan_steps p most env = length p.loops + 2 + conjuncts_steps p.checks + nested_steps p.loops most env
+plan_steps p most env = length p.loops + 1 + ordered_steps p most env
 
 abbrev pub from_cost : JoinPlan → ℕ → Cost
 from_cost p most sight causes x = plan_steps p most sight.env

@@ -1,5 +1,7 @@
 -- What the stretches of the code of loops do.
 use Rattle.std.specs.Prelude.{◌≡◌, ◌≢◌, ⊤, ℕ, ◌+◌, ◌<◌, List, [], ◌∷◌, length, map, sum_by, None}
+use Rattle.std.specs.List.{AllByRecursion, range_with_len}
+use Rattle.eng_value.specs.Arrangements.{Shuffled}
 use Rattle.eng_value.specs.Environments.{Environment}
 use Rattle.gen_loop.specs.Loops.{key_steps}
 use Rattle.plan_tree.specs.Visits.{IsCounted, key_outs}
@@ -8,7 +10,7 @@ use Rattle.plan_tree.specs.declared.access.Path.{Path}
 use Rattle.plan_tree.specs.declared.access.Path.TheVariants as path
 use Rattle.plan_tree.specs.declared.access.Search.{Search}
 use Rattle.vm_code.specs.declared.op.Op.TheVariants as op
-use Rattle.vm_code.specs.Draft.{Draft, released, with_cursor, with_op}
+use Rattle.vm_code.specs.Draft.{Draft, released, with_op}
 use Rattle.vm_code.specs.Tracked.{Steady}
 use Rattle.vm_code.specs.Frames.{Did, Effect, Fills, Grows, Holds, Ready, Shut, effect_at, environment_of, here, no_calls}
 use Rattle.vm_code.specs.Machine.{Cursor, Open, Setting, State, cursor_at}
@@ -29,10 +31,18 @@ Comes a b cursor end (path.Search s) = Seeks a b cursor end s
 
 -- ---- cursors
 
--- the next cursors are open on the tables of loops
+-- so many cursors more
+abbrev pub with_cursors : Draft → ℕ → Draft
+with_cursors d n = record d { cursors = d.cursors + n }
+
+-- the cursors in the places of loops are open on their tables
+abbrev pub opened_each : Draft → List Loop → Draft
+opened_each d [] = d
+opened_each d (l ∷ loops) = opened_each (with_op d (op.OpenRead l.place l.table)) loops
+
+-- a cursor more for each loop, and those in their places are open
 abbrev pub opened_all : Draft → List Loop → Draft
-opened_all d [] = d
-opened_all d (l ∷ loops) = opened_all (with_op (with_cursor d) (op.OpenRead d.cursors l.table)) loops
+opened_all d loops = opened_each (with_cursors d (length loops)) loops
 
 -- ---- loops
 
@@ -51,13 +61,13 @@ abbrev pub ArePlaced : ℕ → List Loop → Type 0
 ArePlaced n [] = ⊤
 ArePlaced n (l ∷ loops) = (l.place < n) × IsCounted l.path × Apart l.place loops × ArePlaced n loops
 
--- the same, where their cursors are counted up from one
-abbrev pub AreInTurn : ℕ → List Loop → Type 0
-AreInTurn c [] = ⊤
-AreInTurn c (l ∷ loops) = (l.place ≡ c) × IsCounted l.path × AreInTurn (c + 1) loops
-
 abbrev pub places_of : List Loop → List ℕ
 places_of loops = map (λ (l : Loop). l.place) loops
+
+-- the places of loops are the first ones, each once, in any order; each has as many keys as its bounds ask for
+pub record AreSpread (loops : List Loop) : Type 0 where
+  pub places : Shuffled (places_of loops) (range_with_len 0 (length loops))
+  pub counted : AllByRecursion (λ (l : Loop). IsCounted l.path) loops
 
 -- code with an effect, which finds the cursors of these loops open and on no row, and those from its own on closed, and leaves all so
 pub record Nests (loops : List Loop) (a b : Draft) (lo causes : ℕ) (f : Effect) (cost : Environment → ℕ) : Type 0 where

@@ -6,13 +6,17 @@
 //! contract: conjuncts (`Sifts`), what comes onto the first row of a path (`Comes`), a loop over what is left of the plan (`Nests`), and the
 //! cursors, which are opened in front of all loops and closed behind them. The cursor of an item has the number of its place, so that
 //! expressions read the item's row by it, and NULLs where it is on no row: that is what a LEFT JOIN leaves where a row stays alone.
+//! Where the loops stand in another order than the items of the FROM, they put each row into a sorter, as the rowids of its items and its
+//! causes, and the body runs in a walk over the sorter (`Walks`), with each item's cursor back on its row.
 //! Begin with `LoopBody`, then `emit`.
 #![tactic(auto)]
 
 mod body;
+mod gathering;
 mod nesting;
 mod opening;
 mod sifting;
+mod sorting;
 mod visiting;
 
 pub use body::LoopBody;

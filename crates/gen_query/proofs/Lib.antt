@@ -2,6 +2,9 @@ mod Gathering
 mod Listing
 mod Shown
 mod Following
+mod Alike
+mod Widening
 mod Fitting
 mod Performing
+mod Counting
 pub mod Sizing

@@ -4,9 +4,9 @@ use Rattle.std.specs.Prelude.{replicate}
 use Rattle.eng_value.specs.Environments.{Surroundings, environment, null_row}
 use Rattle.eng_value.specs.declared.value.Value.{Value}
 use Rattle.gen_loop.specs.Loops.{from_cost, from_effect, plan_steps}
-use Rattle.gen_loop.specs.Stretches.{AreInTurn}
+use Rattle.gen_loop.specs.Stretches.{AreSpread}
 use Rattle.gen_query.specs.Queries.{by_world, conjuncts_of, gives, query_run, query_steps, row_effect, row_steps, rows_in_turn_steps, run_by, values_effect, values_items, values_run, values_steps, with_given}
-use Rattle.gen_query.proofs.Fitting.{in-turn, items_planned, long-loops, planned-fits, planned-gives}
+use Rattle.gen_query.proofs.Fitting.{cursors_of, items-same, items_among, long-loops, over-spread, planned-fits, planned-gives, steps-same}
 use Rattle.gen_query.proofs.Listing.{gives_done, gives_fails, gives_quit}
 use Rattle.gen_query.proofs.Sizing.{plan-few}
 use Rattle.plan_tree.specs.Plans.{PlanFits}
@@ -118,28 +118,31 @@ ended-balanced z steady p is = balanced_of [] z op.Halt p steady refl refl is
 
 -- ---- a query
 
-module _ (z : Draft) (q : BoundSelect) (p : JoinPlan) (x : AreInTurn 0 p.loops → Does no_calls (begun []) z 0 0 None (from_effect p (row_effect q.results)) (from_cost p (row_steps q.results))) (wide : z.cursors ≡ length p.loops) (program : Program) (is : IsProgramOf (with_op z op.Halt) program) where
+module _ (z : Draft) (q : BoundSelect) (p : JoinPlan) (x : AreSpread p.loops → Does no_calls (begun []) z 0 0 None (from_effect p (row_effect q.results)) (from_cost p (row_steps q.results))) (wide : z.cursors ≡ cursors_of p) (program : Program) (is : IsProgramOf (with_op z op.Halt) program) where
   -- at the start, where no item has a row
   abbrev steps_planned : Surroundings → ℕ
-  steps_planned around = plan_steps p (row_steps q.results) (environment around [] [] (no_rows (length p.loops)).rows)
+  steps_planned around = plan_steps p (row_steps q.results) (environment around [] [] (no_rows (cursors_of p)).rows)
 
-  starts : (m : Setting) (h : Here) → Begins z.cursors h → environment_of m h ≡ environment (surroundings_of m h.shared) [] [] (no_rows (length p.loops)).rows
-  starts m h b = sees_none m (length p.loops) h (subst (λ n. Begins n h) wide b)
+  starts : (m : Setting) (h : Here) → Begins z.cursors h → environment_of m h ≡ environment (surroundings_of m h.shared) [] [] (no_rows (cursors_of p)).rows
+  starts m h b = sees_none m (cursors_of p) h (subst (λ n. Begins n h) wide b)
 
   -- it gives the items of the rows of the plan, whether it fits or not
-  visits : AreInTurn 0 p.loops → Performs program (λ around last_rowid. run_by around.world last_rowid (items_planned q p around)) (λ around. steps_planned around + 1)
-  visits turn =
-      items-performed z (from_effect p (row_effect q.results)) (items_planned q p) (from_cost p (row_steps q.results)) steps_planned (x turn) (λ m h b. planned-gives q p (surroundings_of m h.shared) (sight_of m h) (starts m h b) (read h.regs 0) (memory_of 0 h)) (λ m h b. ap (plan_steps p (row_steps q.results)) (starts m h b)) program is
+  visits : AreSpread p.loops → Performs program (λ around last_rowid. run_by around.world last_rowid (items_among (cursors_of p) q p around)) (λ around. steps_planned around + 1)
+  visits spread =
+      items-performed z (from_effect p (row_effect q.results)) (items_among (cursors_of p) q p) (from_cost p (row_steps q.results)) steps_planned (x spread) (λ m h b. planned-gives (cursors_of p) q p (surroundings_of m h.shared) (sight_of m h) (starts m h b) (read h.regs 0) (memory_of 0 h)) (λ m h b. ap (plan_steps p (row_steps q.results)) (starts m h b)) program is
 
   -- and these are those of the query where it fits
   pub query-performs : (params : List Value) → PlanFits params q.from (conjuncts_of q) p → PerformsWith params program (query_run q) (query_steps q)
   query-performs params fits around last_rowid same sound =
-      let ran = visits (in-turn 0 q.from p.loops fits.over) around last_rowid sound in
-      let long : length p.loops ≡ length q.from = long-loops 0 q.from p.loops fits.over in
-      let few : steps_planned around + 1 ≤ query_steps q around = subst (λ n. plan_steps p (row_steps q.results) (environment around [] [] (no_rows n).rows) + 1 ≤ query_steps q around) (sym long) (plan-few q p params fits around same) in
+      let spread = over-spread q.from p.loops fits.over in
+      let ran = visits spread around last_rowid sound in
+      let long : length p.loops ≡ length q.from = long-loops q.from p.loops fits.over in
+      let fewest : plan_steps p (row_steps q.results) (environment around [] [] (no_rows (length p.loops)).rows) + 1 ≤ query_steps q around = subst (λ n. plan_steps p (row_steps q.results) (environment around [] [] (no_rows n).rows) + 1 ≤ query_steps q around) (sym long) (plan-few q p params fits around same) in
+      let few : steps_planned around + 1 ≤ query_steps q around = subst (λ n. n + 1 ≤ query_steps q around) (sym (steps-same p (row_steps q.results) around spread)) fewest in
       let m = setting around.hosts around.ask around.params program in
       let run : List Item → Run = λ l. run_by around.world last_rowid l in
-      subst (λ l. Ends m (query_steps q around) (start program around.world last_rowid) (run l).ending (run l).shared) (planned-fits q p params fits around same) (leads_more m (query_steps q around) few ran)
+      let items = items-same q p around spread ∙ planned-fits q p params fits around same sound.ordered in
+      subst (λ l. Ends m (query_steps q around) (start program around.world last_rowid) (run l).ending (run l).shared) items (leads_more m (query_steps q around) few ran)
 
 -- ---- VALUES
 

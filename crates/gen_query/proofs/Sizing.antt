@@ -1,5 +1,5 @@
 -- How many instructions a query takes by how large it is.
-use Rattle.std.proofs.Common.{◌≡◌, ℕ, suc, cond, ◌+◌, ◌*◌, ◌≤◌, List, [], ◌∷◌, ◌++◌, length, flat_map, refl, sym, ap, ◌∙◌, subst, arith}
+use Rattle.std.proofs.Common.{◌≡◌, ℕ, suc, cond, ◌+◌, ◌*◌, ◌≤◌, List, [], ◌∷◌, ◌++◌, length, flat_map, map, refl, sym, ap, ◌∙◌, subst, arith}
 use Rattle.std.specs.Prelude.{Bool, true, false, sum_by}
 use Rattle.std.specs.List.{filter}
 use Rattle.std.proofs.Math.Nat.{mul-le-mul, mul-le-mul_left, mul-le-mul_right}
@@ -7,21 +7,23 @@ use Rattle.std.proofs.lemmas.List.Sums.{sum_by-append, sum_by-cons}
 use Rattle.std.proofs.lemmas.List.Concat.{flat_map-cons}
 use Rattle.bound_size.specs.Sizes.{all_nodes}
 use Rattle.bound_tree.specs.Exprs.{BoundExpr}
-use Rattle.eng_value.specs.Environments.{Environment, Surroundings, environment}
+use Rattle.eng_value.specs.Arrangements.{Shuffled, empty, keep, onward, swap}
+use Rattle.eng_value.specs.Environments.{Environment, Surroundings, environment, no_causes}
 use Rattle.eng_value.specs.StoredRows.{StoredRow}
 use Rattle.eng_value.specs.declared.value.Value.{Value}
 use Rattle.gen_expr.specs.Steps.{steps_of}
 use Rattle.gen_expr.proofs.Bounds.{steps_and_two_within}
-use Rattle.gen_loop.specs.Loops.{alone_steps, conjuncts_steps, loop_steps, nested_steps, path_steps, plan_steps, turn_steps as turn_steps_of}
+use Rattle.gen_loop.specs.Loops.{alone_steps, conjuncts_steps, gathered_steps, loop_steps, nested_steps, ordered_steps, path_steps, plan_steps, put_steps, sorted_steps, taken_steps, turn_steps as turn_steps_of}
 use Rattle.gen_query.specs.Queries.{StepsAreFew, ValuesStepsAreFew, conjuncts_of, product_turns, query_steps, results_steps, row_steps, rows_in_turn_steps, tested_steps, turn_steps, turns_over, alone_turns}
+use Rattle.gen_query.proofs.Counting.{gathered-few, nested-more}
 use Rattle.gen_query.proofs.Fitting.{long-loops}
-use Rattle.plan_tree.specs.Plans.{AreOver, IsFewOf, IsSmall, PlanFits, all_conjuncts, ons_in, UnlessLeft, visited_by}
+use Rattle.plan_tree.specs.Plans.{AreOver, IsFewOf, IsSmall, PlanFits, UnlessLeft, all_conjuncts, item_of, items_from, ons_in, visited_by}
 use Rattle.plan_tree.specs.Visits.{CountsSides, at_item, is_visited, visited}
 use Rattle.plan_tree.specs.declared.access.JoinPlan.{JoinPlan}
 use Rattle.plan_tree.specs.declared.access.Loop.{Loop}
 use Rattle.plan_tree.specs.declared.access.Pairs.{Pairs}
 use Rattle.plan_tree.specs.declared.access.Pairs.TheVariants.{Each, OrAlone}
-use Rattle.sql_meaning.specs.Products.{no_rows}
+use Rattle.sql_meaning.specs.Products.{FromRow, no_rows}
 use Rattle.sql_meaning.specs.World.{rows_at}
 use Rattle.eng_value.specs.Environments.{Lists}
 use Rattle.sql_meaning.specs.declared.bound.BoundSelect.{BoundSelect}
@@ -128,7 +130,7 @@ tests-flat (l ∷ loops) =
 counts_sides : CountsSides (λ e. steps_of e + 1)
 counts_sides op sides a b = (omega arith, omega arith)
 
-module _ (from : List FromTable) (conjuncts : List BoundExpr) (p : JoinPlan) (small : IsSmall from conjuncts p) (over : AreOver 0 from p.loops) where
+module _ (from : List FromTable) (conjuncts : List BoundExpr) (p : JoinPlan) (small : IsSmall from conjuncts p) (over : AreOver from p.loops) where
   abbrev all : List BoundExpr
   all = all_conjuncts from conjuncts
 
@@ -148,34 +150,58 @@ module _ (from : List FromTable) (conjuncts : List BoundExpr) (p : JoinPlan) (sm
       let checks = conjuncts_steps p.checks in
       let more : checks ≤ turns * checks = subst (λ n. n ≤ turns * checks) (omega arith) (mul-le-mul_right checks some) in
       let both : turns * (checks + (sum_by own_steps p.loops + most)) ≡ turns * checks + turns * (sum_by own_steps p.loops + most) = omega arith in
-      let long : length p.loops ≡ length from = long-loops 0 from p.loops over in
+      let long : length p.loops ≡ length from = long-loops from p.loops over in
       let less : checks + (sum_by own_steps p.loops + most) ≤ tested_steps all + 8 * length from + most = omega (arith, own-parts p.loops, tested-few, keys-few, long) in
       omega (arith, more, both, mul-le-mul_left turns less, le)
 
 -- ---- by how many turns there are
 
-product-same : (x : Surroundings) (k : ℕ) (from : List FromTable) (loops : List Loop) → AreOver k from loops → product_of x.world loops ≡ product_turns x from
-product-same x k [] [] over = refl
-product-same x k [] (l ∷ loops) over = absurd over
-product-same x k (f ∷ from) [] over = absurd over
-product-same x k (f ∷ from) (l ∷ loops) over =
-    ap (λ t. (1 + length (rows_at x.world t)) * product_of x.world loops) over.0.table
-    ∙ ap (λ n. (1 + length (rows_at x.world f.table)) * n) (product-same x (suc k) from loops over.1)
+-- of items by their tables
+product_by : Lists → List (ℕ × ℕ) → ℕ
+product_by tables [] = 1
+product_by tables (i ∷ items) = (1 + length (rows_at tables i.1)) * product_by tables items
+
+product-loops : (tables : Lists) (loops : List Loop) → product_of tables loops ≡ product_by tables (map item_of loops)
+unfolding product_by
+product-loops tables [] = refl
+product-loops tables (l ∷ loops) = ap (λ n. (1 + length (rows_at tables l.table)) * n) (product-loops tables loops)
+
+product-from : (x : Surroundings) (k : ℕ) (from : List FromTable) → product_by x.world (items_from k from) ≡ product_turns x from
+unfolding product_by
+product-from x k [] = refl
+product-from x k (f ∷ from) = ap (λ n. (1 + length (rows_at x.world f.table)) * n) (product-from x (suc k) from)
+
+-- in any order
+product-shuffled : (tables : Lists) {xs ys : List (ℕ × ℕ)} → Shuffled xs ys → product_by tables xs ≡ product_by tables ys
+unfolding product_by
+product-shuffled tables empty = refl
+product-shuffled tables (keep i more) = ap (λ n. (1 + length (rows_at tables i.1)) * n) (product-shuffled tables more)
+product-shuffled tables (swap i j items) =
+    let a = length (rows_at tables i.1) in
+    let b = length (rows_at tables j.1) in
+    let n = product_by tables items in
+    let same : (1 + a) * ((1 + b) * n) ≡ (1 + b) * ((1 + a) * n) = omega arith in
+    same
+product-shuffled tables (onward first then_so) = product-shuffled tables first ∙ product-shuffled tables then_so
+
+product-same : (x : Surroundings) (from : List FromTable) (loops : List Loop) → AreOver from loops → product_of x.world loops ≡ product_turns x from
+product-same x from loops over =
+    product-loops x.world loops ∙ product-shuffled x.world over.items ∙ product-from x 0 from
 
 -- what the loops of a plan take at the start
 abbrev Few : List FromTable → List BoundExpr → List Loop → ℕ → Surroundings → Type 0
 Few from conjuncts loops most x =
     (1 ≤ turns_over from conjuncts x) × (nested_steps loops most (environment x [] [] (no_rows (length from)).rows) ≤ turns_over from conjuncts x * (sum_by own_steps loops + most))
 
-by_product : (from : List FromTable) (conjuncts : List BoundExpr) (loops : List Loop) (most : ℕ) (x : Surroundings) → AreOver 0 from loops → (1 ≤ product_turns x from) × (nested_steps loops most (environment x [] [] (no_rows (length from)).rows) ≤ product_turns x from * (sum_by own_steps loops + most))
+by_product : (from : List FromTable) (conjuncts : List BoundExpr) (loops : List Loop) (most : ℕ) (x : Surroundings) → AreOver from loops → (1 ≤ product_turns x from) × (nested_steps loops most (environment x [] [] (no_rows (length from)).rows) ≤ product_turns x from * (sum_by own_steps loops + most))
 by_product from conjuncts loops most x over =
-    let same = product-same x 0 from loops over in (
+    let same = product-same x from loops over in (
       subst (λ n. 1 ≤ n) same (some_product x.world loops),
       subst (λ n. nested_steps loops most (environment x [] [] (no_rows (length from)).rows) ≤ n * (sum_by own_steps loops + most)) same (nested_few loops most (environment x [] [] (no_rows (length from)).rows)),
     )
 
 -- an item that stands alone, by how it is joined
-few-alone : (f : FromTable) (join : Join) (conjuncts : List BoundExpr) (l : Loop) (most : ℕ) (x : Surroundings) → AreOver 0 (f ∷ []) (l ∷ []) → UnlessLeft join (length (visited_by (environment x [] [] []) l (no_rows 1)) ≤ rows_counted x f.indexes conjuncts (rows_at x.world f.table)) → (1 ≤ alone_turns f join conjuncts x) × (nested_steps (l ∷ []) most (environment x [] [] (no_rows 1).rows) ≤ alone_turns f join conjuncts x * (sum_by own_steps (l ∷ []) + most))
+few-alone : (f : FromTable) (join : Join) (conjuncts : List BoundExpr) (l : Loop) (most : ℕ) (x : Surroundings) → AreOver (f ∷ []) (l ∷ []) → UnlessLeft join (length (visited_by (environment x [] [] []) l (no_rows 1)) ≤ rows_counted x f.indexes conjuncts (rows_at x.world f.table)) → (1 ≤ alone_turns f join conjuncts x) × (nested_steps (l ∷ []) most (environment x [] [] (no_rows 1).rows) ≤ alone_turns f join conjuncts x * (sum_by own_steps (l ∷ []) + most))
 few-alone f Inner conjuncts l most x over few =
     let env = environment x [] [] (no_rows 1).rows in
     let rows = rows_counted x f.indexes conjuncts (rows_at x.world f.table) in
@@ -188,11 +214,12 @@ at_join : (join : Join) (P : Surroundings → Type 0) (x : Surroundings) → Unl
 at_join Inner P x holds = holds x
 at_join (Left ons) P x holds = tt
 
-few-turns : (params : List Value) (from : List FromTable) (conjuncts : List BoundExpr) (loops : List Loop) (most : ℕ) (x : Surroundings) → x.params ≡ params → AreOver 0 from loops → IsFewOf params from conjuncts loops → Few from conjuncts loops most x
+few-turns : (params : List Value) (from : List FromTable) (conjuncts : List BoundExpr) (loops : List Loop) (most : ℕ) (x : Surroundings) → x.params ≡ params → AreOver from loops → IsFewOf params from conjuncts loops → Few from conjuncts loops most x
 few-turns params [] conjuncts loops most x same over few = by_product [] conjuncts loops most x over
 few-turns params (f ∷ g ∷ from) conjuncts loops most x same over few = by_product (f ∷ g ∷ from) conjuncts loops most x over
-few-turns params (f ∷ []) conjuncts [] most x same over few = absurd over
-few-turns params (f ∷ []) conjuncts (l ∷ k ∷ loops) most x same over few = absurd over.1
+few-turns params (f ∷ []) conjuncts [] most x same over few = absurd (omega (arith, long-loops (f ∷ []) [] over))
+few-turns params (f ∷ []) conjuncts (l ∷ k ∷ loops) most x same over few =
+    absurd (omega (arith, long-loops (f ∷ []) (l ∷ k ∷ loops) over))
 few-turns params (f ∷ []) conjuncts (l ∷ []) most x same over few =
     few-alone f f.join conjuncts l most x over (with_params f.join (at_join f.join (λ y. y.params ≡ params → length (visited_by (environment y [] [] []) l (no_rows 1)) ≤ rows_counted y f.indexes conjuncts (rows_at y.world f.table)) x few))
   where
@@ -200,13 +227,35 @@ few-turns params (f ∷ []) conjuncts (l ∷ []) most x same over few =
     with_params Inner holds = holds same
     with_params (Left ons) holds = tt
 
+-- what the rows of a plan take, whether they are sorted or not
+ordered-few : (p : JoinPlan) (most : ℕ) (env : Environment) → ordered_steps p most env ≤ 3 + conjuncts_steps p.checks + nested_steps p.loops (put_steps p + (taken_steps p + most)) env
+ordered-few p most env = by p.sort
+  where
+    row : FromRow
+    row = record { rows = env.rows; causes = no_causes }
+
+    sorted : sorted_steps p most env ≤ 3 + conjuncts_steps p.checks + nested_steps p.loops (put_steps p + (taken_steps p + most)) env
+    sorted = omega (arith, gathered-few env (put_steps p) (taken_steps p + most) p row)
+
+    by : (sort : Bool) → cond sort (sorted_steps p most env) (gathered_steps p most env) ≤ 3 + conjuncts_steps p.checks + nested_steps p.loops (put_steps p + (taken_steps p + most)) env
+    by true = sorted
+    by false =
+        let more : put_steps p + taken_steps p + most ≡ put_steps p + (taken_steps p + most) = omega arith in
+        let fewer = nested-more p.loops most (put_steps p + taken_steps p) env in
+        let same : most + (put_steps p + taken_steps p) ≡ put_steps p + (taken_steps p + most) = omega arith in
+        omega (arith, fewer, ap (λ n. nested_steps p.loops n env) same)
+
 -- a program in the loops of a plan that fits, and its end
 pub plan-few : (q : BoundSelect) (p : JoinPlan) (params : List Value) → PlanFits params q.from (conjuncts_of q) p → (x : Surroundings) → x.params ≡ params → plan_steps p (row_steps q.results) (environment x [] [] (no_rows (length q.from)).rows) + 1 ≤ query_steps q x
 plan-few q p params fits x same =
-    let most = row_steps q.results in
+    let env : Environment = environment x [] [] (no_rows (length q.from)).rows in
+    let most : ℕ = put_steps p + (taken_steps p + row_steps q.results) in
     let few = few-turns params q.from (conjuncts_of q) p.loops most x same fits.over fits.few in
-    let all = turns-few q.from (conjuncts_of q) p fits.small fits.over most (turns_over q.from (conjuncts_of q) x) (nested_steps p.loops most (environment x [] [] (no_rows (length q.from)).rows)) few.0 few.1 in
-    omega (arith, all, long-loops 0 q.from p.loops fits.over)
+    let all = turns-few q.from (conjuncts_of q) p fits.small fits.over most (turns_over q.from (conjuncts_of q) x) (nested_steps p.loops most env) few.0 few.1 in
+    let long = long-loops q.from p.loops fits.over in
+    let turn : tested_steps (all_conjuncts q.from (conjuncts_of q)) + 8 * length q.from + most ≡ turn_steps q.from (conjuncts_of q) q.results = omega (arith, long) in
+    let turns : turns_over q.from (conjuncts_of q) x * (tested_steps (all_conjuncts q.from (conjuncts_of q)) + 8 * length q.from + most) ≡ turns_over q.from (conjuncts_of q) x * turn_steps q.from (conjuncts_of q) q.results = ap (λ n. turns_over q.from (conjuncts_of q) x * n) turn in
+    omega (arith, ordered-few p (row_steps q.results) env, all, long, turns)
 
 -- ---- by the size of the query
 
@@ -241,7 +290,7 @@ steps-few q x =
     let n = length q.from in
     let all = all_conjuncts q.from (conjuncts_of q) in
     let t = turns_over q.from (conjuncts_of q) x in
-    let each : ℕ = 6 * all_nodes all + 4 * all_nodes q.results + 9 * n + 6 in
+    let each : ℕ = 6 * all_nodes all + 4 * all_nodes q.results + 11 * n + 9 in
     let less : turn_steps q.from (conjuncts_of q) q.results + n ≤ each = omega (arith, tested-within all, results-few q.results) in
     let items : n ≤ t * n = subst (λ k. k ≤ t * n) (omega arith) (mul-le-mul_right n (some_turn x q.from (conjuncts_of q))) in
     let both : t * (turn_steps q.from (conjuncts_of q) q.results + n) ≡ t * turn_steps q.from (conjuncts_of q) q.results + t * n = omega arith in

@@ -116,13 +116,18 @@ turns q x = turns_over q.from (conjuncts_of q) x
 abbrev pub tested_steps : List BoundExpr → ℕ
 tested_steps conjuncts = sum_by (λ e. steps_of e + 1) conjuncts + conjuncts_steps conjuncts
 
+-- a row may be put into a sorter and taken from it again, whatever plan is taken
+abbrev pub sorting_steps : List FromTable → ℕ
+sorting_steps from = 2 * length from + 4
+
 -- in each turn, of all loops
 abbrev pub turn_steps : List FromTable → List BoundExpr → List BoundExpr → ℕ
-turn_steps from conjuncts results = tested_steps (all_conjuncts from conjuncts) + 8 * length from + row_steps results
+turn_steps from conjuncts results =
+    tested_steps (all_conjuncts from conjuncts) + 8 * length from + sorting_steps from + row_steps results
 
 -- at most so many for each turn and a few for the whole: linear in the turns times the size of the query
 abbrev pub query_steps : BoundSelect → Surroundings → ℕ
-query_steps q x = length q.from + 3 + turns q x * turn_steps q.from (conjuncts_of q) q.results
+query_steps q x = length q.from + 5 + turns q x * turn_steps q.from (conjuncts_of q) q.results
 
 -- those of rows of VALUES, one after the other
 abbrev pub rows_in_turn_steps : List (List BoundExpr) → ℕ
@@ -134,7 +139,7 @@ values_steps rows x = rows_in_turn_steps rows + 1
 -- the instructions by how many turns there are and by how large the query is
 abbrev pub StepsAreFew : BoundSelect → Type 0
 StepsAreFew q =
-    (x : Surroundings) → query_steps q x ≤ 16 + turns q x * (6 * all_nodes (all_conjuncts q.from (conjuncts_of q)) + 4 * all_nodes q.results + 9 * length q.from + 6)
+    (x : Surroundings) → query_steps q x ≤ 16 + turns q x * (6 * all_nodes (all_conjuncts q.from (conjuncts_of q)) + 4 * all_nodes q.results + 11 * length q.from + 9)
 
 -- those of VALUES by how many nodes its rows have, and how many rows there are
 abbrev pub ValuesStepsAreFew : List (List BoundExpr) → Type 0

@@ -21,7 +21,7 @@ use vm_code::{Builder, Op, Program};
 /// the same by each plan that fits for the parameters of the run. Only memory can fail.
 pub fn compile(alloc: Global, query: &BoundSelect, plan: &JoinPlan) -> Result<Program, AllocError>
     ensures performs { IfOk result (λ p. (params : List Value) → PlanFits params query.now.from (conjuncts_of query.now) plan.now → PerformsWith params p (query_run query.now) (query_steps query.now)) }
-    ensures balanced { IfOk result (λ p. AreOver 0 query.now.from plan.now.loops → IsBalanced p.main) }
+    ensures balanced { IfOk result (λ p. AreOver query.now.from plan.now.loops → IsBalanced p.main) }
 {
     let mut b = Builder::new(alloc, Items::new(alloc));
     let mut giver = Giver {

@@ -203,10 +203,74 @@ fn best_other<'a, C: Counts>(
             counts,
         )?;
     }
-    match best {
+    let found = or_by_column(alloc, item, indexes, conjuncts, params, best, counts)?;
+    match found {
         Some(draft) => Ok(of_draft(draft)),
         None => Ok(scan(alloc)),
     }
+}
+
+/// The best search, or where there is none that by a column.
+fn or_by_column<'a, C: Counts>(
+    alloc: Global,
+    item: u32,
+    indexes: &[Items<KeyTerm>],
+    conjuncts: &[Conjunct<'a>],
+    params: &[Value],
+    best: Option<Draft<'a>>,
+    counts: &C,
+) -> Result<Option<Draft<'a>>, AllocError>
+    requires none { UnlessSearch params.now item indexes.now conjuncts.now }
+    requires best { MayBest params.now item indexes.now conjuncts.now best }
+    ensures { IfOk result (λ found. MayBest params.now item indexes.now conjuncts.now found) }
+{
+    match best {
+        Some(draft) => Ok(Some(draft)),
+        None => by_column(alloc, item, indexes, conjuncts, params, counts),
+    }
+}
+
+/// The search by a column that no index begins with and that is to be equal to a key, of an item that has others in front of it: its table
+/// is searched once for each row of those, and gets an index of that column at the first search (SQLite Query Optimizer Overview, section 11).
+fn by_column<'a, C: Counts>(
+    alloc: Global,
+    item: u32,
+    indexes: &[Items<KeyTerm>],
+    conjuncts: &[Conjunct<'a>],
+    params: &[Value],
+    counts: &C,
+) -> Result<Option<Draft<'a>>, AllocError>
+    requires { UnlessSearch params.now item indexes.now conjuncts.now }
+    ensures { IfOk result (λ best. MayBest params.now item indexes.now conjuncts.now best) }
+{
+    match first_column(conjuncts, item, params) {
+        Some(term) => with_terms(
+            alloc,
+            &[term],
+            item,
+            indexes,
+            conjuncts,
+            params,
+            None,
+            counts,
+        ),
+        None => Ok(None),
+    }
+}
+
+/// The term of the first column that a conjunct wants to be equal to a key; none of the first item, whose rows are looked at once.
+fn first_column(conjuncts: &[Conjunct], item: u32, params: &[Value]) -> Option<KeyTerm> {
+    if item == 0 {
+        return None;
+    }
+    for conjunct in conjuncts {
+        if let Some(comparison) = comparison_of(conjunct, item, params) {
+            if let Some(term) = comparison.column_term() {
+                return Some(term);
+            }
+        }
+    }
+    None
 }
 
 /// The best of the one so far and the search by these terms, if it has a key.

@@ -141,6 +141,18 @@ impl<'a> Comparison<'a> {
         }
     }
 
+    /// The term of a key that has its column alone, where the column is to be equal to the key.
+    pub(crate) fn column_term(&self) -> Option<KeyTerm> {
+        match (self.op, self.source, self.collation) {
+            (CompareOp::Eq, TermSource::Column(_), Collation::Built(collation)) => Some(KeyTerm {
+                source: self.source,
+                collation,
+                descending: false,
+            }),
+            _ => None,
+        }
+    }
+
     /// Whether the first of these terms is one of those.
     pub(crate) fn begins(&self, terms: &[KeyTerm]) -> bool
         ensures { result ≡ is_begun self.now terms.now }

@@ -3,7 +3,7 @@ use crate::counts::Counts;
 use bound_tree::ExprTree;
 use eng_index::{Bounds, Edge, Limit, Range, TermSource};
 use eng_value::{Row, Value, changed_beside};
-use plan_tree::{Key, Search};
+use plan_tree::{Access, Key, Path, Search};
 use sql_words::Literal;
 use std::alloc::{AllocError, Global};
 
@@ -12,6 +12,37 @@ const FIRST_KEY_KEEPS: usize = 10;
 
 /// And one in so many to what a further key or limit asks for.
 const FURTHER_KEY_KEEPS: usize = 4;
+
+/// How many rows an access of the item in a place visits, as far as that can be told before anything runs. No contract speaks of it: it only
+/// helps to choose.
+pub fn rows_visited<C: Counts>(
+    alloc: Global,
+    item: u32,
+    access: &Access,
+    params: &[Value],
+    counts: &C,
+) -> Result<Option<usize>, AllocError> {
+    match &access.path {
+        Path::Scan => Ok(all_rows(alloc, item, counts)),
+        Path::Search(search) => match rows_found(alloc, item, search, params, counts)? {
+            Some(found) => Ok(Some(found)),
+            None => match all_rows(alloc, item, counts) {
+                Some(rows) => Ok(Some(kept_of(rows, search, 0))),
+                None => Ok(None),
+            },
+        },
+    }
+}
+
+/// How many rows there are, if that is known.
+fn all_rows<C: Counts>(alloc: Global, item: u32, counts: &C) -> Option<usize> {
+    let everything = Range {
+        equal: Row::new(Vec::new(alloc)),
+        lower: None,
+        upper: None,
+    };
+    counts.found(item, &[], &everything)
+}
 
 /// How many rows the search finds, if that can be told: by its keys in front of the first that is neither a literal nor a parameter, less
 /// what the others are taken to keep from it.

@@ -1,3 +1,4 @@
 pub mod Readiness
 pub mod Consumed
 pub mod Loops
+pub mod Insertion

@@ -1,15 +1,20 @@
 -- Loops over items, one after another.
-use Rattle.std.proofs.Common.{◌≡◌, ◌+◌, ◌<◌, ℕ, suc, Bool, List, [], ◌∷◌, ◌++◌, get_or, length, length-take-le, take, sym, ap, subst, ◌∙◌, arith}
-use Rattle.std.specs.List.{AllByRecursion, flat_map}
-use Rattle.std.proofs.lemmas.List.{take_more}
+use Rattle.std.proofs.Common.{◌≡◌, ◌+◌, ◌≤◌, ◌<◌, ℕ, zero, suc, Bool, List, [], ◌∷◌, ◌++◌, get_or, length, take, drop, refl, sym, ap, subst, ◌∙◌, add-one, arith}
+use Rattle.std.specs.Prelude.{nat_eq}
+use Rattle.std.specs.List.{AllByRecursion, filter, flat_map}
+use Rattle.std.proofs.lemmas.List.{drop-map, get_or-map, length-map, take_all}
 use Rattle.bound_tree.specs.Conditions.{conditions_of}
 use Rattle.bound_tree.specs.Exprs.{BoundExpr}
 use Rattle.eng_index.specs.declared.key_term.KeyTerm.{KeyTerm}
 use Rattle.eng_value.specs.Arrangements.{Shuffled}
 use Rattle.eng_value.specs.declared.value.Value.{Value}
-use Rattle.plan_join.proofs.Readiness.{all-assigned, all-ready, alone, are-ready}
-use Rattle.plan_join.specs.Ready.{AreLoopsInOrder, IsInnerLoop, IsLeftLoop, assigned_from, ready}
-use Rattle.plan_tree.specs.Assigned.{AreLoopsFor, AreReady, IgnoresFrom, IsAssigned, IsLoopFor, TestsAll, all_of, checks_of, pairs_of, served}
+use Rattle.plan_join.proofs.Readiness.{all-assigned, all-first, are-ready, tests-all}
+use Rattle.plan_join.specs.Orders.{IsOrderOf, item_at, items_at}
+use Rattle.plan_join.specs.Ready.{AreLoopsIn, IsInnerLoop, IsLeftLoop, assigned_in, is_ready, tested_in}
+use Rattle.plan_join.specs.declared.placing.Placed.{Placed}
+use Rattle.plan_tree.proofs.Planning.{moves_in}
+use Rattle.plan_tree.specs.Assigned.{AreLoopsFor, IgnoresAll, IsAssigned, IsLoopFor, TestsAll, all_of, checks_of, pairs_of, served}
+use Rattle.plan_tree.specs.Plans.{PlanFits}
 use Rattle.plan_tree.specs.Visits.{AccessFits, tested}
 use Rattle.plan_tree.specs.declared.access.Access.{Access}
 use Rattle.plan_tree.specs.declared.access.JoinPlan.{JoinPlan}
@@ -66,34 +71,51 @@ left_made params place f ons assigned those conjuncts indexes consumed a pairs l
 
 -- ---- one more behind the others
 
-pub one_more : (params : List Value) (width : ℕ) (conjuncts : List BoundExpr) (place : ℕ) (from : List FromTable) (loops : List Loop) (f : FromTable) (l : Loop) → AreLoopsFor params place from (assigned_from width conjuncts place from) loops → IsLoopFor params (place + length from) f (ready width (suc (place + length from)) conjuncts) l → AreLoopsFor params place (from ++ f ∷ []) (assigned_from width conjuncts place (from ++ f ∷ [])) (loops ++ l ∷ [])
-one_more params width conjuncts place [] [] f l are is =
-    let none : place + 0 ≡ place = omega arith in
-    (subst (λ n. IsLoopFor params n f (ready width (suc n) conjuncts) l) none is, tt)
-one_more params width conjuncts place [] (k ∷ loops) f l are is = absurd are
-one_more params width conjuncts place (g ∷ from) [] f l are is = absurd are
-one_more params width conjuncts place (g ∷ from) (k ∷ loops) f l are is =
-    let on : place + length (g ∷ from) ≡ suc place + length from = omega arith in
-    (are.0, one_more params width conjuncts (suc place) from loops f l are.1 (subst (λ n. IsLoopFor params n f (ready width (suc n) conjuncts) l) on is))
+pub one_more : (params : List Value) (alone : Bool) (conjuncts : List BoundExpr) (order : List (ℕ × FromTable)) (i : ℕ) (item : ℕ × FromTable) (loops : List Loop) (l : Loop) → i < length order → item ≡ get_or order i item → AreLoopsFor params (take i order) (take i (assigned_in alone conjuncts order)) loops → IsLoopFor params item.0 item.1 (tested_in alone (drop i order) (drop (suc i) order) conjuncts) l → AreLoopsFor params (take (suc i) order) (take (suc i) (assigned_in alone conjuncts order)) (loops ++ l ∷ [])
+one_more params alone conjuncts [] i item loops l within at are is = absurd (omega arith)
+one_more params alone conjuncts (first ∷ order) zero item [] l within at are is =
+    (subst (λ (x : ℕ × FromTable). IsLoopFor params x.0 x.1 (tested_in alone (first ∷ order) order conjuncts) l) at is, tt)
+one_more params alone conjuncts (first ∷ order) zero item (k ∷ loops) l within at are is = absurd are
+one_more params alone conjuncts (first ∷ order) (suc i) item [] l within at are is = absurd are
+one_more params alone conjuncts (first ∷ order) (suc i) item (k ∷ loops) l within at are is =
+    (are.0, one_more params alone conjuncts order i item loops l (omega arith) at are.1 is)
 
 -- the next item's loop
-pub next_in_order : (params : List Value) (width : ℕ) (conjuncts : List BoundExpr) (from : List FromTable) (i : ℕ) (loops more : List Loop) (f : FromTable) (behind number : ℕ) (here : List BoundExpr) (l : Loop) → AreLoopsInOrder params width conjuncts (take i from) loops → i < length from → f ≡ get_or from i f → behind ≡ i + 1 → number ≡ i → here ≡ ready width behind conjuncts → IsLoopFor params number f here l → more ≡ loops ++ l ∷ [] → AreLoopsInOrder params width conjuncts (take (i + 1) from) more
-next_in_order params width conjuncts from i loops more f behind number here l are lt f_is behind_is number_is here_is is more_is =
-    let long : length (take i from) ≡ i = length-take-le i from (omega arith) in
-    let longer : take (i + 1) from ≡ take i from ++ f ∷ [] = take_more from i f lt ∙ ap (λ x. take i from ++ x ∷ []) (sym f_is) in
-    let number_to : number ≡ 0 + length (take i from) = omega arith in
-    let behind_to : behind ≡ suc (0 + length (take i from)) = omega arith in
-    let here_to : here ≡ ready width (suc (0 + length (take i from))) conjuncts = here_is ∙ ap (λ n. ready width n conjuncts) behind_to in
-    let is_there = subst (λ cs. IsLoopFor params (0 + length (take i from)) f cs l) here_to (subst (λ n. IsLoopFor params n f here l) number_to is) in
-    subst (λ ls. AreLoopsInOrder params width conjuncts (take (i + 1) from) ls) (sym more_is) (subst (λ fs. AreLoopsInOrder params width conjuncts fs (loops ++ l ∷ [])) (sym longer) (one_more params width conjuncts 0 (take i from) loops f l are is_there))
+pub next_loop : (params : List Value) (alone : Bool) (conjuncts : List BoundExpr) (order : List Placed) (i : ℕ) (loops more : List Loop) (next : Placed) (here left : List Placed) (those : List BoundExpr) (l : Loop) → AreLoopsFor params (take i (items_at order)) (take i (assigned_in alone conjuncts (items_at order))) loops → i < length order → next ≡ get_or order i next → here ≡ drop i order → left ≡ drop (i + 1) order → those ≡ tested_in alone (items_at here) (items_at left) conjuncts → IsLoopFor params next.place next.item.now those l → more ≡ loops ++ l ∷ [] → AreLoopsFor params (take (i + 1) (items_at order)) (take (i + 1) (assigned_in alone conjuncts (items_at order))) more
+next_loop params alone conjuncts order i loops more next here left those l are within at here_is left_is those_are is more_is =
+    let long : i < length (items_at order) = omega (arith, length-map order item_at) in
+    let there : item_at next ≡ get_or (items_at order) i (item_at next) = ap item_at at ∙ sym (get_or-map item_at order i next (item_at next) within) in
+    let from_here : items_at here ≡ drop i (items_at order) = ap items_at here_is ∙ sym (drop-map item_at i order) in
+    let behind : items_at left ≡ drop (suc i) (items_at order) = ap items_at left_is ∙ sym (drop-map item_at (i + 1) order) ∙ ap (λ n. drop n (items_at order)) (add-one i) in
+    let all : those ≡ tested_in alone (drop i (items_at order)) (drop (suc i) (items_at order)) conjuncts = those_are ∙ ap (λ xs. tested_in alone xs (items_at left) conjuncts) from_here ∙ ap (λ xs. tested_in alone (drop i (items_at order)) xs conjuncts) behind in
+    let one = one_more params alone conjuncts (items_at order) i (item_at next) loops l long there are (subst (λ cs. IsLoopFor params next.place next.item.now cs l) all is) in
+    subst (λ ls. AreLoopsFor params (take (i + 1) (items_at order)) (take (i + 1) (assigned_in alone conjuncts (items_at order))) ls) (sym more_is) (subst (λ n. AreLoopsFor params (take n (items_at order)) (take n (assigned_in alone conjuncts (items_at order))) (loops ++ l ∷ [])) (sym (add-one i)) one)
 
 -- ---- all of them
 
-pub assigned : (params : List Value) (width : ℕ) (conjuncts : List BoundExpr) (from : List FromTable) (p : JoinPlan) → width ≡ length from → p.checks ≡ ready width 0 conjuncts → AreLoopsInOrder params width conjuncts from p.loops → IsAssigned params from conjuncts (assigned_from width conjuncts 0 from) p
-assigned params width conjuncts from p wide checks loops = record {
+length-assigned : (alone : Bool) (conjuncts : List BoundExpr) (order : List (ℕ × FromTable)) → length (assigned_in alone conjuncts order) ≡ length order
+length-assigned alone conjuncts [] = refl
+length-assigned alone conjuncts (item ∷ order) = ap suc (length-assigned alone conjuncts order)
+
+pub all_loops : (params : List Value) (alone : Bool) (conjuncts : List BoundExpr) (order : List Placed) (i : ℕ) (loops : List Loop) → length order ≤ i → AreLoopsFor params (take i (items_at order)) (take i (assigned_in alone conjuncts (items_at order))) loops → AreLoopsIn params alone conjuncts (items_at order) loops
+all_loops params alone conjuncts order i loops all are =
+    let items : take i (items_at order) ≡ items_at order = take_all i (items_at order) (omega (arith, length-map order item_at)) in
+    let assigned : take i (assigned_in alone conjuncts (items_at order)) ≡ assigned_in alone conjuncts (items_at order) = take_all i (assigned_in alone conjuncts (items_at order)) (omega (arith, length-map order item_at, length-assigned alone conjuncts (items_at order))) in
+    subst (λ cs. AreLoopsFor params (items_at order) cs loops) assigned (subst (λ those. AreLoopsFor params those (take i (assigned_in alone conjuncts (items_at order))) loops) items are)
+
+pub assigned : (params : List Value) (alone : Bool) (conjuncts : List BoundExpr) (from : List FromTable) (order : List Placed) (p : JoinPlan) → IsOrderOf from order p.sort → alone ≡ nat_eq (length order) 1 → p.checks ≡ filter (is_ready alone (items_at order)) conjuncts → AreLoopsIn params alone conjuncts (items_at order) p.loops → IsAssigned params from conjuncts (items_at order) (assigned_in alone conjuncts (items_at order)) p
+assigned params alone conjuncts from order p is one checks loops = record {
+  reordered = is.reordered;
+  unsorted = is.unmoved;
   loops = loops;
-  ready = subst (λ n. AreReady 0 n (assigned_from width conjuncts 0 from)) wide (are-ready width conjuncts 0 from);
-  first = subst (λ n. AllByRecursion (IgnoresFrom 0 n) p.checks) wide (subst (λ cs. AllByRecursion (IgnoresFrom 0 width) cs) (sym checks) (all-ready width 0 conjuncts));
-  all = subst (λ cs. Shuffled (cs ++ all_of (assigned_from width conjuncts 0 from)) conjuncts) (sym checks) (all-assigned width conjuncts from wide);
-  alone = subst (λ cs. TestsAll from conjuncts cs (assigned_from width conjuncts 0 from)) (sym checks) (alone width conjuncts from wide);
+  ready = are-ready alone conjuncts (items_at order);
+  first = subst (AllByRecursion (IgnoresAll (items_at order))) (sym checks) (all-first alone conjuncts (items_at order));
+  all = subst (λ cs. Shuffled (cs ++ all_of (assigned_in alone conjuncts (items_at order))) conjuncts) (sym checks) (all-assigned alone conjuncts (items_at order));
+  alone = subst (λ cs. TestsAll from conjuncts cs (assigned_in alone conjuncts (items_at order))) (sym checks) (tests-all alone conjuncts from (items_at order) is.reordered (one ∙ ap (λ n. nat_eq n 1) (sym (length-map order item_at))));
 }
+
+-- as the function makes it
+pub planned : (params : List Value) (conjuncts : List BoundExpr) (from : List FromTable) (order items : List Placed) (alone : Bool) (p : JoinPlan) → IsOrderOf from order p.sort → items ≡ order → alone ≡ nat_eq (length items) 1 → p.checks ≡ filter (is_ready alone (items_at items)) conjuncts → AreLoopsIn params alone conjuncts (items_at items) p.loops → PlanFits params from conjuncts p
+planned params conjuncts from order items alone p is items_are one checks loops =
+    let is_there : IsOrderOf from items p.sort = subst (λ those. IsOrderOf from those p.sort) (sym items_are) is in
+    moves_in params from conjuncts (items_at items) (assigned_in alone conjuncts (items_at items)) p (assigned params alone conjuncts from items p is_there one checks loops)

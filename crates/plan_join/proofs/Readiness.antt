@@ -1,52 +1,40 @@
--- What conjuncts read, and which of them are tested behind which item.
-use Rattle.std.proofs.Common.{◌≡◌, ◌+◌, ◌≤◌, ℕ, zero, suc, Bool, true, false, cond, List, [], ◌∷◌, ◌++◌, length, refl, sym, ap, subst, ◌∙◌, arith, append-nil, append_assoc, below_more}
-use Rattle.std.specs.Prelude.{nat_eq, nat_lt}
+-- What conjuncts read, and in which loop they are tested.
+use Rattle.std.proofs.Common.{◌≡◌, ℕ, Bool, true, false, not, ◌&&◌, cond, List, [], ◌∷◌, ◌++◌, length, refl, sym, ap, subst, ◌∙◌, append-nil, append_assoc}
+use Rattle.std.specs.Prelude.{nat_eq}
 use Rattle.std.specs.List.{AllByRecursion, filter}
-use Rattle.std.proofs.lemmas.Bool.{eqb-true, eq-eqb, ltb-true, lt-ltb}
 use Rattle.bound_tree.specs.Exprs.{BoundExpr}
 use Rattle.eng_value.proofs.Shuffling.{shuffled_back, shuffled_in_front, shuffled_is, shuffled_middle}
 use Rattle.eng_value.specs.Arrangements.{Shuffled, empty, keep, onward}
-use Rattle.plan_join.specs.Ready.{assigned_from, is_ready_at, items_read, ready, ready_at}
+use Rattle.plan_join.specs.Ready.{assigned_in, is_ready, reads_none, tested_in}
 use Rattle.plan_tree.proofs.Ignoring.{ignores-same}
-use Rattle.plan_tree.specs.Assigned.{AreReady, IgnoresFrom, TestsAll, all_of}
+use Rattle.plan_tree.proofs.Reordering.{alone-reordered}
+use Rattle.plan_tree.specs.Assigned.{AreReady, IgnoresAll, Reordered, TestsAll, all_of, numbered}
 use Rattle.plan_tree.specs.Ignoring.{ignores}
-use Rattle.plan_tree.specs.Visits.{Ignores}
 use Rattle.sql_meaning.specs.declared.bound.FromTable.{FromTable}
 
 -- ---- what is ignored
 
-read-more : (item : ℕ) (c : BoundExpr) (b : Bool) → ignores item c ≡ b → IgnoresFrom (items_read item c) item c → IgnoresFrom (cond b (items_read item c) (suc item)) (suc item) c
-read-more item c true is rest other from to =
-    below_more (λ k. items_read item c ≤ k → Ignores k c) item (λ k lt le. rest k le lt) (λ le. ignores-same item c is) other (omega arith) from
-read-more item c false is rest other from to = absurd (omega arith)
+both : (a b : Bool) → (a && b) ≡ true → (a ≡ true) × (b ≡ true)
+both true b is = (refl, is)
+both false b is = absurd (cc)
 
-items-ignored : (width : ℕ) (c : BoundExpr) → IgnoresFrom (items_read width c) width c
-items-ignored zero c other from to = absurd (omega arith)
-items-ignored (suc item) c other from to = read-more item c (ignores item c) refl (items-ignored item c) other from to
+none-read : (items : List (ℕ × FromTable)) (c : BoundExpr) → reads_none items c ≡ true → IgnoresAll items c
+none-read [] c is = tt
+none-read (item ∷ items) c is =
+    let parts = both (ignores item.0 c) (reads_none items c) is in
+    (ignores-same item.0 c parts.0, none-read items c parts.1)
 
-read-within : (item : ℕ) (c : BoundExpr) (b : Bool) → items_read item c ≤ item → cond b (items_read item c) (suc item) ≤ suc item
-read-within item c true le = omega arith
-read-within item c false le = omega arith
+ready-ignored : (alone : Bool) (left : List (ℕ × FromTable)) (c : BoundExpr) → is_ready alone left c ≡ true → IgnoresAll left c
+ready-ignored true [] c is = tt
+ready-ignored true (item ∷ left) c is = absurd (cc)
+ready-ignored false left c is = none-read left c is
 
-items-within : (width : ℕ) (c : BoundExpr) → items_read width c ≤ width
-items-within zero c = omega arith
-items-within (suc item) c = read-within item c (ignores item c) (items-within item c)
+-- what is ready in front of a loop is ready behind it
+ready-later : (alone : Bool) (item : ℕ × FromTable) (left : List (ℕ × FromTable)) (c : BoundExpr) → is_ready alone (item ∷ left) c ≡ true → is_ready alone left c ≡ true
+ready-later true item left c is = absurd (cc)
+ready-later false item left c is = (both (ignores item.0 c) (reads_none left c) is).1
 
-ready-ignored : (width : ℕ) (c : BoundExpr) → IgnoresFrom (ready_at width c) width c
-ready-ignored width c = by (nat_eq width 1) refl
-  where
-    by : (b : Bool) → nat_eq width 1 ≡ b → IgnoresFrom (cond b 1 (items_read width c)) width c
-    by true is other from to = let one = eqb-true width 1 is in absurd (omega arith)
-    by false is other from to = items-ignored width c other from to
-
-ready-within : (width : ℕ) (c : BoundExpr) → ready_at width c ≤ width
-ready-within width c = by (nat_eq width 1) refl
-  where
-    by : (b : Bool) → nat_eq width 1 ≡ b → cond b 1 (items_read width c) ≤ width
-    by true is = let one = eqb-true width 1 is in omega arith
-    by false is = items-within width c
-
--- ---- those that are tested behind an item
+-- ---- those that are tested in a loop
 
 all-filter : {X : Type 0} (P : X → Type 0) (p : X → Bool) (xs : List X) → ((x : X) → p x ≡ true → P x) → AllByRecursion P (filter p xs)
 all-filter P p [] each = tt
@@ -56,13 +44,13 @@ all-filter P p (x ∷ xs) each = by (p x) refl (all-filter P p xs each)
     by true is rest = (each x is, rest)
     by false is rest = rest
 
-pub all-ready : (width items : ℕ) (conjuncts : List BoundExpr) → AllByRecursion (IgnoresFrom items width) (ready width items conjuncts)
-all-ready width items conjuncts =
-    all-filter (IgnoresFrom items width) (is_ready_at width items) conjuncts (λ c is. subst (λ n. IgnoresFrom n width c) (eqb-true (ready_at width c) items is) (ready-ignored width c))
+pub all-first : (alone : Bool) (conjuncts : List BoundExpr) (order : List (ℕ × FromTable)) → AllByRecursion (IgnoresAll order) (filter (is_ready alone order) conjuncts)
+all-first alone conjuncts order = all-filter (IgnoresAll order) (is_ready alone order) conjuncts (ready-ignored alone order)
 
-pub are-ready : (width : ℕ) (conjuncts : List BoundExpr) (place : ℕ) (from : List FromTable) → AreReady place width (assigned_from width conjuncts place from)
-are-ready width conjuncts place [] = tt
-are-ready width conjuncts place (f ∷ from) = (all-ready width (suc place) conjuncts, are-ready width conjuncts (suc place) from)
+pub are-ready : (alone : Bool) (conjuncts : List BoundExpr) (order : List (ℕ × FromTable)) → AreReady order (assigned_in alone conjuncts order)
+are-ready alone conjuncts [] = tt
+are-ready alone conjuncts (item ∷ order) =
+    (all-filter (IgnoresAll order) (λ c. is_ready alone order c && not (is_ready alone (item ∷ order) c)) conjuncts (λ c is. ready-ignored alone order c (both (is_ready alone order c) (not (is_ready alone (item ∷ order) c)) is).0), are-ready alone conjuncts order)
 
 -- ---- each of them is tested once
 
@@ -85,68 +73,29 @@ split-filter p q r each [] = empty
 split-filter p q r each (x ∷ xs) =
     split-more x (filter p xs) (filter q xs) (filter r xs) (split-filter p q r each xs) (p x) (q x) (r x) (each x)
 
--- those that are tested behind no more than so many items
-abbrev is_by : ℕ → ℕ → BoundExpr → Bool
-is_by width items c = nat_lt (ready_at width c) (suc items)
+split-of : (a b : Bool) → (a ≡ true → b ≡ true) → Splits a (b && not a) b
+split-of true true later = first
+split-of true false later = absurd (let bad : false ≡ true = later refl in cc)
+split-of false true later = second
+split-of false false later = neither
 
-split-at : (n items : ℕ) (a b c : Bool) → nat_lt n (suc items) ≡ a → nat_eq n (suc items) ≡ b → nat_lt n (suc (suc items)) ≡ c → Splits a b c
-split-at n items true false true lt eq most = first
-split-at n items false true true lt eq most = second
-split-at n items false false false lt eq most = neither
-split-at n items true true c lt eq most =
-    let below = ltb-true n (suc items) lt in let same = eqb-true n (suc items) eq in absurd (omega arith)
-split-at n items true false false lt eq most =
-    let below = ltb-true n (suc items) lt in
-    let up : nat_lt n (suc (suc items)) ≡ true = lt-ltb n (suc (suc items)) (omega arith) in
-    absurd (let bad : true ≡ false = sym up ∙ most in cc)
-split-at n items false true false lt eq most =
-    let same = eqb-true n (suc items) eq in
-    let up : nat_lt n (suc (suc items)) ≡ true = lt-ltb n (suc (suc items)) (omega arith) in
-    absurd (let bad : true ≡ false = sym up ∙ most in cc)
-split-at n items false false true lt eq most =
-    let up = ltb-true n (suc (suc items)) most in
-    below_more (λ k. nat_lt k (suc items) ≡ false → nat_eq k (suc items) ≡ false → Splits false false true) (suc items) (λ k less not_less not_same. absurd (let bad : true ≡ false = sym (lt-ltb k (suc items) less) ∙ not_less in cc)) (λ not_less not_same. absurd (let bad : true ≡ false = sym (eq-eqb (suc items) (suc items) refl) ∙ not_same in cc)) n (omega arith) lt eq
+filter-all : {X : Type 0} (p : X → Bool) (xs : List X) → ((x : X) → p x ≡ true) → filter p xs ≡ xs
+filter-all p [] each = refl
+filter-all p (x ∷ xs) each = ap (λ b. cond b (x ∷ filter p xs) (filter p xs)) (each x) ∙ ap (λ rest. x ∷ rest) (filter-all p xs each)
 
-split-step : (width items : ℕ) (c : BoundExpr) → Splits (is_by width items c) (is_ready_at width (suc items) c) (is_by width (suc items) c)
-split-step width items c =
-    split-at (ready_at width c) items (is_by width items c) (is_ready_at width (suc items) c) (is_by width (suc items) c) refl refl refl
+none-left : (alone : Bool) (c : BoundExpr) → is_ready alone [] c ≡ true
+none-left true c = refl
+none-left false c = refl
 
-all-by : (width : ℕ) (conjuncts : List BoundExpr) (items : ℕ) → width ≤ items → filter (is_by width items) conjuncts ≡ conjuncts
-all-by width [] items le = refl
-all-by width (c ∷ cs) items le =
-    let within = ready-within width c in
-    let is : is_by width items c ≡ true = lt-ltb (ready_at width c) (suc items) (omega arith) in
-    ap (λ b. cond b (c ∷ filter (is_by width items) cs) (filter (is_by width items) cs)) is
-    ∙ ap (λ rest. c ∷ rest) (all-by width cs items le)
-
--- those in front of a place and those of the items from there on are all
-from-place : (width : ℕ) (conjuncts : List BoundExpr) (place : ℕ) (from : List FromTable) → width ≤ place + length from → Shuffled (filter (is_by width place) conjuncts ++ all_of (assigned_from width conjuncts place from)) conjuncts
-from-place width conjuncts place [] le =
-    shuffled_is (filter (is_by width place) conjuncts ++ []) conjuncts (append-nil (filter (is_by width place) conjuncts) ∙ all-by width conjuncts place (omega arith))
-from-place width conjuncts place (f ∷ from) le =
-    let here : List BoundExpr = filter (is_by width place) conjuncts in
-    let next : List BoundExpr = ready width (suc place) conjuncts in
-    let rest : List BoundExpr = all_of (assigned_from width conjuncts (suc place) from) in
-    onward (shuffled_is (here ++ (next ++ rest)) ((here ++ next) ++ rest) (sym (append_assoc here next rest))) (onward (shuffled_in_front rest (split-filter (is_by width place) (is_ready_at width (suc place)) (is_by width (suc place)) (split-step width place) conjuncts)) (from-place width conjuncts (suc place) from (omega arith)))
-
-filter-same : {X : Type 0} (p q : X → Bool) → ((x : X) → p x ≡ q x) → (xs : List X) → filter p xs ≡ filter q xs
-filter-same p q same [] = refl
-filter-same p q same (x ∷ xs) =
-    ap (λ b. cond b (x ∷ filter p xs) (filter p xs)) (same x) ∙ ap (λ rest. cond (q x) (x ∷ rest) rest) (filter-same p q same xs)
-
-none-by : (n : ℕ) (a b : Bool) → nat_eq n 0 ≡ a → nat_lt n 1 ≡ b → a ≡ b
-none-by n true true same less = refl
-none-by n false false same less = refl
-none-by n true false same less =
-    let is = eqb-true n 0 same in
-    sym (lt-ltb n 1 (omega arith)) ∙ less
-none-by n false true same less =
-    let is = ltb-true n 1 less in
-    sym same ∙ eq-eqb n 0 (omega arith)
-
-pub all-assigned : (width : ℕ) (conjuncts : List BoundExpr) (from : List FromTable) → width ≡ length from → Shuffled (ready width 0 conjuncts ++ all_of (assigned_from width conjuncts 0 from)) conjuncts
-all-assigned width conjuncts from is =
-    onward (shuffled_is (ready width 0 conjuncts ++ all_of (assigned_from width conjuncts 0 from)) (filter (is_by width 0) conjuncts ++ all_of (assigned_from width conjuncts 0 from)) (ap (λ cs. cs ++ all_of (assigned_from width conjuncts 0 from)) (filter-same (is_ready_at width 0) (is_by width 0) (λ c. none-by (ready_at width c) (is_ready_at width 0 c) (is_by width 0 c) refl refl) conjuncts))) (from-place width conjuncts 0 from (omega arith))
+-- those that are tested first and those of the items are all
+pub all-assigned : (alone : Bool) (conjuncts : List BoundExpr) (order : List (ℕ × FromTable)) → Shuffled (filter (is_ready alone order) conjuncts ++ all_of (assigned_in alone conjuncts order)) conjuncts
+all-assigned alone conjuncts [] =
+    shuffled_is (filter (is_ready alone []) conjuncts ++ []) conjuncts (append-nil (filter (is_ready alone []) conjuncts) ∙ filter-all (is_ready alone []) conjuncts (none-left alone))
+all-assigned alone conjuncts (item ∷ order) =
+    let here : List BoundExpr = filter (is_ready alone (item ∷ order)) conjuncts in
+    let next : List BoundExpr = tested_in alone (item ∷ order) order conjuncts in
+    let rest : List BoundExpr = all_of (assigned_in alone conjuncts order) in
+    onward (shuffled_is (here ++ (next ++ rest)) ((here ++ next) ++ rest) (sym (append_assoc here next rest))) (onward (shuffled_in_front rest (split-filter (is_ready alone (item ∷ order)) (λ c. is_ready alone order c && not (is_ready alone (item ∷ order) c)) (is_ready alone order) (λ c. split-of (is_ready alone (item ∷ order) c) (is_ready alone order c) (ready-later alone item order c)) conjuncts)) (all-assigned alone conjuncts order))
 
 -- ---- an item that stands alone
 
@@ -158,9 +107,10 @@ all-kept : {X : Type 0} (xs : List X) → filter (λ x. true) xs ≡ xs
 all-kept [] = refl
 all-kept (x ∷ xs) = ap (λ rest. x ∷ rest) (all-kept xs)
 
-pub alone : (width : ℕ) (conjuncts : List BoundExpr) (from : List FromTable) → width ≡ length from → TestsAll from conjuncts (ready width 0 conjuncts) (assigned_from width conjuncts 0 from)
-alone width conjuncts [] is = tt
-alone width conjuncts (f ∷ g ∷ from) is = tt
-alone width conjuncts (f ∷ []) is =
-    let one : width ≡ 1 = omega arith in
-    subst (λ n. TestsAll (f ∷ []) conjuncts (ready n 0 conjuncts) (assigned_from n conjuncts 0 (f ∷ []))) (sym one) (none-kept conjuncts, ap (λ cs. cs ∷ []) (all-kept conjuncts))
+pub tests-all : (alone : Bool) (conjuncts : List BoundExpr) (from : List FromTable) (order : List (ℕ × FromTable)) → Reordered (numbered 0 from) order → alone ≡ nat_eq (length order) 1 → TestsAll from conjuncts (filter (is_ready alone order) conjuncts) (assigned_in alone conjuncts order)
+tests-all alone conjuncts [] order reordered is = tt
+tests-all alone conjuncts (f ∷ g ∷ from) order reordered is = tt
+tests-all alone conjuncts (f ∷ []) order reordered is =
+    let one : order ≡ (0, f) ∷ [] = alone-reordered (0, f) reordered refl in
+    let stands : alone ≡ true = is ∙ ap (λ those. nat_eq (length those) 1) one in
+    subst (λ those. TestsAll (f ∷ []) conjuncts (filter (is_ready alone those) conjuncts) (assigned_in alone conjuncts those)) (sym one) (subst (λ b. TestsAll (f ∷ []) conjuncts (filter (is_ready b ((0, f) ∷ [])) conjuncts) (assigned_in b conjuncts ((0, f) ∷ []))) (sym stands) (none-kept conjuncts, ap (λ cs. cs ∷ []) (all-kept conjuncts)))

@@ -1,5 +1,5 @@
 -- Where the conjuncts of a FROM are tested.
-use Rattle.std.specs.Prelude.{◌≡◌, ℕ, zero, suc, nat_eq, Bool, List, [], ◌∷◌, if◌then◌else◌}
+use Rattle.std.specs.Prelude.{◌≡◌, ℕ, Bool, true, false, not, ◌&&◌, List, [], ◌∷◌, if◌then◌else◌}
 use Rattle.std.specs.List.{filter}
 use Rattle.bound_tree.specs.Exprs.{BoundExpr}
 use Rattle.eng_value.specs.declared.value.Value.{Value}
@@ -7,32 +7,32 @@ use Rattle.plan_tree.specs.Assigned.{AreLoopsFor, IsLoopFor}
 use Rattle.plan_tree.specs.Ignoring.{ignores}
 use Rattle.plan_tree.specs.declared.access.Loop.{Loop}
 use Rattle.sql_meaning.specs.declared.bound.FromTable.{FromTable}
-use Rattle.sql_meaning.specs.declared.bound.Join.{Join}
 use Rattle.sql_meaning.specs.declared.bound.Join.TheVariants.{Inner, Left}
 
--- how many of the first items, of so many, hold all that it reads
-abbrev pub items_read : ℕ → BoundExpr → ℕ
-items_read zero c = 0
-items_read (suc item) c = if ignores item c then items_read item c else suc item
+-- it reads no row of these items
+abbrev pub reads_none : List (ℕ × FromTable) → BoundExpr → Bool
+reads_none [] c = true
+reads_none (item ∷ items) c = ignores item.0 c && reads_none items c
 
--- behind how many it is tested: an item that stands alone tests all
-abbrev pub ready_at : ℕ → BoundExpr → ℕ
-ready_at width c = if nat_eq width 1 then 1 else items_read width c
+abbrev pub is_none : List (ℕ × FromTable) → Bool
+is_none [] = true
+is_none (item ∷ items) = false
 
-abbrev pub is_ready_at : ℕ → ℕ → BoundExpr → Bool
-is_ready_at width items c = nat_eq (ready_at width c) items
+-- it may be tested in front of the loops over these items, which are all that are left; an item that stands alone tests all
+abbrev pub is_ready : Bool → List (ℕ × FromTable) → BoundExpr → Bool
+is_ready alone left c = if alone then is_none left else reads_none left c
 
--- those that are tested behind so many
-abbrev pub ready : ℕ → ℕ → List BoundExpr → List BoundExpr
-ready width items conjuncts = filter (is_ready_at width items) conjuncts
+-- those that may be tested in front of the loops that are left, and not in front of these
+abbrev pub tested_in : Bool → List (ℕ × FromTable) → List (ℕ × FromTable) → List BoundExpr → List BoundExpr
+tested_in alone here left conjuncts = filter (λ c. is_ready alone left c && not (is_ready alone here c)) conjuncts
 
--- what is assigned to each item from a place on
-abbrev pub assigned_from : ℕ → List BoundExpr → ℕ → List FromTable → List (List BoundExpr)
-assigned_from width conjuncts place [] = []
-assigned_from width conjuncts place (f ∷ from) = ready width (suc place) conjuncts ∷ assigned_from width conjuncts (suc place) from
+-- what is assigned to each item, in the order of their loops
+abbrev pub assigned_in : Bool → List BoundExpr → List (ℕ × FromTable) → List (List BoundExpr)
+assigned_in alone conjuncts [] = []
+assigned_in alone conjuncts (item ∷ order) = tested_in alone (item ∷ order) order conjuncts ∷ assigned_in alone conjuncts order
 
-abbrev pub AreLoopsInOrder : List Value → ℕ → List BoundExpr → List FromTable → List Loop → Type 0
-AreLoopsInOrder params width conjuncts from loops = AreLoopsFor params 0 from (assigned_from width conjuncts 0 from) loops
+abbrev pub AreLoopsIn : List Value → Bool → List BoundExpr → List (ℕ × FromTable) → List Loop → Type 0
+AreLoopsIn params alone conjuncts order loops = AreLoopsFor params order (assigned_in alone conjuncts order) loops
 
 -- ---- the loop over an item, by how it is joined
 

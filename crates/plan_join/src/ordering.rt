@@ -1,10 +1,13 @@
 // The loops over the items of a FROM.
-ghost use Rattle.std.specs.Prelude.{◌≡◌, IfOk};
-ghost use Rattle.plan_join.specs.Ready.{AreLoopsInOrder};
+ghost use Rattle.std.specs.Prelude.{IfOk};
+ghost use Rattle.plan_join.specs.Orders.{items_at};
+ghost use Rattle.plan_join.specs.Ready.{AreLoopsIn};
 ghost use Rattle.plan_tree.specs.Plans.{PlanFits};
 
+use crate::choosing::wanted_order;
 use crate::looping::loop_over;
-use crate::reading::ready;
+use crate::placing::{Placed, order_near};
+use crate::reading::{tested_first, tested_in};
 use eng_value::Value;
 use plan_best::Counts;
 use plan_tree::{Conjunct, JoinPlan, Loop};
@@ -12,8 +15,8 @@ use sql_meaning::FromTable;
 use sqlite_items::Items;
 use std::alloc::{AllocError, Global};
 
-/// Loops over the items of a FROM in the order of the text, each by an access of its own (SQLite Query Optimizer Overview, section 2). A conjunct is
-/// tested in the first loop behind which all that it reads is there. Which access is taken is free. Only memory can fail.
+/// Loops over the items of a FROM, each by an access of its own, in the order that seems best (SQLite Query Optimizer Overview, sections 2 and 7). A
+/// conjunct is tested in the first loop behind which all that it reads is there. Which order and which access is taken is free. Only memory can fail.
 pub fn order<'a, C: Counts>(
     alloc: Global,
     from: &'a [FromTable],
@@ -23,40 +26,52 @@ pub fn order<'a, C: Counts>(
 ) -> Result<JoinPlan<'a>, AllocError>
     ensures fits { IfOk result (λ p. PlanFits params.now from.now conjuncts.now p) }
 {
-    let width = small(from.len())?;
-    let checks = ready(alloc, conjuncts, width, 0)?;
-    let loops = loops_over(alloc, from, conjuncts, width, params, counts)?;
-    Ok(JoinPlan { checks, loops })
+    let wanted = wanted_order(alloc, from, conjuncts, params, counts)?;
+    order_as(alloc, from, conjuncts, params, counts, wanted.as_slice())
 }
 
-/// A place as plans count places. One that is too large is want of memory: no list is so long.
-fn small(place: usize) -> Result<u32, AllocError>
-    ensures { IfOk result (λ n. n ≡ place) }
+/// The same, in an order as near to that of these places as exchanges of neighbours lead, neither of which is a LEFT JOIN. Any list will do: items that it
+/// doesn't name come behind those that it names, in the order of the FROM.
+pub fn order_as<'a, C: Counts>(
+    alloc: Global,
+    from: &'a [FromTable],
+    conjuncts: &[Conjunct<'a>],
+    params: &[Value],
+    counts: &C,
+    wanted: &[u32],
+) -> Result<JoinPlan<'a>, AllocError>
+    ensures fits { IfOk result (λ p. PlanFits params.now from.now conjuncts.now p) }
 {
-    match u32::try_from(place) {
-        Ok(number) => Ok(number),
-        Err(_) => Err(AllocError),
-    }
+    let order = order_near(alloc, from, wanted)?;
+    let items = order.items.as_slice();
+    let alone = items.len() == 1;
+    let checks = tested_first(alloc, conjuncts, items, alone)?;
+    let loops = loops_over(alloc, items, conjuncts, params, counts, alone)?;
+    Ok(JoinPlan {
+        checks,
+        loops,
+        sort: order.moved,
+    })
 }
 
 /// A loop for each item, which tests what is ready behind it and not in front of it.
 fn loops_over<'a, C: Counts>(
     alloc: Global,
-    from: &'a [FromTable],
+    order: &[Placed<'a>],
     conjuncts: &[Conjunct<'a>],
-    width: u32,
     params: &[Value],
     counts: &C,
+    alone: bool,
 ) -> Result<Items<Loop<'a>>, AllocError>
-    ensures { IfOk result (λ loops. AreLoopsInOrder params.now width conjuncts.now from.now loops) }
+    ensures { IfOk result (λ loops. AreLoopsIn params.now alone conjuncts.now (items_at order.now) loops) }
 {
     let mut loops = Items::new(alloc);
-    for (place, item) in from.iter().enumerate() {
-        let behind = small(place + 1)?;
-        let assigned = ready(alloc, conjuncts, width, behind)?;
-        let number = small(place)?;
-        let next = loop_over(alloc, item, number, assigned, params, counts)?;
-        loops.push(next)?;
+    for (index, next) in order.iter().enumerate() {
+        let here = &order[index..];
+        let left = &order[index + 1..];
+        let assigned = tested_in(alloc, conjuncts, here, left, alone)?;
+        let more = loop_over(alloc, next.item, next.place, assigned, params, counts)?;
+        loops.push(more)?;
     }
     Ok(loops)
 }

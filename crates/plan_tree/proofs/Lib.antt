@@ -1,7 +1,11 @@
 pub mod Ignoring
 pub mod Sifting
 pub mod Lists
+pub mod Chains
 pub mod Passing
+pub mod Nesting
+pub mod Reordering
+pub mod Positions
 pub mod Looping
 pub mod Measuring
 pub mod Planning

@@ -55,3 +55,10 @@ flat_map-flat_map f g (x ∷ xs) = flat_map-append f (g x) (flat_map g xs) ∙ a
 pub flat_map-each : {X : Type 0} (xs : List X) → flat_map (λ x. x ∷ []) xs ≡ xs
 flat_map-each [] = refl
 flat_map-each (x ∷ xs) = ap (λ ys. x ∷ ys) (flat_map-each xs)
+
+module _ {X Y : Type 0} where
+  -- what holds of each that the body gives for an element of which something holds
+  pub all-flat_map-each : (P : X → Type 0) (Q : Y → Type 0) (f : X → List Y) (xs : List X) → ((x : X) → P x → AllByRecursion Q (f x)) → AllByRecursion P xs → AllByRecursion Q (flat_map f xs)
+  all-flat_map-each P Q f [] each all = tt
+  all-flat_map-each P Q f (x ∷ xs) each all =
+      all-append Q (f x) (flat_map f xs) (each x all.0) (all-flat_map-each P Q f xs each all.1)

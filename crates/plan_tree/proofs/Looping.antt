@@ -1,21 +1,20 @@
 -- Loops by accesses give what loops over all rows give.
-use Rattle.std.proofs.Common.{◌≡◌, ◌+◌, ◌≤◌, ◌<◌, ℕ, suc, Bool, true, false, List, [], ◌∷◌, ◌++◌, length, map, filter, Some, None, refl, sym, ap, subst, ◌∙◌, arith}
-use Rattle.std.specs.Prelude.{slice_set}
+use Rattle.std.proofs.Common.{◌≡◌, ◌<◌, ℕ, List, [], ◌∷◌, ◌++◌, length, map, refl, sym, ap, ◌∙◌, arith}
 use Rattle.std.specs.List.{AllByRecursion, flat_map}
-use Rattle.std.proofs.lemmas.List.{length-map, length-set}
 use Rattle.std.proofs.lemmas.List.Folds.{flat_map-map}
 use Rattle.bound_tree.specs.Exprs.{BoundExpr}
-use Rattle.eng_value.specs.Environments.{Environment, ItemRow, table_row}
+use Rattle.eng_value.specs.Environments.{Environment, table_row}
 use Rattle.eng_value.specs.StoredRows.{StoredRow}
 use Rattle.eng_value.specs.declared.value.Value.{Value}
 use Rattle.plan_tree.proofs.Lists.{all-each, flat_map-agree, flat_map-each, flat_map-filter, flat_map-flat_map, flat_map-same}
-use Rattle.plan_tree.proofs.Passing.{joined-all, moved, passed-all, passed-append, row_if}
-use Rattle.plan_tree.specs.Assigned.{AreLoopsFor, AreReady, IgnoresFrom, IsLoopFor, all_of, checks_of, pairs_of, served}
-use Rattle.plan_tree.specs.Plans.{joined_table, looped, paired_with, pairs_by, split_join}
+use Rattle.plan_tree.proofs.Nesting.{Wide, moved, nested, next-wide, next_rows}
+use Rattle.plan_tree.proofs.Passing.{passed-all, passed-append, row_if}
+use Rattle.plan_tree.specs.Assigned.{AreLoopsFor, AreReady, IsLoopFor, all_of, checks_of, pairs_of, served}
+use Rattle.plan_tree.specs.Plans.{looped, paired_with, pairs_by, split_join}
 use Rattle.plan_tree.specs.Visits.{Fits, is_visited, tested, visited}
 use Rattle.plan_tree.specs.declared.access.Access.{Access}
 use Rattle.plan_tree.specs.declared.access.Loop.{Loop}
-use Rattle.sql_meaning.specs.Products.{FromRow, JoinedItem, in_row, joined, or_alone, passed, product_from, with_item}
+use Rattle.sql_meaning.specs.Products.{FromRow, in_row, joined, or_alone, passed, with_item}
 use Rattle.sql_meaning.specs.World.{rows_at}
 use Rattle.sql_meaning.specs.declared.bound.FromTable.{FromTable}
 use Rattle.sql_meaning.specs.declared.bound.Join.{Join}
@@ -51,10 +50,7 @@ module _ (env : Environment) (row : FromRow) (place : ℕ) (a : Access) where
 
 -- ---- a loop
 
-abbrev pub NextRows : Environment → ℕ → FromTable → FromRow → List FromRow
-NextRows env place f row = joined env place (joined_table env f).rows (joined_table env f).join row
-
-one_loop : (params : List Value) (env : Environment) → env.params ≡ params → (place : ℕ) (f : FromTable) (here : List BoundExpr) (l : Loop) → IsLoopFor params place f here l → (row : FromRow) → place < length row.rows → (g : FromRow → List FromRow) → flat_map (λ pair. flat_map g (passed env l.checks pair)) (pairs_by env l row) ≡ flat_map (λ pair. flat_map g (passed env here pair)) (NextRows env place f row)
+one_loop : (params : List Value) (env : Environment) → env.params ≡ params → (place : ℕ) (f : FromTable) (here : List BoundExpr) (l : Loop) → IsLoopFor params place f here l → (row : FromRow) → place < length row.rows → (g : FromRow → List FromRow) → flat_map (λ pair. flat_map g (passed env l.checks pair)) (pairs_by env l row) ≡ flat_map (λ pair. flat_map g (passed env here pair)) (next_rows env (place, f) row)
 one_loop params env same place f here l is row within g =
     ap (λ cs. flat_map (λ pair. flat_map g (passed env cs pair)) (pairs_by env l row)) is.checks
     ∙ ap (λ at. flat_map body (paired_with env at l.pairs (visited (in_row env row) l.path (rows_at env.world l.table)) row)) is.place
@@ -68,30 +64,30 @@ one_loop params env same place f here l is row within g =
 
 -- ---- all loops
 
-abbrev Wide : ℕ → List ItemRow → Type 0
-Wide width rows = width ≤ length rows
-
-abbrev pub items_by : Environment → List FromTable → List JoinedItem
-items_by env from = map (joined_table env) from
+-- the places of the items are among so many
+abbrev pub Within : ℕ → List (ℕ × FromTable) → Type 0
+Within width order = AllByRecursion (λ (item : ℕ × FromTable). item.0 < width) order
 
 module _ (params : List Value) (env : Environment) (same : env.params ≡ params) where
-  pub looped-same : (place width : ℕ) (from : List FromTable) (assigned : List (List BoundExpr)) (loops : List Loop) → AreLoopsFor params place from assigned loops → AreReady place width assigned → place + length from ≡ width → (row : FromRow) → width ≤ length row.rows → looped env loops row ≡ flat_map (passed env (all_of assigned)) (product_from env place (items_by env from) row)
-  looped-same place width [] [] [] are ready wide row long = refl
-  looped-same place width [] [] (l ∷ loops) are ready wide row long = absurd are
-  looped-same place width [] (here ∷ assigned) loops are ready wide row long = absurd are
-  looped-same place width (f ∷ from) [] loops are ready wide row long = absurd are
-  looped-same place width (f ∷ from) (here ∷ assigned) [] are ready wide row long = absurd are
-  looped-same place width (f ∷ from) (here ∷ assigned) (l ∷ loops) are ready wide row long =
-      let behind : suc place + length from ≡ width = omega arith in
-      let items_wide : suc place + length (items_by env from) ≡ width = omega (arith, length-map from (joined_table env)) in
-      let rest = looped-same (suc place) width from assigned loops are.1 ready.1 behind in
-      let inner : (pair : FromRow) → Wide width pair.rows → flat_map (looped env loops) (passed env here pair) ≡ flat_map (passed env (here ++ all_of assigned)) (product_from env (suc place) (items_by env from) pair) = λ pair wide_pair.
-      flat_map-agree (looped env loops) (λ r. flat_map (passed env (all_of assigned)) (product_from env (suc place) (items_by env from) r)) (passed env here pair) (all-each (λ (r : FromRow). Wide width r.rows) (λ r. looped env loops r ≡ flat_map (passed env (all_of assigned)) (product_from env (suc place) (items_by env from) r)) (passed env here pair) (λ r wide_r. rest r wide_r) (passed-all (Wide width) env here pair wide_pair))
-      ∙ sym (flat_map-flat_map (passed env (all_of assigned)) (product_from env (suc place) (items_by env from)) (passed env here pair))
-      ∙ ap (flat_map (passed env (all_of assigned))) (moved env here (suc place) width (items_by env from) items_wide ready.0 pair)
-      ∙ flat_map-flat_map (passed env (all_of assigned)) (passed env here) (product_from env (suc place) (items_by env from) pair)
-      ∙ flat_map-same (λ r. flat_map (passed env (all_of assigned)) (passed env here r)) (passed env (here ++ all_of assigned)) (product_from env (suc place) (items_by env from) pair) (passed-append env here (all_of assigned)) in
-      let pairs_wide : AllByRecursion (λ (pair : FromRow). Wide width pair.rows) (NextRows env place f row) = joined-all (Wide width) env place (joined_table env f).rows (joined_table env f).join row long (λ r. omega (arith, length-set row.rows place r)) in
-      one_loop params env same place f here l are.0 row (omega arith) (looped env loops)
-      ∙ flat_map-agree (λ pair. flat_map (looped env loops) (passed env here pair)) (λ pair. flat_map (passed env (here ++ all_of assigned)) (product_from env (suc place) (items_by env from) pair)) (NextRows env place f row) (all-each (λ (pair : FromRow). Wide width pair.rows) (λ pair. flat_map (looped env loops) (passed env here pair) ≡ flat_map (passed env (here ++ all_of assigned)) (product_from env (suc place) (items_by env from) pair)) (NextRows env place f row) inner pairs_wide)
-      ∙ sym (flat_map-flat_map (passed env (here ++ all_of assigned)) (product_from env (suc place) (items_by env from)) (NextRows env place f row))
+  -- what is tested in the loops rejects the same behind all of them
+  pub looped-nested : (width : ℕ) (order : List (ℕ × FromTable)) (assigned : List (List BoundExpr)) (loops : List Loop) → AreLoopsFor params order assigned loops → AreReady order assigned → Within width order → (row : FromRow) → Wide width row.rows → looped env loops row ≡ flat_map (passed env (all_of assigned)) (nested env order row)
+  looped-nested width [] [] [] are ready within row wide = refl
+  looped-nested width [] [] (l ∷ loops) are ready within row wide = absurd are
+  looped-nested width [] (here ∷ assigned) loops are ready within row wide = absurd are
+  looped-nested width (item ∷ order) [] loops are ready within row wide = absurd are
+  looped-nested width (item ∷ order) (here ∷ assigned) [] are ready within row wide = absurd are
+  looped-nested width (item ∷ order) (here ∷ assigned) (l ∷ loops) are ready within row wide =
+      one_loop params env same item.0 item.1 here l are.0 row (omega arith) (looped env loops)
+      ∙ flat_map-agree (λ pair. flat_map (looped env loops) (passed env here pair)) (λ pair. flat_map (passed env (here ++ rest)) (nested env order pair)) (next_rows env item row) (all-each (λ (pair : FromRow). Wide width pair.rows) (λ pair. flat_map (looped env loops) (passed env here pair) ≡ flat_map (passed env (here ++ rest)) (nested env order pair)) (next_rows env item row) (inner (looped-nested width order assigned loops are.1 ready.1 within.1)) (next-wide env width item row wide))
+      ∙ sym (flat_map-flat_map (passed env (here ++ rest)) (nested env order) (next_rows env item row))
+    where
+      rest : List BoundExpr
+      rest = all_of assigned
+
+      inner : ((r : FromRow) → Wide width r.rows → looped env loops r ≡ flat_map (passed env rest) (nested env order r)) → (pair : FromRow) → Wide width pair.rows → flat_map (looped env loops) (passed env here pair) ≡ flat_map (passed env (here ++ rest)) (nested env order pair)
+      inner behind pair wide_pair =
+          flat_map-agree (looped env loops) (λ r. flat_map (passed env rest) (nested env order r)) (passed env here pair) (all-each (λ (r : FromRow). Wide width r.rows) (λ r. looped env loops r ≡ flat_map (passed env rest) (nested env order r)) (passed env here pair) behind (passed-all (Wide width) env here pair wide_pair))
+          ∙ sym (flat_map-flat_map (passed env rest) (nested env order) (passed env here pair))
+          ∙ ap (flat_map (passed env rest)) (moved env here order ready.0 pair)
+          ∙ flat_map-flat_map (passed env rest) (passed env here) (nested env order pair)
+          ∙ flat_map-same (λ r. flat_map (passed env rest) (passed env here r)) (passed env (here ++ rest)) (nested env order pair) (passed-append env here rest)

@@ -1,12 +1,13 @@
 -- How much the loops of a plan test.
-use Rattle.std.proofs.Common.{◌≡◌, ◌+◌, ◌≤◌, ℕ, suc, Bool, true, false, List, [], ◌∷◌, ◌++◌, length, refl, sym, ap, subst, ◌∙◌, arith}
+use Rattle.std.proofs.Common.{◌≡◌, ◌+◌, ◌≤◌, ℕ, suc, Bool, true, false, List, [], ◌∷◌, ◌++◌, refl, sym, ap, ◌∙◌, arith}
 use Rattle.std.specs.Prelude.{sum_by}
 use Rattle.std.specs.List.{flat_map}
 use Rattle.std.proofs.lemmas.List.Sums.{sum_by-append, sum_by-cons}
 use Rattle.bound_tree.specs.Exprs.{BoundExpr}
+use Rattle.eng_value.proofs.Shuffling.{flat_map-shuffled}
 use Rattle.eng_value.specs.Arrangements.{Shuffled, empty, keep, swap, onward}
 use Rattle.eng_value.specs.declared.value.Value.{Value}
-use Rattle.plan_tree.specs.Assigned.{AreLoopsFor, IsLoopFor, all_of, checks_of, pairs_of, served}
+use Rattle.plan_tree.specs.Assigned.{AreLoopsFor, IsLoopFor, all_of, checks_of, numbered, pairs_of, served}
 use Rattle.plan_tree.specs.Plans.{join_conjuncts, ons_in}
 use Rattle.plan_tree.specs.Visits.{CountsSides, key_expr, keys_in, tested, unless}
 use Rattle.plan_tree.specs.declared.access.Loop.{Loop}
@@ -44,8 +45,8 @@ module _ (size : BoundExpr → ℕ) where
   abbrev of_loop : Loop → List BoundExpr
   of_loop l = ons_in l.pairs ++ l.checks
 
-  abbrev of_joins : List FromTable → List BoundExpr
-  of_joins from = flat_map (λ (f : FromTable). join_conjuncts f.join) from
+  abbrev pub of_joins : List (ℕ × FromTable) → List BoundExpr
+  of_joins order = flat_map (λ (item : ℕ × FromTable). join_conjuncts item.1.join) order
 
   loop-within : (join : Join) (here : List BoundExpr) (consumed : List Bool) → sum_by size (ons_in (pairs_of join (tested consumed (served join here))) ++ checks_of join (tested consumed (served join here)) here) ≤ sum_by size here + sum_by size (join_conjuncts join)
   loop-within Inner here consumed = let few = tested-within consumed here in omega arith
@@ -62,18 +63,18 @@ module _ (size : BoundExpr → ℕ) where
       omega arith
 
   -- what all loops test
-  pub loops-test : (params : List Value) (place : ℕ) (from : List FromTable) (assigned : List (List BoundExpr)) (loops : List Loop) → AreLoopsFor params place from assigned loops → sum_by size (flat_map of_loop loops) ≤ sum_by size (all_of assigned) + sum_by size (of_joins from)
-  loops-test params place [] [] [] are = omega arith
-  loops-test params place [] [] (l ∷ loops) are = absurd are
-  loops-test params place [] (here ∷ assigned) loops are = absurd are
-  loops-test params place (f ∷ from) [] loops are = absurd are
-  loops-test params place (f ∷ from) (here ∷ assigned) [] are = absurd are
-  loops-test params place (f ∷ from) (here ∷ assigned) (l ∷ loops) are =
-      let first = loop-tests params place f here l are.0 in
-      let rest = loops-test params (suc place) from assigned loops are.1 in
+  pub loops-test : (params : List Value) (order : List (ℕ × FromTable)) (assigned : List (List BoundExpr)) (loops : List Loop) → AreLoopsFor params order assigned loops → sum_by size (flat_map of_loop loops) ≤ sum_by size (all_of assigned) + sum_by size (of_joins order)
+  loops-test params [] [] [] are = omega arith
+  loops-test params [] [] (l ∷ loops) are = absurd are
+  loops-test params [] (here ∷ assigned) loops are = absurd are
+  loops-test params (item ∷ order) [] loops are = absurd are
+  loops-test params (item ∷ order) (here ∷ assigned) [] are = absurd are
+  loops-test params (item ∷ order) (here ∷ assigned) (l ∷ loops) are =
+      let first = loop-tests params item.0 item.1 here l are.0 in
+      let rest = loops-test params order assigned loops are.1 in
       let one = sum_by-append size (of_loop l) (flat_map of_loop loops) in
       let two = sum_by-append size here (all_of assigned) in
-      let three = sum_by-append size (join_conjuncts f.join) (of_joins from) in
+      let three = sum_by-append size (join_conjuncts item.1.join) (of_joins order) in
       omega arith
 
   abbrev key_sizes : Path → ℕ
@@ -91,16 +92,26 @@ module _ (size : BoundExpr → ℕ) where
       omega arith
 
   -- and what their keys are
-  pub loops-keys : CountsSides size → (params : List Value) (place : ℕ) (from : List FromTable) (assigned : List (List BoundExpr)) (loops : List Loop) → AreLoopsFor params place from assigned loops → sum_by (λ (l : Loop). sum_by (λ k. size (key_expr k)) (keys_in l.path)) loops ≤ sum_by size (all_of assigned) + sum_by size (of_joins from)
-  loops-keys counts params place [] [] [] are = omega arith
-  loops-keys counts params place [] [] (l ∷ loops) are = absurd are
-  loops-keys counts params place [] (here ∷ assigned) loops are = absurd are
-  loops-keys counts params place (f ∷ from) [] loops are = absurd are
-  loops-keys counts params place (f ∷ from) (here ∷ assigned) [] are = absurd are
-  loops-keys counts params place (f ∷ from) (here ∷ assigned) (l ∷ loops) are =
-      let first = loop-keys counts params place f here l are.0 in
-      let rest = loops-keys counts params (suc place) from assigned loops are.1 in
+  pub loops-keys : CountsSides size → (params : List Value) (order : List (ℕ × FromTable)) (assigned : List (List BoundExpr)) (loops : List Loop) → AreLoopsFor params order assigned loops → sum_by (λ (l : Loop). sum_by (λ k. size (key_expr k)) (keys_in l.path)) loops ≤ sum_by size (all_of assigned) + sum_by size (of_joins order)
+  loops-keys counts params [] [] [] are = omega arith
+  loops-keys counts params [] [] (l ∷ loops) are = absurd are
+  loops-keys counts params [] (here ∷ assigned) loops are = absurd are
+  loops-keys counts params (item ∷ order) [] loops are = absurd are
+  loops-keys counts params (item ∷ order) (here ∷ assigned) [] are = absurd are
+  loops-keys counts params (item ∷ order) (here ∷ assigned) (l ∷ loops) are =
+      let first = loop-keys counts params item.0 item.1 here l are.0 in
+      let rest = loops-keys counts params order assigned loops are.1 in
       let one = sum_by-cons (λ (l : Loop). key_sizes l.path) l loops in
       let two = sum_by-append size here (all_of assigned) in
-      let three = sum_by-append size (join_conjuncts f.join) (of_joins from) in
+      let three = sum_by-append size (join_conjuncts item.1.join) (of_joins order) in
       omega arith
+
+  -- ---- the ONs of items in any order
+
+  joins-numbered : (place : ℕ) (from : List FromTable) → of_joins (numbered place from) ≡ flat_map (λ (f : FromTable). join_conjuncts f.join) from
+  joins-numbered place [] = refl
+  joins-numbered place (f ∷ from) = ap (λ those. join_conjuncts f.join ++ those) (joins-numbered (suc place) from)
+
+  pub joins-size : (from : List FromTable) (order : List (ℕ × FromTable)) → Shuffled (numbered 0 from) order → sum_by size (of_joins order) ≡ sum_by size (flat_map (λ (f : FromTable). join_conjuncts f.join) from)
+  joins-size from order s =
+      sym (sum_by-shuffled size (flat_map-shuffled (λ (item : ℕ × FromTable). join_conjuncts item.1.join) s)) ∙ ap (sum_by size) (joins-numbered 0 from)

@@ -1,5 +1,5 @@
 -- Rows of a FROM that pass conjuncts: those that read nothing of the items behind may be tested in front of them.
-use Rattle.std.proofs.Common.{◌≡◌, ◌+◌, ◌≤◌, ◌<◌, ℕ, suc, List, [], ◌∷◌, ◌++◌, length, map, Some, None, refl, sym, ap, ◌∙◌, arith, append-nil}
+use Rattle.std.proofs.Common.{◌≡◌, ℕ, List, [], ◌∷◌, ◌++◌, map, Some, None, refl, sym, ap, ◌∙◌, append-nil}
 use Rattle.std.specs.Prelude.{slice_set}
 use Rattle.std.specs.List.{AllByRecursion, flat_map}
 use Rattle.std.specs.Option.{option_map, option_to_list}
@@ -9,11 +9,10 @@ use Rattle.bound_tree.specs.Exprs.{BoundExpr}
 use Rattle.eng_value.specs.Applied.{merged}
 use Rattle.eng_value.specs.Environments.{Environment, ItemRow}
 use Rattle.eng_value.specs.declared.out.Out.{Out}
-use Rattle.plan_tree.proofs.Lists.{all-append, all-each, all-flat_map, all-map, flat_map-each, flat_map-flat_map, flat_map-none, flat_map-one, flat_map-same}
+use Rattle.plan_tree.proofs.Lists.{all-each, all-flat_map, all-map, flat_map-none, flat_map-one}
 use Rattle.plan_tree.proofs.Sifting.{Alike, Sifts, rejects, adds, merged-swap, sifted-alike, sifted-append, sifts}
-use Rattle.plan_tree.specs.Assigned.{IgnoresFrom}
 use Rattle.plan_tree.specs.Visits.{Ignores, with_row_at}
-use Rattle.sql_meaning.specs.Products.{FromRow, JoinedItem, if_some, in_row, joined, or_alone, passed, product_from, sifted, with_item}
+use Rattle.sql_meaning.specs.Products.{FromRow, if_some, in_row, joined, or_alone, passed, sifted, with_item}
 use Rattle.sql_meaning.specs.declared.bound.Join.{Join}
 use Rattle.sql_meaning.specs.declared.bound.Join.TheVariants.{Inner, Left}
 
@@ -113,7 +112,7 @@ module _ (env : Environment) (cs : List BoundExpr) where
   pairs-same place rows join row ignores =
       joined-all (SiftsAs row) env place rows join row (λ causes. refl) (λ r. sifted-alike cs (in_row env row) (with_row_at (in_row env row) place r) (all-each (Ignores place) (Alike (in_row env row) (with_row_at (in_row env row) place r)) cs (λ c own. own (in_row env row) r) ignores))
 
-  moved-one : (place : ℕ) (rows : List ItemRow) (join : Join) (row : FromRow) → AllByRecursion (Ignores place) cs → flat_map (joined env place rows join) (passed env cs row) ≡ flat_map (passed env cs) (joined env place rows join row)
+  pub moved-one : (place : ℕ) (rows : List ItemRow) (join : Join) (row : FromRow) → AllByRecursion (Ignores place) cs → flat_map (joined env place rows join) (passed env cs row) ≡ flat_map (passed env cs) (joined env place rows join row)
   moved-one place rows join row ignores = by (sifts cs (in_row env row)) (pairs-same place rows join row ignores)
     where
       by : Sifts cs (in_row env row) → AllByRecursion (λ (pair : FromRow). SiftsAs row pair.rows) (joined env place rows join row) → flat_map (joined env place rows join) (passed env cs row) ≡ flat_map (passed env cs) (joined env place rows join row)
@@ -125,15 +124,3 @@ module _ (env : Environment) (cs : List BoundExpr) where
           ∙ append-nil (joined env place rows join (with_more more row))
           ∙ joined-more env place rows join more row
           ∙ sym (flat_map-one (passed env cs) (with_more more) (joined env place rows join row) (all-each (λ (pair : FromRow). SiftsAs row pair.rows) (λ pair. passed env cs pair ≡ with_more more pair ∷ []) (joined env place rows join row) (λ pair alike. passed-adds env cs pair more (λ causes. alike causes ∙ some causes)) same))
-
-  -- and what ignores all items from a place on, in front of all of them
-  pub moved : (place width : ℕ) (items : List JoinedItem) → place + length items ≡ width → AllByRecursion (IgnoresFrom place width) cs → (row : FromRow) → flat_map (product_from env place items) (passed env cs row) ≡ flat_map (passed env cs) (product_from env place items row)
-  moved place width [] wide ignores row = flat_map-each (passed env cs row) ∙ sym (append-nil (passed env cs row))
-  moved place width (i ∷ items) wide ignores row =
-      let here : AllByRecursion (Ignores place) cs = all-each (IgnoresFrom place width) (Ignores place) cs (λ c own. own place (omega arith) (omega arith)) ignores in
-      let behind : AllByRecursion (IgnoresFrom (suc place) width) cs = all-each (IgnoresFrom place width) (IgnoresFrom (suc place) width) cs (λ c own other from to. own other (omega arith) to) ignores in
-      sym (flat_map-flat_map (product_from env (suc place) items) (joined env place i.rows i.join) (passed env cs row))
-      ∙ ap (flat_map (product_from env (suc place) items)) (moved-one place i.rows i.join row here)
-      ∙ flat_map-flat_map (product_from env (suc place) items) (passed env cs) (joined env place i.rows i.join row)
-      ∙ flat_map-same (λ pair. flat_map (product_from env (suc place) items) (passed env cs pair)) (λ pair. flat_map (passed env cs) (product_from env (suc place) items pair)) (joined env place i.rows i.join row) (moved (suc place) width items (omega arith) behind)
-      ∙ sym (flat_map-flat_map (passed env cs) (product_from env (suc place) items) (joined env place i.rows i.join row))

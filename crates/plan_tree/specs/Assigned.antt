@@ -1,5 +1,5 @@
--- Loops in the order of a FROM, each of which tests the conjuncts that are assigned to its item.
-use Rattle.std.specs.Prelude.{◌≡◌, ⊤, ℕ, suc, ◌≤◌, ◌<◌, List, [], ◌∷◌, ◌++◌, length}
+-- Loops over the items of a FROM, in any order that keeps to its LEFT JOINs, each of which tests the conjuncts that are assigned to its item.
+use Rattle.std.specs.Prelude.{◌≡◌, ◌≢◌, ⊤, ℕ, suc, false, List, [], ◌∷◌, ◌++◌}
 use Rattle.std.specs.List.{AllByRecursion, flat_map}
 use Rattle.bound_tree.specs.Conditions.{conditions_of}
 use Rattle.bound_tree.specs.Exprs.{BoundExpr}
@@ -14,6 +14,20 @@ use Rattle.plan_tree.specs.Visits.{AccessFits, Ignores, tested}
 use Rattle.sql_meaning.specs.declared.bound.FromTable.{FromTable}
 use Rattle.sql_meaning.specs.declared.bound.Join.{Join}
 use Rattle.sql_meaning.specs.declared.bound.Join.TheVariants.{Inner, Left}
+
+-- ---- the order of loops
+
+-- the items of a FROM with their places, from a place on
+abbrev pub numbered : ℕ → List FromTable → List (ℕ × FromTable)
+numbered place [] = []
+numbered place (f ∷ from) = (place, f) ∷ numbered (suc place) from
+
+-- what exchanges of neighbours of which neither is a LEFT JOIN make of an order
+pub data Reordered : List (ℕ × FromTable) → List (ℕ × FromTable) → Type 0 where
+  as_it_is : (order : List (ℕ × FromTable)) → Reordered order order
+  behind : (first : ℕ × FromTable) {order other : List (ℕ × FromTable)} → Reordered order other → Reordered (first ∷ order) (first ∷ other)
+  exchange : (a b : ℕ × FromTable) (order : List (ℕ × FromTable)) → a.0 ≢ b.0 → a.1.join ≡ Inner → b.1.join ≡ Inner → Reordered (a ∷ b ∷ order) (b ∷ a ∷ order)
+  further : {order other last : List (ℕ × FromTable)} → Reordered order other → Reordered other last → Reordered order last
 
 -- ---- loops
 
@@ -42,23 +56,23 @@ pub record IsLoopFor (params : List Value) (item : ℕ) (f : FromTable) (assigne
   pub pairs : l.pairs ≡ pairs_of f.join (tested access.consumed (served f.join assigned))
   pub checks : l.checks ≡ checks_of f.join (tested access.consumed (served f.join assigned)) assigned
 
--- a loop for each item, from a place on
-abbrev pub AreLoopsFor : List Value → ℕ → List FromTable → List (List BoundExpr) → List Loop → Type 0
-AreLoopsFor params place [] [] [] = ⊤
-AreLoopsFor params place (f ∷ from) (here ∷ assigned) (l ∷ loops) =
-    IsLoopFor params place f here l × AreLoopsFor params (suc place) from assigned loops
-AreLoopsFor params place _ _ _ = ⊥
+-- a loop for each item, in their order
+abbrev pub AreLoopsFor : List Value → List (ℕ × FromTable) → List (List BoundExpr) → List Loop → Type 0
+AreLoopsFor params [] [] [] = ⊤
+AreLoopsFor params (item ∷ order) (here ∷ assigned) (l ∷ loops) =
+    IsLoopFor params item.0 item.1 here l × AreLoopsFor params order assigned loops
+AreLoopsFor params _ _ _ = ⊥
 
 -- ---- conjuncts
 
--- it reads no row of the items from a place on, of so many
-abbrev pub IgnoresFrom : ℕ → ℕ → BoundExpr → Type 0
-IgnoresFrom place width c = (other : ℕ) → place ≤ other → other < width → Ignores other c
+-- it reads no row of these items
+abbrev pub IgnoresAll : List (ℕ × FromTable) → BoundExpr → Type 0
+IgnoresAll order c = AllByRecursion (λ (item : ℕ × FromTable). Ignores item.0 c) order
 
--- what is assigned to each item reads none of those behind it
-abbrev pub AreReady : ℕ → ℕ → List (List BoundExpr) → Type 0
-AreReady place width [] = ⊤
-AreReady place width (here ∷ assigned) = AllByRecursion (IgnoresFrom (suc place) width) here × AreReady (suc place) width assigned
+-- what is assigned to each item reads none of those that come behind it in the order
+abbrev pub AreReady : List (ℕ × FromTable) → List (List BoundExpr) → Type 0
+AreReady (item ∷ order) (here ∷ assigned) = AllByRecursion (IgnoresAll order) here × AreReady order assigned
+AreReady _ _ = ⊤
 
 abbrev pub all_of : List (List BoundExpr) → List BoundExpr
 all_of assigned = flat_map (λ here. here) assigned
@@ -68,10 +82,12 @@ abbrev pub TestsAll : List FromTable → List BoundExpr → List BoundExpr → L
 TestsAll (f ∷ []) conjuncts checks assigned = (checks ≡ []) × (assigned ≡ conjuncts ∷ [])
 TestsAll from conjuncts checks assigned = ⊤
 
--- each conjunct is tested in front of all loops, or by one of them, where it reads nothing of the items that come later
-pub record IsAssigned (params : List Value) (from : List FromTable) (conjuncts : List BoundExpr) (assigned : List (List BoundExpr)) (p : JoinPlan) : Type 0 where
-  pub loops : AreLoopsFor params 0 from assigned p.loops
-  pub ready : AreReady 0 (length from) assigned
-  pub first : AllByRecursion (IgnoresFrom 0 (length from)) p.checks
+-- loops over the items in this order, whose rows are sorted unless it is that of the FROM; each conjunct is tested in front of all loops, or by one of them, where it reads nothing of the items that come behind it in the order
+pub record IsAssigned (params : List Value) (from : List FromTable) (conjuncts : List BoundExpr) (order : List (ℕ × FromTable)) (assigned : List (List BoundExpr)) (p : JoinPlan) : Type 0 where
+  pub reordered : Reordered (numbered 0 from) order
+  pub unsorted : p.sort ≡ false → order ≡ numbered 0 from
+  pub loops : AreLoopsFor params order assigned p.loops
+  pub ready : AreReady order assigned
+  pub first : AllByRecursion (IgnoresAll order) p.checks
   pub all : Shuffled (p.checks ++ all_of assigned) conjuncts
   pub alone : TestsAll from conjuncts p.checks assigned

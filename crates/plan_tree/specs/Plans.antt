@@ -1,11 +1,20 @@
 -- The rows that the loops of a plan give, and what it has to keep to.
-use Rattle.std.specs.Prelude.{◌≡◌, ⊤, ℕ, suc, ◌≤◌, List, [], ◌∷◌, ◌++◌, length, map, sum_by}
-use Rattle.std.specs.List.{flat_map}
+use Rattle.std.specs.Prelude.{◌≡◌, ⊤, ℕ, zero, suc, ◌≤◌, All, Bool, List, [], ◌∷◌, ◌++◌, if◌then◌else◌, true, false, length, map, pos, refl, slice_index_or, sum_by}
+use Rattle.std.specs.List.{AllByRecursion, flat_map}
+use Rattle.std.specs.Ordering.{is_lt, ordering_then}
+use Rattle.std.specs.declared.cmp.Ordering.{Ordering}
+use Rattle.std.specs.declared.cmp.Ordering.TheVariants.{Equal}
 use Rattle.bound_tree.specs.Conditions.{conditions_of}
 use Rattle.bound_tree.specs.Exprs.{BoundExpr}
-use Rattle.eng_value.specs.Environments.{Environment, Surroundings, environment, table_row}
-use Rattle.eng_value.specs.StoredRows.{StoredRow}
+use Rattle.eng_value.specs.Arrangements.{Shuffled, arranged}
+use Rattle.eng_value.specs.Collations.{compare}
+use Rattle.eng_value.specs.Environments.{Environment, ItemRow, Surroundings, environment, no_causes, null_row, table_row}
+use Rattle.eng_value.specs.StoredRows.{IsAscending, StoredRow}
+use Rattle.eng_value.specs.declared.built.Built.TheVariants as built
+use Rattle.eng_value.specs.declared.out.Out.{Out}
+use Rattle.eng_value.specs.declared.out.Out.TheVariants.{Bad, Good}
 use Rattle.eng_value.specs.declared.value.Value.{Value}
+use Rattle.eng_value.specs.declared.value.Value.TheVariants.{Null}
 use Rattle.plan_tree.specs.declared.access.JoinPlan.{JoinPlan}
 use Rattle.plan_tree.specs.declared.access.Loop.{Loop}
 use Rattle.plan_tree.specs.declared.access.Pairs.{Pairs}
@@ -51,8 +60,36 @@ abbrev pub looped : Environment → List Loop → FromRow → List FromRow
 looped env [] row = row ∷ []
 looped env (l ∷ loops) row = flat_map (λ pair. flat_map (looped env loops) (passed env l.checks pair)) (pairs_by env l row)
 
+-- those of all loops of a plan, in their order
+abbrev pub gathered : Environment → JoinPlan → FromRow → List FromRow
+gathered env p row = flat_map (looped env p.loops) (passed env p.checks row)
+
+-- ---- the order of a FROM
+
+abbrev pub value_or_null : Out → Value
+value_or_null (Good v) = v
+value_or_null (Bad causes) = Null
+
+-- the rowid of the row of the item in a place; NULL where it has no row
+abbrev pub position : ℕ → FromRow → Value
+position place row = value_or_null (slice_index_or row.rows place null_row).rowid
+
+-- by the first item, of so many from a place on, in which their positions differ
+abbrev pub position_cmp : ℕ → ℕ → FromRow → FromRow → Ordering
+position_cmp place zero a b = Equal
+position_cmp place (suc count) a b =
+    ordering_then (compare built.Binary (position place a) (position place b)) (position_cmp (suc place) count a b)
+
+-- it comes before the other in the order of a FROM of so many items
+abbrev pub stands_before : ℕ → FromRow → FromRow → Bool
+stands_before width a b = is_lt (position_cmp 0 width a b)
+
+-- ---- the rows that a plan gives
+
+-- what the loops give, or that in the order of the FROM
 abbrev pub planned : Environment → JoinPlan → FromRow → List FromRow
-planned env p row = flat_map (looped env p.loops) (passed env p.checks row)
+planned env p row =
+    if p.sort then arranged (stands_before (length p.loops)) (gathered env p row) else gathered env p row
 
 -- ---- how much is tested
 
@@ -79,17 +116,19 @@ pub record IsSmall (from : List FromTable) (conjuncts : List BoundExpr) (p : Joi
 
 -- ---- a plan
 
--- the loop is one over the table of the item in a place
-pub record IsOver (at : ℕ) (f : FromTable) (l : Loop) : Type 0 where
-  pub place : l.place ≡ at
-  pub table : l.table ≡ f.table
-  pub counted : IsCounted l.path
+-- the places and tables of items, from a place on
+abbrev pub items_from : ℕ → List FromTable → List (ℕ × ℕ)
+items_from place [] = []
+items_from place (f ∷ from) = (place, f.table) ∷ items_from (suc place) from
 
--- a loop for each item, in the order of the FROM
-abbrev pub AreOver : ℕ → List FromTable → List Loop → Type 0
-AreOver place [] [] = ⊤
-AreOver place (f ∷ from) (l ∷ loops) = IsOver place f l × AreOver (suc place) from loops
-AreOver place _ _ = ⊥
+-- the place and the table of the item that a loop is over
+abbrev pub item_of : Loop → ℕ × ℕ
+item_of l = (l.place, l.table)
+
+-- a loop for each item
+pub record AreOver (from : List FromTable) (loops : List Loop) : Type 0 where
+  pub items : Shuffled (map item_of loops) (items_from 0 from)
+  pub counted : AllByRecursion (λ (l : Loop). IsCounted l.path) loops
 
 -- a LEFT JOIN visits rows by its own ON alone
 abbrev pub UnlessLeft : Join → Type 0 → Type 0
@@ -102,9 +141,23 @@ IsFewOf params (f ∷ []) conjuncts (l ∷ []) =
     UnlessLeft f.join ((x : Surroundings) → x.params ≡ params → length (visited_by (environment x [] [] []) l (no_rows 1)) ≤ rows_counted x f.indexes conjuncts (rows_at x.world f.table))
 IsFewOf params from conjuncts loops = ⊤
 
--- it gives the rows of the FROM that the conjuncts keep, in their order
+-- where tables ascend by rowid, it gives the rows of the FROM that the conjuncts keep, in their order
 pub record PlanFits (params : List Value) (from : List FromTable) (conjuncts : List BoundExpr) (p : JoinPlan) : Type 0 where
-  pub gives : (env : Environment) → env.params ≡ params → planned env p (no_rows (length from)) ≡ flat_map (passed env conjuncts) (rows_of_from env from)
-  pub over : AreOver 0 from p.loops
+  pub gives : (env : Environment) → env.params ≡ params → All IsAscending env.world → planned env p (no_rows (length from)) ≡ flat_map (passed env conjuncts) (rows_of_from env from)
+  pub over : AreOver from p.loops
   pub few : IsFewOf params from conjuncts p.loops
   pub small : IsSmall from conjuncts p
+
+-- ---- examples
+
+abbrev row_of : ℕ → ItemRow
+row_of n = table_row (record { rowid = pos n; values = [] })
+
+abbrev with_rows : List ItemRow → FromRow
+with_rows rows = record { rows = rows; causes = no_causes }
+
+-- the leftmost item whose rowids differ decides; an item without a row comes before all others
+in_the_order_of_a_from : (stands_before 2 (with_rows (row_of 1 ∷ row_of 9 ∷ [])) (with_rows (row_of 2 ∷ row_of 3 ∷ [])) ≡ true)
+    × (stands_before 2 (with_rows (row_of 2 ∷ row_of 9 ∷ [])) (with_rows (row_of 2 ∷ row_of 3 ∷ [])) ≡ false)
+    × (stands_before 2 (with_rows (row_of 2 ∷ null_row ∷ [])) (with_rows (row_of 2 ∷ row_of 3 ∷ [])) ≡ true)
+in_the_order_of_a_from = (refl, refl, refl)

@@ -1,5 +1,5 @@
 -- Which rows of an item an access visits, and what it has to keep to (SQLite Query Optimizer Overview, section 2).
-use Rattle.std.specs.Prelude.{◌≡◌, ℕ, ◌≤◌, ◌<◌, Bool, true, false, List, [], ◌∷◌, length, map, slice_set, sum_by, Option, None, ⊤}
+use Rattle.std.specs.Prelude.{◌≡◌, ℕ, ◌≤◌, ◌<◌, Bool, true, false, List, [], ◌∷◌, length, map, slice_set, sum_by, None, ⊤}
 use Rattle.std.specs.List.{filter}
 use Rattle.bound_tree.specs.Exprs as e
 use Rattle.bound_tree.specs.Exprs.{BoundExpr}

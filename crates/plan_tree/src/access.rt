@@ -77,4 +77,6 @@ pub struct JoinPlan<'a> {
     pub checks: Items<Conjunct<'a>>,
     /// Outermost first.
     pub loops: Items<Loop<'a>>,
+    /// Whether the rows that the loops give are put in the order of the FROM behind them, by the rowids of their items.
+    pub sort: bool,
 }

@@ -22,5 +22,5 @@ mod taken_rows;
 mod top;
 mod writing;
 
-pub use engine::Hosts;
+pub use engine::{Hosts, JoinOrder};
 pub use top::run;

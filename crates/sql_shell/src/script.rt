@@ -21,7 +21,7 @@ use crate::statement::run_text;
 use crate::stop::Stop;
 use crate::writing::write_all;
 use eng_value::{MAX_SCRIPT_BYTES, Meanings, Steps};
-use engine::{Connection, Hosts};
+use engine::{Connection, Hosts, JoinOrder};
 use host_traits::Sink;
 use sql_meaning::{Ending, Failure, Options};
 use std::alloc::Global;
@@ -159,6 +159,7 @@ fn run_parts<M: Meanings, K: Sink, L: Ledger>(
     alloc: Global,
     hosts: &mut Hosts,
     options: Options,
+    order: JoinOrder,
     text: &str,
     pending_runs: bool,
     steps: &mut Steps<L>,
@@ -176,6 +177,7 @@ fn run_parts<M: Meanings, K: Sink, L: Ledger>(
     ensures hosts { meant (λ b. verdicts (b.vtable, b.value)) hosts.new ≡ M.hosts }
 {
     let mut connection = Connection::new(alloc, options.budget);
+    connection.set_join_order(order);
     let mut failed = false;
     let mut rest = text;
     let mut is_fresh = true;
@@ -220,11 +222,12 @@ fn runs_pending(ending: Ending, bad: Option<usize>) -> bool
     }
 }
 
-/// Runs the script of these bytes with this ending. A character that is not whole UTF-8 ends it.
+/// Runs the script of these bytes with this ending, whose joins are in this order. A character that is not whole UTF-8 ends it.
 pub(crate) fn run_script<M: Meanings, K: Sink, L: Ledger>(
     alloc: Global,
     hosts: &mut Hosts,
     options: Options,
+    order: JoinOrder,
     bytes: &[u8],
     ending: Ending,
     steps: &mut Steps<L>,
@@ -242,7 +245,7 @@ pub(crate) fn run_script<M: Meanings, K: Sink, L: Ledger>(
 {
     let found = whole_characters(looked_at(bytes, ending), ending);
     let runs = runs_pending(ending, found.bad);
-    let course = run_parts::<M, K, L>(alloc, hosts, options, found.text, runs, steps, out)?;
+    let course = run_parts::<M, K, L>(alloc, hosts, options, order, found.text, runs, steps, out)?;
     if course.has_ended() {
         return Ok(course);
     }

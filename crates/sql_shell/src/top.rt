@@ -13,7 +13,7 @@ use crate::script::run_script;
 use crate::stop::Stop;
 use crate::writing::write_all;
 use eng_value::{MAX_SCRIPT_BYTES, Meanings, Steps};
-use engine::Hosts;
+use engine::{Hosts, JoinOrder};
 use host_traits::{Sink, Source};
 use shell_words::{WordsError, read_options};
 use sql_meaning::Options;
@@ -27,6 +27,7 @@ const USAGE: &[u8] = b"usage: sqlsh [--budget N] [--bail] [--make N]\n";
 fn run_source<M: Meanings, S: Source, K: Sink, L: Ledger>(
     alloc: Global,
     options: Options,
+    order: JoinOrder,
     hosts: &mut Hosts,
     src: &mut S,
     out: &mut K,
@@ -57,6 +58,7 @@ fn run_source<M: Meanings, S: Source, K: Sink, L: Ledger>(
         alloc,
         hosts,
         options,
+        order,
         &script.bytes,
         script.ending,
         steps,
@@ -81,10 +83,11 @@ fn run_source<M: Meanings, S: Source, K: Sink, L: Ledger>(
 /// A script is cut into statements, each up to its `;`, and into dot lines, which begin with a `.` where no statement is pending.
 /// What is pending behind the last of them is run where the source ends, and not behind a failed read or past the limit. A character
 /// that is not whole UTF-8 has an error line and ends the script; after `--bail` so does each error line. After `--budget N` a
-/// statement runs N instructions at most.
+/// statement runs N instructions at most. The loops of joins are in this order, as near as may be, which decides nothing but how long they take.
 pub fn run<S: Source, K: Sink, L: Ledger>(
     alloc: Global,
     words: &[String],
+    order: JoinOrder,
     hosts: &mut Hosts,
     src: &mut S,
     out: &mut K,
@@ -121,7 +124,7 @@ pub fn run<S: Source, K: Sink, L: Ledger>(
     ensures steps { steps.old ≤ steps.new }
 {
     match read_options(alloc, words) {
-        Ok(options) => run_source::<Brand, S, K, L>(alloc, options, hosts, src, out, steps),
+        Ok(options) => run_source::<Brand, S, K, L>(alloc, options, order, hosts, src, out, steps),
         Err(WordsError::Usage) => {
             let _ = write_all(out, USAGE);
             2

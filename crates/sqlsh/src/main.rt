@@ -10,7 +10,7 @@ ghost use Rattle.shell_words.specs.CommandLine.{options_of};
 
 use eng_value::Steps;
 use host_traits::{Sink, Source, StreamSink, StreamSource};
-use sql_shell::{Hosts, run};
+use sql_shell::{Hosts, JoinOrder, run};
 use std::alloc::{AllocError, Global};
 use std::env;
 use std::io::{self, ErrorKind};
@@ -27,6 +27,7 @@ fn run_uncounted<S: Source, K: Sink, L: Ledger>(
     blank: Blank,
     alloc: Global,
     words: &[String],
+    order: JoinOrder,
     src: &mut S,
     out: &mut K,
 ) -> u8
@@ -41,7 +42,7 @@ fn run_uncounted<S: Source, K: Sink, L: Ledger>(
 {
     let mut hosts = Hosts::new();
     let mut steps = Steps::<L>::new(blank);
-    run(alloc, words, &mut hosts, src, out, &mut steps)
+    run(alloc, words, order, &mut hosts, src, out, &mut steps)
 }
 
 // The words of the command line, the program's name first. One that is no text is refused, so a word stands for such a line that
@@ -66,6 +67,17 @@ fn command_words<R: Env + AllocGlobal>(rt: &R) -> Result<Vec<String>, AllocError
     Ok(words)
 }
 
+// The order of the loops of joins: that of the number in the environment's SQLSH_JOIN_ORDER, which tests set, or the cheapest one.
+fn join_order<R: Env + AllocGlobal>(rt: &R) -> JoinOrder {
+    match env::var(rt, "SQLSH_JOIN_ORDER") {
+        Ok(text) => match text.parse::<u64>() {
+            Ok(number) => JoinOrder::Numbered(number),
+            Err(_) => JoinOrder::Cheapest,
+        },
+        Err(_) => JoinOrder::Cheapest,
+    }
+}
+
 fn main(rt: HostRuntime) -> ExitCode {
     let alloc = rt.alloc();
     let words = match command_words(&rt) {
@@ -74,6 +86,14 @@ fn main(rt: HostRuntime) -> ExitCode {
     };
     let mut src = StreamSource::new(rt.reader());
     let mut out = StreamSink::new(io::writer(&rt));
-    let status = run_uncounted::<_, _, Brand>(Blank::new(1), alloc, &words, &mut src, &mut out);
+    let order = join_order(&rt);
+    let status = run_uncounted::<_, _, Brand>(
+        Blank::new(1),
+        alloc,
+        &words,
+        order,
+        &mut src,
+        &mut out,
+    );
     ExitCode::from(status)
 }

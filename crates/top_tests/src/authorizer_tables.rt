@@ -189,6 +189,13 @@ A column of an index, by which nothing is found then:~read t a ignore~CREATE TAB
 |4
 ~0@
 A row of another kind is no row:~update t b ignore,insert t b ignore,read u b ignore,read t c ignore~CREATE TABLE t(a INTEGER, b INTEGER); INSERT INTO t VALUES(1, 2); SELECT a, b FROM t;~1|2
+~0@
+A column in an ON, by an index and by none:~read u a ignore~CREATE TABLE t(a INTEGER); CREATE TABLE u(a INTEGER, c); INSERT INTO t VALUES(1), (2); INSERT INTO u VALUES(1, 'x'), (2, 'y'); SELECT t.a, c FROM t JOIN u ON u.a = t.a; SELECT t.a, c FROM t LEFT JOIN u ON u.a = t.a; CREATE INDEX i ON u(a); SELECT t.a, c FROM t JOIN u ON u.a = t.a; SELECT t.a, c FROM t LEFT JOIN u ON u.a = t.a; SELECT t.a, c FROM t JOIN u ON u.a IS NULL WHERE t.a = 1;~1|
+2|
+1|
+2|
+1|x
+1|y
 ~0@";
 
 /// A script for an authorizer that allows, ignores and denies by turns, whatever it is asked about.

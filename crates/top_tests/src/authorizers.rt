@@ -146,7 +146,7 @@ fn authorizers_are_asked(rt: HostRuntime) -> Result<(), Fail> {
     assert!(rt; staff(alloc)?.is(STAFF_LINES, 1));
     assert_eq!(rt; count_well(alloc, DENIED)?, 23);
     assert_eq!(rt; count_well(alloc, ORDER)?, 8);
-    assert_eq!(rt; count_well(alloc, IGNORED)?, 16);
+    assert_eq!(rt; count_well(alloc, IGNORED)?, 17);
     assert!(rt; untold(alloc)?.is(UNTOLD_LINES, 1));
     Ok(())
 }

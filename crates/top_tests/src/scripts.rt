@@ -4,7 +4,7 @@ ghost use Rattle.std.specs.Prelude.{◌≡◌, ◌<◌};
 use crate::script_tables::{FAULTS, WORKED};
 use eng_value::Steps;
 use host_traits::{MemorySink, MemorySource, ReadAnswer, Sink, Source};
-use sql_shell::{Hosts, run};
+use sql_shell::{Hosts, JoinOrder, run};
 use std::alloc::{AllocError, Global};
 use std::marker::Brand;
 use std::sync::ledger::{Blank, Ledger};
@@ -24,7 +24,15 @@ fn run_uncounted<S: Source, K: Sink, L: Ledger>(
     requires some { 0 < blank.parts }
 {
     let mut steps = Steps::<L>::new(blank);
-    run(alloc, words, hosts, src, out, &mut steps)
+    run(
+        alloc,
+        words,
+        JoinOrder::Cheapest,
+        hosts,
+        src,
+        out,
+        &mut steps,
+    )
 }
 
 #[test]

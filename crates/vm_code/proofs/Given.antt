@@ -8,9 +8,11 @@ use Rattle.eng_index.specs.declared.key_term.KeyTerm.{KeyTerm}
 use Rattle.eng_index.specs.declared.range.Range.{Range}
 use Rattle.eng_key.specs.Values.{value_keys}
 use Rattle.eng_value.specs.Applied.{binary_of, function_by, unary_of}
+use Rattle.eng_value.specs.Arrangements.{arranged}
 use Rattle.eng_value.specs.Causes.{CauseSet, is_skip, only}
 use Rattle.eng_value.specs.Collations.{keys_of}
 use Rattle.eng_value.specs.Comparisons.{like_escaped_of}
+use Rattle.eng_value.specs.Environments.{ItemRow}
 use Rattle.eng_value.specs.StoredRows.{StoredRow, next_rowid}
 use Rattle.eng_value.specs.declared.cause.Cause.TheVariants.{Constraint, Full, Mismatch}
 use Rattle.eng_value.specs.declared.cause.ConstraintKind.TheVariants.{Unique}
@@ -20,7 +22,7 @@ use Rattle.vm_code.specs.declared.op.Op.TheVariants as op
 use Rattle.vm_code.specs.declared.operand.Operand.{Operand}
 use Rattle.vm_code.specs.declared.operand.Operand.TheVariants as operand
 use Rattle.vm_code.specs.declared.program.Unit.{Unit}
-use Rattle.vm_code.specs.Machine.{Row, rows_of, Cursor, Closed, Open, Chosen, Holding, Standing, Shared, Frame, State, Ending, Leaving, Halts, GivesUp, Setting, Next, On, End, act, step, go_on, after, code_of, unit_at, read, put, operand_of, outs_from, values_from, integer_in, row_in, is_missing, is_integer, skip_if, jump_if, is_accepted, is_rejected, is_null, is_known, is_bad, range_in, rewound, rewound_to, searched, searched_to, conflicted, conflicted_to, built, advanced, advanced_to, drawn, called, returned, given_up, leads_to, leaving_of, cursor_at, cursor_rows, row_behind, world_of}
+use Rattle.vm_code.specs.Machine.{Row, rows_of, Cursor, Closed, Open, Chosen, Holding, Standing, Sorted, Shared, Frame, State, Ending, Leaving, Halts, GivesUp, Setting, Next, On, End, act, step, go_on, after, code_of, unit_at, read, put, operand_of, outs_from, values_from, integer_in, row_in, is_missing, is_integer, skip_if, jump_if, is_accepted, is_rejected, is_null, is_known, is_bad, range_in, rewound, rewound_to, searched, searched_to, conflicted, conflicted_to, built, advanced, advanced_to, sought, sought_to, some_rowid, sorted_to, dropped, dropped_to, comes_before, last_list, other_lists, with_lists, drawn, called, returned, given_up, leads_to, leaving_of, cursor_at, cursor_rows, row_behind, world_of}
 use Rattle.vm_code.specs.Reading.{below, prepend, under}
 use Rattle.vm_code.proofs.Runs.{after_add}
 
@@ -63,6 +65,7 @@ module _ (g : List Row) where
   rewound_given (Chosen t n rest) s c target = rewound_to_given s c target t (rows_of (world_of s.shared) t)
   rewound_given (Holding rows) s c target = refl
   rewound_given (Standing row rest) s c target = refl
+  rewound_given (Sorted rows) s c target = refl
 
   searched_to_given : (s : State) (c target t : ℕ) (rows : List StoredRow) → searched_to (under g s) c target t rows ≡ prepend g (searched_to s c target t rows)
   searched_to_given s c target t [] = refl
@@ -78,6 +81,7 @@ module _ (g : List Row) where
   conflicted_given (Chosen t n rest) s c target keys row = conflicted_to_given s c target t (row_in_way keys (rows_of (world_of s.shared) t) row)
   conflicted_given (Holding rows) s c target keys row = refl
   conflicted_given (Standing x rest) s c target keys row = refl
+  conflicted_given (Sorted rows) s c target keys row = refl
 
   searched_given : (x : Cursor) (s : State) (c target : ℕ) (terms : List KeyTerm) (range : Range) → searched x (under g s) c target terms range ≡ prepend g (searched x s c target terms range)
   searched_given Closed s c target terms range = refl
@@ -85,6 +89,7 @@ module _ (g : List Row) where
   searched_given (Chosen t n rest) s c target terms range = searched_to_given s c target t (found terms range (rows_of (world_of s.shared) t))
   searched_given (Holding rows) s c target terms range = refl
   searched_given (Standing row rest) s c target terms range = refl
+  searched_given (Sorted rows) s c target terms range = refl
 
   built_given : (s : State) (unique : Option (List ℕ)) (terms : List KeyTerm) (rows : List StoredRow) → built (under g s) unique terms rows ≡ prepend g (built s unique terms rows)
   built_given s None terms rows = refl
@@ -103,6 +108,36 @@ module _ (g : List Row) where
   advanced_given (Holding rows) s c target = refl
   advanced_given (Standing row []) s c target = refl
   advanced_given (Standing row (next ∷ rest)) s c target = refl
+  advanced_given (Sorted rows) s c target = refl
+
+  sought_to_given : (s : State) (c t : ℕ) (n : Option ℤ) → sought_to (under g s) c t n ≡ prepend g (sought_to s c t n)
+  sought_to_given s c t None = refl
+  sought_to_given s c t (Some n) = refl
+
+  sought_given : (x : Cursor) (s : State) (c : ℕ) (n : Option ℤ) → sought x (under g s) c n ≡ prepend g (sought x s c n)
+  sought_given Closed s c n = refl
+  sought_given (Open t place) s c n = sought_to_given s c t n
+  sought_given (Chosen t place rest) s c n = sought_to_given s c t n
+  sought_given (Holding rows) s c n = refl
+  sought_given (Standing row rest) s c n = refl
+  sought_given (Sorted rows) s c n = refl
+
+  sorted_to_given : (s : State) (c target : ℕ) (rows : List ItemRow) → sorted_to (under g s) c target rows ≡ prepend g (sorted_to s c target rows)
+  sorted_to_given s c target [] = refl
+  sorted_to_given s c target (row ∷ rest) = refl
+
+  dropped_to_given : (s : State) (c target : ℕ) (rows : List ItemRow) → dropped_to (under g s) c target rows ≡ prepend g (dropped_to s c target rows)
+  dropped_to_given s c target [] = refl
+  dropped_to_given s c target (row ∷ []) = refl
+  dropped_to_given s c target (row ∷ next ∷ rest) = refl
+
+  dropped_given : (x : Cursor) (s : State) (c target : ℕ) → dropped x (under g s) c target ≡ prepend g (dropped x s c target)
+  dropped_given Closed s c target = refl
+  dropped_given (Open t place) s c target = refl
+  dropped_given (Chosen t n rest) s c target = refl
+  dropped_given (Holding rows) s c target = refl
+  dropped_given (Standing row rest) s c target = refl
+  dropped_given (Sorted rows) s c target = dropped_to_given s c target rows
 
   drawn_given : (s : State) (r : ℕ) (name : List ℕ) (n : Option ℤ) → drawn (under g s) r name n ≡ prepend g (drawn s r name n)
   drawn_given s r name None = given_up_given s.stack s.shared (only (Full name))
@@ -166,6 +201,13 @@ module _ (g : List Row) where
   act_given m (Some (op.Next c target)) s = advanced_given (cursor_at s.scene.cursors c) s c target
   act_given m (Some (op.Search c terms bounds first target)) s =
       searched_given (cursor_at s.scene.cursors c) s c target terms (range_in s.regs first bounds)
+  act_given m (Some (op.SeekRowid c rowid)) s = sought_given (cursor_at s.scene.cursors c) s c (some_rowid s.regs rowid)
+  act_given m (Some (op.SorterOpen c)) s = refl
+  act_given m (Some (op.SorterInsert first n)) s = refl
+  act_given m (Some (op.SorterSort c terms target)) s =
+      sorted_to_given (with_lists s (other_lists s.store.lists)) c target (arranged (comes_before terms) (last_list s.store.lists))
+  act_given m (Some (op.SorterData c first n)) s = refl
+  act_given m (Some (op.SorterNext c target)) s = dropped_given (cursor_at s.scene.cursors c) s c target
   act_given m (Some (op.Column c k to)) s = refl
   act_given m (Some (op.Rowid c to)) s = refl
   act_given m (Some (op.NoConflict c rowid first n keys target)) s =

@@ -6,7 +6,9 @@ use Rattle.std.proofs.lemmas.Bool.{and_parts}
 use Rattle.eng_index.specs.Keys.{found, has_doubles, row_in_way}
 use Rattle.eng_index.specs.declared.key_term.KeyTerm.{KeyTerm}
 use Rattle.eng_index.specs.declared.range.Range.{Range}
+use Rattle.eng_value.specs.Arrangements.{arranged}
 use Rattle.eng_value.specs.Causes.{CauseSet, is_skip, only}
+use Rattle.eng_value.specs.Environments.{ItemRow}
 use Rattle.eng_value.specs.StoredRows.{StoredRow, IsAscending, next_rowid}
 use Rattle.eng_value.specs.Written.{Written}
 use Rattle.eng_value.specs.declared.cause.Cause.TheVariants.{Constraint, Full, Mismatch}
@@ -17,7 +19,7 @@ use Rattle.vm_code.specs.declared.op.Op.TheVariants as op
 use Rattle.vm_code.specs.declared.program.Unit.{Unit}
 use Rattle.vm_code.specs.declared.schema_change.SchemaChange.{SchemaChange}
 use Rattle.vm_code.specs.declared.schema_change.SchemaChange.TheVariants.{AddTable, DropTable}
-use Rattle.vm_code.specs.Machine.{Row, World, IsSound, rows_of, row_under, put_row, is_free, Cursor, Closed, Open, Chosen, Holding, Standing, Shared, Frame, State, Setting, Next, On, End, Leaving, Halts, GivesUp, Reaches, act, step, go_on, after, code_of, unit_at, read, outs_from, values_from, integer_in, row_in, skip_if, is_missing, is_integer, jump_if, is_accepted, is_rejected, is_null, is_known, is_bad, range_in, rewound, rewound_to, searched, searched_to, conflicted, conflicted_to, built, advanced, advanced_to, drawn, with_given, with_row, with_table, with_schema, inserted, called, returned, given_up, leads_to, leaving_of, cursor_at, cursor_rows, row_behind, world_of}
+use Rattle.vm_code.specs.Machine.{Row, World, IsSound, rows_of, row_under, put_row, is_free, Cursor, Closed, Open, Chosen, Holding, Standing, Sorted, Shared, Frame, State, Setting, Next, On, End, Leaving, Halts, GivesUp, Reaches, act, step, go_on, after, code_of, unit_at, read, outs_from, values_from, integer_in, row_in, skip_if, is_missing, is_integer, jump_if, is_accepted, is_rejected, is_null, is_known, is_bad, range_in, rewound, rewound_to, searched, searched_to, conflicted, conflicted_to, built, advanced, advanced_to, sought, sought_to, some_rowid, sorted_to, dropped, dropped_to, comes_before, last_list, other_lists, with_lists, drawn, with_given, with_row, with_table, with_schema, inserted, called, returned, given_up, leads_to, leaving_of, cursor_at, cursor_rows, row_behind, world_of}
 use Rattle.vm_code.proofs.Rows.{All-cons, All-nil, ascending_put, ascending_nil}
 
 -- what is shared behind an instruction
@@ -66,6 +68,7 @@ module _ (P : Shared → Type 0) (given : (x : Shared) (r : Row) → P x → P (
   rewound_keeps (Chosen t n rest) s c target p = rewound_to_keeps s c target t (rows_of (world_of s.shared) t) p
   rewound_keeps (Holding rows) s c target p = p
   rewound_keeps (Standing row rest) s c target p = p
+  rewound_keeps (Sorted rows) s c target p = p
 
   searched_to_keeps : (s : State) (c target t : ℕ) (rows : List StoredRow) → P s.shared → P (shared_of (searched_to s c target t rows))
   searched_to_keeps s c target t [] p = p
@@ -81,6 +84,7 @@ module _ (P : Shared → Type 0) (given : (x : Shared) (r : Row) → P x → P (
   conflicted_keeps (Chosen t n rest) s c target keys row p = conflicted_to_keeps s c target t (row_in_way keys (rows_of (world_of s.shared) t) row) p
   conflicted_keeps (Holding rows) s c target keys row p = p
   conflicted_keeps (Standing x rest) s c target keys row p = p
+  conflicted_keeps (Sorted rows) s c target keys row p = p
 
   searched_keeps : (x : Cursor) (s : State) (c target : ℕ) (terms : List KeyTerm) (range : Range) → P s.shared → P (shared_of (searched x s c target terms range))
   searched_keeps Closed s c target terms range p = p
@@ -88,6 +92,7 @@ module _ (P : Shared → Type 0) (given : (x : Shared) (r : Row) → P x → P (
   searched_keeps (Chosen t n rest) s c target terms range p = searched_to_keeps s c target t (found terms range (rows_of (world_of s.shared) t)) p
   searched_keeps (Holding rows) s c target terms range p = p
   searched_keeps (Standing row rest) s c target terms range p = p
+  searched_keeps (Sorted rows) s c target terms range p = p
 
   built_keeps : (s : State) (unique : Option (List ℕ)) (terms : List KeyTerm) (rows : List StoredRow) → P s.shared → P (shared_of (built s unique terms rows))
   built_keeps s None terms rows p = p
@@ -106,6 +111,36 @@ module _ (P : Shared → Type 0) (given : (x : Shared) (r : Row) → P x → P (
   advanced_keeps (Holding rows) s c target p = p
   advanced_keeps (Standing row []) s c target p = p
   advanced_keeps (Standing row (next ∷ rest)) s c target p = p
+  advanced_keeps (Sorted rows) s c target p = p
+
+  sought_to_keeps : (s : State) (c t : ℕ) (n : Option ℤ) → P s.shared → P (shared_of (sought_to s c t n))
+  sought_to_keeps s c t None p = p
+  sought_to_keeps s c t (Some n) p = p
+
+  sought_keeps : (x : Cursor) (s : State) (c : ℕ) (n : Option ℤ) → P s.shared → P (shared_of (sought x s c n))
+  sought_keeps Closed s c n p = p
+  sought_keeps (Open t place) s c n p = sought_to_keeps s c t n p
+  sought_keeps (Chosen t place rest) s c n p = sought_to_keeps s c t n p
+  sought_keeps (Holding rows) s c n p = p
+  sought_keeps (Standing row rest) s c n p = p
+  sought_keeps (Sorted rows) s c n p = p
+
+  sorted_to_keeps : (s : State) (c target : ℕ) (rows : List ItemRow) → P s.shared → P (shared_of (sorted_to s c target rows))
+  sorted_to_keeps s c target [] p = p
+  sorted_to_keeps s c target (row ∷ rest) p = p
+
+  dropped_to_keeps : (s : State) (c target : ℕ) (rows : List ItemRow) → P s.shared → P (shared_of (dropped_to s c target rows))
+  dropped_to_keeps s c target [] p = p
+  dropped_to_keeps s c target (row ∷ []) p = p
+  dropped_to_keeps s c target (row ∷ next ∷ rest) p = p
+
+  dropped_keeps : (x : Cursor) (s : State) (c target : ℕ) → P s.shared → P (shared_of (dropped x s c target))
+  dropped_keeps Closed s c target p = p
+  dropped_keeps (Open t place) s c target p = p
+  dropped_keeps (Chosen t n rest) s c target p = p
+  dropped_keeps (Holding rows) s c target p = p
+  dropped_keeps (Standing row rest) s c target p = p
+  dropped_keeps (Sorted rows) s c target p = dropped_to_keeps s c target rows p
 
   drawn_keeps : (s : State) (r : ℕ) (name : List ℕ) (n : Option ℤ) → P s.shared → P (shared_of (drawn s r name n))
   drawn_keeps s r name None p = given_up_keeps s.stack s.shared (only (Full name)) p
@@ -117,6 +152,7 @@ module _ (P : Shared → Type 0) (given : (x : Shared) (r : Row) → P x → P (
   inserted_keeps (Chosen t n rest) y r p = row y t r p
   inserted_keeps (Holding rows) y r p = p
   inserted_keeps (Standing at rest) y r p = p
+  inserted_keeps (Sorted rows) y r p = p
 
   pub act_keeps : (m : Setting) (o : Option Op) (s : State) → P s.shared → P (shared_of (act m o s))
   act_keeps m None s p = p
@@ -156,6 +192,13 @@ module _ (P : Shared → Type 0) (given : (x : Shared) (r : Row) → P x → P (
   act_keeps m (Some (op.Next c target)) s p = advanced_keeps (cursor_at s.scene.cursors c) s c target p
   act_keeps m (Some (op.Search c terms bounds first target)) s p =
       searched_keeps (cursor_at s.scene.cursors c) s c target terms (range_in s.regs first bounds) p
+  act_keeps m (Some (op.SeekRowid c rowid)) s p = sought_keeps (cursor_at s.scene.cursors c) s c (some_rowid s.regs rowid) p
+  act_keeps m (Some (op.SorterOpen c)) s p = p
+  act_keeps m (Some (op.SorterInsert first n)) s p = p
+  act_keeps m (Some (op.SorterSort c terms target)) s p =
+      sorted_to_keeps (with_lists s (other_lists s.store.lists)) c target (arranged (comes_before terms) (last_list s.store.lists)) p
+  act_keeps m (Some (op.SorterData c first n)) s p = p
+  act_keeps m (Some (op.SorterNext c target)) s p = dropped_keeps (cursor_at s.scene.cursors c) s c target p
   act_keeps m (Some (op.Column c k to)) s p = p
   act_keeps m (Some (op.Rowid c to)) s p = p
   act_keeps m (Some (op.NoConflict c rowid first n keys target)) s p =

@@ -37,6 +37,11 @@ pub mod NewRows
 -- A loop over the rows that a search finds (`t_search`), and over those that it found, whatever becomes of the tables (`t_chosen`; `sees_chosen`: what
 -- code goes by on such a row); the building of indexes (`t_build_index`, `t_build_unique`):
 pub mod Searches
+-- A cursor on the row of a rowid that a register holds (`t_seek_rowid`; `sees_sought`: what code goes by there):
+pub mod Seeks
+-- Sorters (`t_sorter_open`, `t_sorter_insert`, `t_sorter_data`), and a loop over the rows of one in their order (`t_sorted`, and `t_sorted_along`, whose
+-- turns cost what they cost in the state that each of them finds; both are cases of `t_rounds`, as `t_turns` is):
+pub mod Sorters
 -- Bodies that are left in their middle, and what stands behind them goes on (`caught_does`):
 pub mod Caught
 -- Calls of units that change what is shared (`t_work`):

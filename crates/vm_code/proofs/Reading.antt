@@ -9,6 +9,7 @@ use Rattle.eng_index.specs.declared.key_term.KeyTerm.{KeyTerm}
 use Rattle.eng_index.specs.declared.range.Range.{Range}
 use Rattle.eng_key.specs.Values.{value_keys}
 use Rattle.eng_value.specs.Applied.{binary_of, function_by, unary_of}
+use Rattle.eng_value.specs.Arrangements.{arranged}
 use Rattle.eng_value.specs.Causes.{CauseSet, is_skip, named, only}
 use Rattle.eng_value.specs.Collations.{keys_of}
 use Rattle.eng_value.specs.Comparisons.{like_escaped_of}
@@ -27,7 +28,7 @@ use Rattle.vm_code.specs.declared.operand.Operand.TheVariants as operand
 use Rattle.vm_code.specs.declared.program.Unit.{Unit}
 use Rattle.vm_code.specs.declared.schema_change.SchemaChange.{SchemaChange}
 use Rattle.vm_code.specs.declared.schema_change.SchemaChange.TheVariants.{AddTable, DropTable}
-use Rattle.vm_code.specs.Machine.{World, rows_of, row_under, row_behind, put_row, is_free, Cursor, Closed, Open, Chosen, Holding, Standing, Frame, State, Ending, Finished, Failed, Leaving, Halts, GivesUp, Setting, Next, On, End, act, step, go_on, after, code_of, unit_at, read, put, skip, jump, operand_of, outs_from, integer_in, row_in, is_missing, is_integer, skip_if, standing_on, jump_if, is_accepted, is_rejected, is_null, is_known, is_bad, range_in, rewound, rewound_to, rowids_of, searched, searched_to, conflicted, conflicted_to, built, advanced, advanced_to, drawn, with_row, with_schema, with_cursor, with_cursors, inserted, wrote, called, frame_of, returned, resumed, given_up, leads_to, leaving_of, closed_from, current, cursor_at, cursor_rows, row_read, world_of}
+use Rattle.vm_code.specs.Machine.{World, rows_of, row_under, row_behind, put_row, is_free, Cursor, Closed, Open, Chosen, Holding, Standing, Sorted, Frame, State, Ending, Finished, Failed, Leaving, Halts, GivesUp, Setting, Next, On, End, act, step, go_on, after, code_of, unit_at, read, put, skip, jump, operand_of, outs_from, integer_in, row_in, is_missing, is_integer, skip_if, standing_on, jump_if, is_accepted, is_rejected, is_null, is_known, is_bad, range_in, rewound, rewound_to, rowids_of, searched, searched_to, conflicted, conflicted_to, built, advanced, advanced_to, sought, sought_to, some_rowid, sorted_to, dropped, dropped_to, comes_before, first_sorted, columns_from, put_all, last_list, other_lists, with_lists, drawn, with_row, with_schema, with_cursor, with_cursors, inserted, wrote, called, frame_of, returned, resumed, given_up, leads_to, leaving_of, closed_from, current, cursor_at, cursor_rows, row_read, world_of}
 use Rattle.vm_code.proofs.Drafts.{get-append, get-set, get-set_other}
 use Rattle.vm_code.proofs.Rows.{All-cons, All-head, All-tail}
 use Rattle.vm_code.specs.Reading.{opened_by, OpensOnly, IsIn, AreIn, StaysIn, Agree, shared_over, over, Alike}
@@ -122,6 +123,7 @@ module _ (tables : List ℕ) where
     current_alike (Chosen t n rest) inside = ap (λ rows. row_read (row_under rows n)) (sym (agree_rows w v t inside same))
     current_alike (Holding rows) inside = refl
     current_alike (Standing row rest) inside = refl
+    current_alike (Sorted rows) inside = refl
 
     cursor_rows_alike : (x : Cursor) → IsIn tables x → cursor_rows v x ≡ cursor_rows w x
     cursor_rows_alike Closed inside = refl
@@ -129,6 +131,7 @@ module _ (tables : List ℕ) where
     cursor_rows_alike (Chosen t n rest) inside = sym (agree_rows w v t inside same)
     cursor_rows_alike (Holding rows) inside = refl
     cursor_rows_alike (Standing row rest) inside = refl
+    cursor_rows_alike (Sorted rows) inside = refl
 
     operand_alike : (o : Operand) → operand_of m (over v s) o ≡ operand_of m s o
     operand_alike (operand.Register r) = refl
@@ -154,6 +157,7 @@ module _ (tables : List ℕ) where
         subst (λ rows. Alike tables (rewound_to s c target t (rows_of w t)) (rewound_to (over v s) c target t rows)) (agree_rows w v t inside same) (rewound_to_alike c target t (rows_of w t) inside)
     rewound_alike (Holding rows) c target inside = jump_alike target
     rewound_alike (Standing row rest) c target inside = jump_alike target
+    rewound_alike (Sorted rows) c target inside = jump_alike target
 
     searched_to_alike : (c target t : ℕ) (rows : List StoredRow) → Contains tables t → Alike tables (searched_to s c target t rows) (searched_to (over v s) c target t rows)
     searched_to_alike c target t [] inside = move_alike target c (Open t None) inside
@@ -177,6 +181,7 @@ module _ (tables : List ℕ) where
     conflicted_alike (Chosen t n rest) c target keys row inside = table_conflicted_alike c target t keys row inside
     conflicted_alike (Holding rows) c target keys row inside = jump_alike target
     conflicted_alike (Standing x rest) c target keys row inside = jump_alike target
+    conflicted_alike (Sorted rows) c target keys row inside = jump_alike target
 
     searched_alike : (x : Cursor) (c target : ℕ) (terms : List KeyTerm) (range : Range) → IsIn tables x → Alike tables (searched x s c target terms range) (searched x (over v s) c target terms range)
     searched_alike Closed c target terms range inside = jump_alike target
@@ -184,6 +189,7 @@ module _ (tables : List ℕ) where
     searched_alike (Chosen t n rest) c target terms range inside = table_searched_alike c target t terms range inside
     searched_alike (Holding rows) c target terms range inside = jump_alike target
     searched_alike (Standing row rest) c target terms range inside = jump_alike target
+    searched_alike (Sorted rows) c target terms range inside = jump_alike target
 
     advanced_to_alike : (c target t : ℕ) (r : Option StoredRow) → Contains tables t → Alike tables (advanced_to s c target t r) (advanced_to (over v s) c target t r)
     advanced_to_alike c target t None inside = move_alike (s.pc + 1) c (Open t None) inside
@@ -199,6 +205,46 @@ module _ (tables : List ℕ) where
     advanced_alike (Holding rows) c target inside = skip_alike
     advanced_alike (Standing row []) c target inside = move_alike (s.pc + 1) c Closed tt
     advanced_alike (Standing row (next ∷ rest)) c target inside = move_alike target c (Standing next rest) tt
+    advanced_alike (Sorted rows) c target inside = skip_alike
+
+    found_in : (t : ℕ) (n : ℤ) (b : Bool) → Contains tables t → IsIn tables (if b then Open t None else Open t (Some n))
+    found_in t n true inside = inside
+    found_in t n false inside = inside
+
+    sought_to_alike : (c t : ℕ) (n : Option ℤ) → Contains tables t → Alike tables (sought_to s c t n) (sought_to (over v s) c t n)
+    sought_to_alike c t None inside = move_alike (s.pc + 1) c (Open t None) inside
+    sought_to_alike c t (Some n) inside =
+        subst (λ rows. Alike tables (sought_to s c t (Some n)) (skip (with_cursor (over v s) c (if is_missing rows n then Open t None else Open t (Some n))))) (agree_rows w v t inside same) (move_alike (s.pc + 1) c (if is_missing (rows_of w t) n then Open t None else Open t (Some n)) (found_in t n (is_missing (rows_of w t) n) inside))
+
+    sought_alike : (x : Cursor) (c : ℕ) (n : Option ℤ) → IsIn tables x → Alike tables (sought x s c n) (sought x (over v s) c n)
+    sought_alike Closed c n inside = skip_alike
+    sought_alike (Open t place) c n inside = sought_to_alike c t n inside
+    sought_alike (Chosen t place rest) c n inside = sought_to_alike c t n inside
+    sought_alike (Holding rows) c n inside = skip_alike
+    sought_alike (Standing row rest) c n inside = skip_alike
+    sought_alike (Sorted rows) c n inside = skip_alike
+
+    -- a cursor on a sorter's rows, which are no table's
+    lists_alike : (pc c : ℕ) (rows : List ItemRow) (lists : List (List ItemRow)) → Alike tables (On (record (with_cursor (with_lists s lists) c (Sorted rows)) { pc = pc })) (On (record (with_cursor (with_lists (over v s) lists) c (Sorted rows)) { pc = pc }))
+    lists_alike pc c rows lists =
+        (v, refl, same, record { cursors = set_in s.scene.cursors c (Sorted rows) stays.cursors tt; stack = stays.stack })
+
+    sorted_to_alike : (c target : ℕ) (rows : List ItemRow) (lists : List (List ItemRow)) → Alike tables (sorted_to (with_lists s lists) c target rows) (sorted_to (with_lists (over v s) lists) c target rows)
+    sorted_to_alike c target [] lists = lists_alike target c [] lists
+    sorted_to_alike c target (row ∷ rest) lists = lists_alike (s.pc + 1) c (row ∷ rest) lists
+
+    dropped_to_alike : (c target : ℕ) (rows : List ItemRow) → Alike tables (dropped_to s c target rows) (dropped_to (over v s) c target rows)
+    dropped_to_alike c target [] = skip_alike
+    dropped_to_alike c target (row ∷ []) = move_alike (s.pc + 1) c (Sorted []) tt
+    dropped_to_alike c target (row ∷ next ∷ rest) = move_alike target c (Sorted (next ∷ rest)) tt
+
+    dropped_alike : (x : Cursor) (c target : ℕ) → Alike tables (dropped x s c target) (dropped x (over v s) c target)
+    dropped_alike Closed c target = skip_alike
+    dropped_alike (Open t place) c target = skip_alike
+    dropped_alike (Chosen t n rest) c target = skip_alike
+    dropped_alike (Holding rows) c target = skip_alike
+    dropped_alike (Standing row rest) c target = skip_alike
+    dropped_alike (Sorted rows) c target = dropped_to_alike c target rows
 
     resumed_alike : (f : Frame) (fs : List Frame) (results : List Out) → s.stack ≡ f ∷ fs → Alike tables (On (resumed f fs s.shared results)) (On (resumed f fs (shared_over v s.shared) results))
     resumed_alike f fs results e =
@@ -271,6 +317,7 @@ module _ (tables : List ℕ) where
     inserted_alike (Chosen t n rest) r inside = with_row_alike t r inside
     inserted_alike (Holding rows) r inside = wrote_alike s.shared.written v same
     inserted_alike (Standing row rest) r inside = wrote_alike s.shared.written v same
+    inserted_alike (Sorted rows) r inside = wrote_alike s.shared.written v same
 
     -- a table that loses its rows may be one that the program does not open
     schema_alike : (change : SchemaChange) → Alike tables (wrote s (with_schema change s.shared.written)) (wrote (over v s) (with_schema change (record s.shared.written { world = v })))
@@ -317,6 +364,15 @@ module _ (tables : List ℕ) where
     act_alike (op.Next c target) opens = advanced_alike (cursor_at s.scene.cursors c) c target (stays.cursors c)
     act_alike (op.Search c terms bounds first target) opens =
         searched_alike (cursor_at s.scene.cursors c) c target terms (range_in s.regs first bounds) (stays.cursors c)
+    act_alike (op.SeekRowid c rowid) opens =
+        sought_alike (cursor_at s.scene.cursors c) c (some_rowid s.regs rowid) (stays.cursors c)
+    act_alike (op.SorterOpen c) opens = lists_alike (s.pc + 1) c [] ([] ∷ s.store.lists)
+    act_alike (op.SorterInsert first n) opens = (v, refl, same, record { cursors = stays.cursors; stack = stays.stack })
+    act_alike (op.SorterSort c terms target) opens =
+        sorted_to_alike c target (arranged (comes_before terms) (last_list s.store.lists)) (other_lists s.store.lists)
+    act_alike (op.SorterData c first n) opens =
+        (v, refl, same, goes (s.pc + 1) (put_all s.regs first (columns_from (first_sorted (cursor_at s.scene.cursors c)) 0 n)))
+    act_alike (op.SorterNext c target) opens = dropped_alike (cursor_at s.scene.cursors c) c target
     act_alike (op.Column c k to) opens =
         put_alike to _ _ (ap (λ row. column_of row k) (current_alike (cursor_at s.scene.cursors c) (stays.cursors c)))
     act_alike (op.Rowid c to) opens =

@@ -8,7 +8,7 @@ use Rattle.eng_value.specs.declared.out.Out.{Out}
 use Rattle.eng_value.specs.declared.out.Out.TheVariants.{Good}
 use Rattle.eng_value.specs.declared.value.Value.TheVariants.{Integer}
 use Rattle.vm_code.specs.declared.op.Op.{Op}
-use Rattle.vm_code.specs.declared.op.Op.TheVariants.{Goto, If, IfNot, IsNull, NotNull, IsBad, Rewind, Next, Search, NotExists, NoConflict}
+use Rattle.vm_code.specs.declared.op.Op.TheVariants.{Goto, If, IfNot, IsNull, NotNull, IsBad, Rewind, Next, Search, SorterSort, SorterNext, NotExists, NoConflict}
 use Rattle.vm_code.specs.declared.operand.Operand.{Operand}
 use Rattle.vm_code.specs.declared.program.Program.{Program}
 use Rattle.vm_code.specs.declared.program.Unit.{Unit}
@@ -30,6 +30,8 @@ placed at (IsBad r target) = IsBad r (at target)
 placed at (Rewind c target) = Rewind c (at target)
 placed at (Next c target) = Next c (at target)
 placed at (Search c terms bounds first target) = Search c terms bounds first (at target)
+placed at (SorterSort c terms target) = SorterSort c terms (at target)
+placed at (SorterNext c target) = SorterNext c (at target)
 placed at (NotExists c rowid target) = NotExists c rowid (at target)
 placed at (NoConflict c rowid first n keys target) = NoConflict c rowid first n keys (at target)
 placed at other = other

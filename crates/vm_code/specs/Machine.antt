@@ -1,8 +1,9 @@
 -- The machine over lists: what a program does with tables that are lists of rows.
 use Rattle.std.specs.Prelude.{◌≡◌, ℕ, zero, suc, ◌+◌, ◌≤◌, length, Bool, true, false, not, ◌&&◌, List, [], ◌∷◌, ◌++◌, ℤ, pos, int_lt, nat_lt, map, replicate, Result, Some, None, All, refl, is_some, if◌then◌else◌, slice_get, slice_index_or, slice_set}
 use Rattle.std.specs.List.{find}
+use Rattle.std.specs.Ordering.{is_lt}
 use Rattle.std.specs.declared.option.Option.{Option}
-use Rattle.eng_index.specs.Keys.{found, has_doubles, row_in_way}
+use Rattle.eng_index.specs.Keys.{found, has_doubles, key_cmp, row_in_way}
 pub use Rattle.eng_index.specs.Stored.{put_row, row_under, rowids_of}
 use Rattle.eng_index.specs.declared.key_term.KeyTerm.{KeyTerm}
 use Rattle.eng_index.specs.declared.range.Bounds.{Bounds}
@@ -12,11 +13,12 @@ use Rattle.eng_index.specs.Searching.{bound_count, range_of}
 use Rattle.eng_key.specs.Values.{value_keys}
 use Rattle.eng_number.specs.Numbers.{fits_integer}
 use Rattle.eng_value.specs.Applied.{unary_of, binary_of, function_by, merged}
+use Rattle.eng_value.specs.Arrangements.{arranged}
 use Rattle.eng_value.specs.Casts.{beside, store_as}
 use Rattle.eng_value.specs.Causes.{CauseSet, is_skip, named, only}
 use Rattle.eng_value.specs.Collations.{keys_of}
 use Rattle.eng_value.specs.Comparisons.{like_escaped_of}
-use Rattle.eng_value.specs.Environments.{ItemRow, Lists, Surroundings, column_of, null_row, table_row}
+use Rattle.eng_value.specs.Environments.{ItemRow, Lists, Surroundings, column_of, no_causes, null_row, table_row}
 use Rattle.eng_value.specs.HostMeanings.{HostMeanings, Oracle}
 use Rattle.eng_value.specs.Operators.{made}
 use Rattle.eng_value.specs.Outs.{bad, turned}
@@ -71,13 +73,14 @@ is_free w table rowid = nat_lt table (length w) && is_missing (rows_of w table) 
 
 -- ---- cursors
 
--- closed; open on a table, and there on the row of a rowid or on none; on a row of a table that was chosen with others, with the rowids of those behind it; holding rows for others to walk; or standing on a row that is no table's, with the rows behind it
+-- closed; open on a table, and there on the row of a rowid or on none; on a row of a table that was chosen with others, with the rowids of those behind it; holding rows for others to walk; standing on a row that is no table's, with the rows behind it; or of a sorter, with the rows that are still to come, which no expression sees
 pub data Cursor : Type 0 where
   Closed : Cursor
   Open : ℕ → Option ℤ → Cursor
   Chosen : ℕ → ℤ → List ℤ → Cursor
   Holding : List ItemRow → Cursor
   Standing : ItemRow → List ItemRow → Cursor
+  Sorted : List ItemRow → Cursor
 
 -- the row that is there, and NULL where there is none
 abbrev pub row_read : Option StoredRow → ItemRow
@@ -92,6 +95,7 @@ current w (Open table (Some rowid)) = row_read (row_under (rows_of w table) rowi
 current w (Chosen table rowid rest) = row_read (row_under (rows_of w table) rowid)
 current w (Holding rows) = null_row
 current w (Standing row rest) = row
+current w (Sorted rows) = null_row
 
 -- the rows of a cursor's table
 abbrev pub cursor_rows : World → Cursor → List StoredRow
@@ -100,6 +104,7 @@ cursor_rows w (Open table place) = rows_of w table
 cursor_rows w (Chosen table rowid rest) = rows_of w table
 cursor_rows w (Holding rows) = []
 cursor_rows w (Standing row rest) = []
+cursor_rows w (Sorted rows) = []
 
 -- the rows that a cursor holds
 abbrev pub held : Cursor → List ItemRow
@@ -108,6 +113,7 @@ held (Open table place) = []
 held (Chosen table rowid rest) = []
 held (Holding rows) = rows
 held (Standing row rest) = []
+held (Sorted rows) = []
 
 abbrev pub cursor_at : List Cursor → ℕ → Cursor
 cursor_at cursors c = slice_index_or cursors c Closed
@@ -135,7 +141,7 @@ pub record Group : Type 0 where
   pub key : Row
   pub states : List (Result Row CauseSet)
 
--- what a frame puts aside: lists of rows, of which sorters are some; groups by first appearance; and the rows that its unit gives to the one that waits for it
+-- what a frame puts aside: the rows of its sorters, of the one that was opened last first; groups by first appearance; and the rows that its unit gives to the one that waits for it
 pub record Store : Type 0 where
   pub lists : List (List ItemRow)
   pub groups : List Group
@@ -300,6 +306,16 @@ integer_of (Blob bytes) = pos 0
 abbrev pub integer_in : List Out → ℕ → ℤ
 integer_in regs r = integer_of (good_or_null (read regs r))
 
+-- the integer that it is, if it is one
+abbrev pub some_integer : Value → Option ℤ
+some_integer Null = None
+some_integer (Integer n) = Some n
+some_integer (Text text) = None
+some_integer (Blob bytes) = None
+
+abbrev pub some_rowid : List Out → ℕ → Option ℤ
+some_rowid regs r = some_integer (good_or_null (read regs r))
+
 -- the row that registers hold
 abbrev pub row_in : List Out → ℕ → ℕ → ℕ → StoredRow
 row_in regs rowid first n = record { rowid = integer_in regs rowid; values = values_from regs first n }
@@ -329,6 +345,7 @@ rewound (Open table place) s c target = rewound_to s c target table (rows_of (wo
 rewound (Chosen table rowid rest) s c target = rewound_to s c target table (rows_of (world_of s.shared) table)
 rewound (Holding rows) s c target = jump s target
 rewound (Standing row rest) s c target = jump s target
+rewound (Sorted rows) s c target = jump s target
 
 -- on the first of the rows that are found, with the others behind it
 abbrev pub searched_to : State → ℕ → ℕ → ℕ → List StoredRow → Next
@@ -341,6 +358,7 @@ searched (Open table place) s c target terms range = searched_to s c target tabl
 searched (Chosen table rowid rest) s c target terms range = searched_to s c target table (found terms range (rows_of (world_of s.shared) table))
 searched (Holding rows) s c target terms range = jump s target
 searched (Standing row rest) s c target terms range = jump s target
+searched (Sorted rows) s c target terms range = jump s target
 
 -- on the row behind its own
 abbrev pub advanced_to : State → ℕ → ℕ → ℕ → Option StoredRow → Next
@@ -356,6 +374,21 @@ advanced (Chosen table rowid (next ∷ rest)) s c target = jump (with_cursor s c
 advanced (Holding rows) s c target = skip s
 advanced (Standing row []) s c target = skip (with_cursor s c Closed)
 advanced (Standing row (next ∷ rest)) s c target = jump (with_cursor s c (Standing next rest)) target
+advanced (Sorted rows) s c target = skip s
+
+-- onto the row of a rowid, and off its row where there is none
+abbrev pub sought_to : State → ℕ → ℕ → Option ℤ → Next
+sought_to s c table None = skip (with_cursor s c (Open table None))
+sought_to s c table (Some rowid) =
+    skip (with_cursor s c (if is_missing (rows_of (world_of s.shared) table) rowid then Open table None else Open table (Some rowid)))
+
+abbrev pub sought : Cursor → State → ℕ → Option ℤ → Next
+sought Closed s c rowid = skip s
+sought (Open table place) s c rowid = sought_to s c table rowid
+sought (Chosen table place rest) s c rowid = sought_to s c table rowid
+sought (Holding rows) s c rowid = skip s
+sought (Standing row rest) s c rowid = skip s
+sought (Sorted rows) s c rowid = skip s
 
 -- where no row is in the way of one that is to come it jumps, and else it goes on, on the first that is
 abbrev pub conflicted_to : State → ℕ → ℕ → ℕ → Option StoredRow → Next
@@ -368,6 +401,7 @@ conflicted (Open table place) s c target keys row = conflicted_to s c target tab
 conflicted (Chosen table rowid rest) s c target keys row = conflicted_to s c target table (row_in_way keys (rows_of (world_of s.shared) table) row)
 conflicted (Holding rows) s c target keys row = jump s target
 conflicted (Standing row rest) s c target keys new = jump s target
+conflicted (Sorted rows) s c target keys new = jump s target
 
 -- what an operand reads
 abbrev pub operand_in : Setting → List Out → Inputs → Scene → Shared → Operand → Out
@@ -394,6 +428,7 @@ inserted (Open table place) x r = with_row x table r
 inserted (Chosen table rowid rest) x r = with_row x table r
 inserted (Holding rows) x r = x
 inserted (Standing row rest) x r = x
+inserted (Sorted rows) x r = x
 
 -- a table more, which has no row
 abbrev pub with_table : Written → Written
@@ -491,6 +526,74 @@ abbrev pub drawn : State → ℕ → List ℕ → Option ℤ → Next
 drawn s r table None = given_up s.stack s.shared (only (Full table))
 drawn s r table (Some rowid) = put s r (Good (Integer rowid))
 
+-- ---- sorters
+
+-- a row that is no table's, of these columns
+abbrev pub row_of_outs : List Out → ItemRow
+row_of_outs outs = record { rowid = Good Null; columns = outs; causes = no_causes }
+
+-- its first columns, so many
+abbrev pub columns_from : ItemRow → ℕ → ℕ → List Out
+columns_from row k zero = []
+columns_from row k (suc n) = column_of row k ∷ columns_from row (k + 1) n
+
+-- what terms compare of a row
+abbrev pub compared : ItemRow → StoredRow
+compared row = record { rowid = pos 0; values = map good_or_null row.columns }
+
+abbrev pub comes_before : List KeyTerm → ItemRow → ItemRow → Bool
+comes_before terms a b = is_lt (key_cmp terms (compared a) (compared b))
+
+-- the rows of the sorter that was opened last
+abbrev pub last_list : List (List ItemRow) → List ItemRow
+last_list [] = []
+last_list (rows ∷ lists) = rows
+
+-- without it
+abbrev pub other_lists : List (List ItemRow) → List (List ItemRow)
+other_lists [] = []
+other_lists (rows ∷ lists) = lists
+
+-- with a row more in it
+abbrev pub added : ItemRow → List (List ItemRow) → List (List ItemRow)
+added row [] = []
+added row (rows ∷ lists) = (rows ++ row ∷ []) ∷ lists
+
+abbrev pub with_lists : State → List (List ItemRow) → State
+with_lists s lists = record s { store = record s.store { lists = lists } }
+
+-- with these rows to come, and elsewhere where there are none
+abbrev pub sorted_to : State → ℕ → ℕ → List ItemRow → Next
+sorted_to s c target [] = jump (with_cursor s c (Sorted [])) target
+sorted_to s c target (row ∷ rest) = skip (with_cursor s c (Sorted (row ∷ rest)))
+
+-- the first of the rows that are to come; NULLs where there is none
+abbrev pub first_of : List ItemRow → ItemRow
+first_of [] = null_row
+first_of (row ∷ rest) = row
+
+abbrev pub first_sorted : Cursor → ItemRow
+first_sorted Closed = null_row
+first_sorted (Open table place) = null_row
+first_sorted (Chosen table rowid rest) = null_row
+first_sorted (Holding rows) = null_row
+first_sorted (Standing row rest) = null_row
+first_sorted (Sorted rows) = first_of rows
+
+-- without the first of them; and elsewhere where there are more
+abbrev pub dropped_to : State → ℕ → ℕ → List ItemRow → Next
+dropped_to s c target [] = skip s
+dropped_to s c target (row ∷ []) = skip (with_cursor s c (Sorted []))
+dropped_to s c target (row ∷ next ∷ rest) = jump (with_cursor s c (Sorted (next ∷ rest))) target
+
+abbrev pub dropped : Cursor → State → ℕ → ℕ → Next
+dropped Closed s c target = skip s
+dropped (Open table place) s c target = skip s
+dropped (Chosen table rowid rest) s c target = skip s
+dropped (Holding rows) s c target = skip s
+dropped (Standing row rest) s c target = skip s
+dropped (Sorted rows) s c target = dropped_to s c target rows
+
 -- whether an index may be built of rows: a unique one, for which a table is named, of rows without doubles alone
 abbrev pub built : State → Option (List ℕ) → List KeyTerm → List StoredRow → Next
 built s None terms rows = skip s
@@ -539,6 +642,12 @@ act m (Some (op.CloseFrom c)) s = skip (with_cursors s (closed_from c s.scene.cu
 act m (Some (op.Rewind c target)) s = rewound (cursor_at s.scene.cursors c) s c target
 act m (Some (op.Next c target)) s = advanced (cursor_at s.scene.cursors c) s c target
 act m (Some (op.Search c terms bounds first target)) s = searched (cursor_at s.scene.cursors c) s c target terms (range_in s.regs first bounds)
+act m (Some (op.SeekRowid c rowid)) s = sought (cursor_at s.scene.cursors c) s c (some_rowid s.regs rowid)
+act m (Some (op.SorterOpen c)) s = skip (with_cursor (with_lists s ([] ∷ s.store.lists)) c (Sorted []))
+act m (Some (op.SorterInsert first n)) s = skip (with_lists s (added (row_of_outs (outs_from s.regs first n)) s.store.lists))
+act m (Some (op.SorterSort c terms target)) s = sorted_to (with_lists s (other_lists s.store.lists)) c target (arranged (comes_before terms) (last_list s.store.lists))
+act m (Some (op.SorterData c first n)) s = On (record s { pc = s.pc + 1; regs = put_all s.regs first (columns_from (first_sorted (cursor_at s.scene.cursors c)) 0 n) })
+act m (Some (op.SorterNext c target)) s = dropped (cursor_at s.scene.cursors c) s c target
 act m (Some (op.Column c k to)) s = put s to (column_of (current (world_of s.shared) (cursor_at s.scene.cursors c)) k)
 act m (Some (op.Rowid c to)) s = put s to (current (world_of s.shared) (cursor_at s.scene.cursors c)).rowid
 act m (Some (op.NoConflict c rowid first n keys target)) s = conflicted (cursor_at s.scene.cursors c) s c target keys (row_in s.regs rowid first n)

@@ -4,7 +4,7 @@ use Rattle.eng_value.specs.StoredRows.{StoredRow}
 use Rattle.vm_code.specs.declared.op.Op.{Op}
 use Rattle.vm_code.specs.declared.op.Op.TheVariants as op
 use Rattle.vm_code.specs.declared.program.Program.{Program}
-use Rattle.vm_code.specs.Machine.{Row, World, Cursor, Closed, Open, Chosen, Holding, Standing, Setting, Shared, Frame, State, Ending, Next, On, End, after, code_of, cursor_at, world_of}
+use Rattle.vm_code.specs.Machine.{Row, World, Cursor, Closed, Open, Chosen, Holding, Standing, Sorted, Setting, Shared, Frame, State, Ending, Next, On, End, after, code_of, cursor_at, world_of}
 
 -- ---- tables that are opened
 
@@ -25,6 +25,7 @@ IsIn tables (Open table place) = Contains tables table
 IsIn tables (Chosen table rowid rest) = Contains tables table
 IsIn tables (Holding rows) = ⊤
 IsIn tables (Standing row rest) = ⊤
+IsIn tables (Sorted rows) = ⊤
 
 abbrev pub AreIn : List ℕ → List Cursor → Type 0
 AreIn tables cursors = (c : ℕ) → IsIn tables (cursor_at cursors c)

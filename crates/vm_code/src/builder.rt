@@ -268,6 +268,8 @@ fn place_op(op: &mut Op, labels: &[Option<usize>])
         Op::Rewind { target, .. } => *target = place(labels, *target),
         Op::Next { target, .. } => *target = place(labels, *target),
         Op::Search { target, .. } => *target = place(labels, *target),
+        Op::SorterSort { target, .. } => *target = place(labels, *target),
+        Op::SorterNext { target, .. } => *target = place(labels, *target),
         Op::NotExists { target, .. } => *target = place(labels, *target),
         Op::NoConflict { target, .. } => *target = place(labels, *target),
         _ => {}

@@ -211,6 +211,41 @@ pub enum Op {
         first: u32,
         target: usize,
     },
+    /// The cursor (p1) comes to the row of its table that has the rowid in r[`rowid`] (p3). Where there is none, as where the register holds no
+    /// integer, it comes off its row.
+    SeekRowid {
+        cursor: u32,
+        rowid: u32,
+    },
+    /// Opens a sorter, which has no rows yet, and a cursor (p1) that walks them once they are in order. Sorters that are open stand in one another:
+    /// the last one that was opened is the first one that is sorted.
+    SorterOpen {
+        cursor: u32,
+    },
+    /// Puts what the `count` registers from `first` (p2) on hold as a row into the sorter that was opened last, behind its rows.
+    SorterInsert {
+        first: u32,
+        count: u32,
+    },
+    /// Puts the rows of the sorter that was opened last in the order of terms (p4), each of which reads a column of them: rows that are equal in all terms
+    /// stay in the order in which they came. The cursor (p1) stands in front of the first one, and the sorter has no rows more. Jumps to `target`
+    /// (p2) where there are none.
+    SorterSort {
+        cursor: u32,
+        terms: Items<KeyTerm>,
+        target: usize,
+    },
+    /// The `count` registers from `first` (p2) on hold the columns of the sorter's first row that the cursor (p1) has not left.
+    SorterData {
+        cursor: u32,
+        first: u32,
+        count: u32,
+    },
+    /// The cursor (p1) leaves the sorter's first row and jumps to `target` (p2) where there is one behind it.
+    SorterNext {
+        cursor: u32,
+        target: usize,
+    },
     /// r[`to`] (p3) is the column of number `column` (p2) of the cursor's (p1) row.
     Column {
         cursor: u32,

@@ -87,6 +87,12 @@ module _ (told : Option (Option (Action → Verdict))) (ask : Oracle) (params : 
   op_beside s (op.Rewind c target) = refl
   op_beside s (op.Next c target) = refl
   op_beside s (op.Search c terms bounds first target) = refl
+  op_beside s (op.SeekRowid c rowid) = refl
+  op_beside s (op.SorterOpen c) = refl
+  op_beside s (op.SorterInsert first n) = refl
+  op_beside s (op.SorterSort c terms target) = refl
+  op_beside s (op.SorterData c first n) = refl
+  op_beside s (op.SorterNext c target) = refl
   op_beside s (op.Column c k to) = refl
   op_beside s (op.Rowid c to) = refl
   op_beside s (op.NotExists c rowid target) = refl

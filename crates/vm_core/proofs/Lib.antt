@@ -7,3 +7,4 @@ mod OperandLaws
 mod Closing
 mod Rowids
 mod SearchLaws
+mod SeekLaws

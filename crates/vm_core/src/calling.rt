@@ -16,7 +16,7 @@ use eng_value::{Cause, Causes, Out, Value};
 use std::alloc::{AllocError, Global};
 use std::mem;
 use vm_code::{Program, Unit};
-use vm_store::{Frame, Registers};
+use vm_store::{Frame, Registers, Sorters};
 
 impl Running {
     /// Runs a unit in a new frame, with so many registers as its arguments; its results go to the registers from one on. A unit that
@@ -83,6 +83,7 @@ impl Running {
             registers: mem::replace(&mut self.registers, registers),
             args: mem::replace(&mut self.args, args),
             cursors: mem::replace(&mut self.cursors, cursors),
+            sorters: mem::replace(&mut self.sorters, Sorters::new(alloc)),
             to,
         };
         self.frames.push(frame)?;
@@ -126,6 +127,7 @@ impl Running {
             registers,
             args,
             cursors,
+            sorters,
             to: _,
         } = frame;
         self.unit = unit;
@@ -133,6 +135,7 @@ impl Running {
         self.registers = registers;
         self.args = args;
         self.cursors = cursors;
+        self.sorters = sorters;
     }
 
     /// Ends the run.

@@ -5,7 +5,7 @@ ghost use Rattle.eng_value.specs.StoredRows.{next_rowid};
 ghost use Rattle.eng_value.specs.declared.out.Out.TheVariants.{Good};
 ghost use Rattle.vm_code.specs.Machine.{Closed, Open, closed_from, current, cursor_at, cursor_rows, is_missing, row_read, row_under, rows_of};
 ghost use Rattle.vm_tables.specs.Rows.{LendsColumn, on_row};
-ghost use Rattle.vm_core.specs.Cursors.{has_first, has_next, on_first, on_next, rowid_read, table_of};
+ghost use Rattle.vm_core.specs.Cursors.{has_first, has_next, on_first, on_next, on_sought, rowid_read, rowid_sought, table_of};
 
 use eng_record::Lent;
 use eng_value::{Out, StoredRow, Value};
@@ -35,6 +35,7 @@ fn table(cursor: &Cursor) -> Option<u32>
             rest: _,
         } => Some(*table),
         Spot::Standing { row: _ } => None,
+        Spot::Sorted { rows: _ } => None,
     }
 }
 
@@ -51,6 +52,7 @@ pub(crate) fn misses(cursor: &Cursor, tables: &Tables, rowid: i64) -> bool
             rest: _,
         } => !tables.has(*table, rowid),
         Spot::Standing { row: _ } => true,
+        Spot::Sorted { rows: _ } => true,
     }
 }
 
@@ -67,6 +69,7 @@ pub(crate) fn next_rowid(cursor: &Cursor, tables: &Tables) -> Option<i64>
             rest: _,
         } => tables.next_rowid(*table),
         Spot::Standing { row: _ } => Some(1),
+        Spot::Sorted { rows: _ } => Some(1),
     }
 }
 
@@ -95,6 +98,7 @@ pub(crate) fn column(
             rest: _,
         } => column_of_table(alloc, tables, *table, place, number),
         Spot::Standing { row } => column_of_row(row, number),
+        Spot::Sorted { rows: _ } => Ok(Out::Good(Value::Null)),
     }
 }
 
@@ -157,6 +161,7 @@ fn lent<'t>(cursor: &'t Cursor, tables: &'t Tables, number: usize) -> Lent<'t>
             rest: _,
         } => tables.lent(*table, place.rowid, number, place.near),
         Spot::Standing { row } => lent_of_row(row, number),
+        Spot::Sorted { rows: _ } => Lent::Other,
     }
 }
 
@@ -201,6 +206,7 @@ pub(crate) fn rowid(cursor: &Cursor, tables: &Tables) -> Option<i64>
             rest: _,
         } => rowid_of_table(tables, *table, place),
         Spot::Standing { row } => Some(row.rowid()),
+        Spot::Sorted { rows: _ } => None,
     }
 }
 
@@ -232,6 +238,7 @@ pub(crate) fn rewind(cursor: &mut Cursor, tables: &Tables) -> bool
             come_to_first(cursor, tables, table)
         }
         Spot::Standing { row: _ } => false,
+        Spot::Sorted { rows: _ } => false,
     }
 }
 
@@ -273,6 +280,63 @@ pub(crate) fn advance(cursor: &mut Cursor, tables: &Tables) -> bool
         }
         _ => false,
     }
+}
+
+/// Brings a cursor to the row of its table that has a rowid; off its row where none has it.
+pub(crate) fn seek(cursor: &mut Cursor, tables: &Tables, rowid: Option<i64>)
+    ensures { cursor.new ≡ on_sought tables.now.world cursor.old rowid }
+{
+    match cursor.spot() {
+        Spot::Open { table, place } => {
+            let table = *table;
+            let near = near_of(place);
+            come_to_row(cursor, tables, table, rowid, near)
+        }
+        Spot::Chosen {
+            table,
+            place,
+            rest: _,
+        } => {
+            let table = *table;
+            let near = place.near;
+            come_to_row(cursor, tables, table, rowid, near)
+        }
+        _ => {}
+    }
+}
+
+/// Where the last search came to.
+fn near_of(place: &Option<Place>) -> usize {
+    match place {
+        None => 0,
+        Some(place) => place.near,
+    }
+}
+
+/// Brings a cursor to the row of a table that has a rowid; off its row where none has it.
+fn come_to_row(
+    cursor: &mut Cursor,
+    tables: &Tables,
+    table: u32,
+    rowid: Option<i64>,
+    mut near: usize,
+)
+    ensures { cursor.new ≡ Open table (rowid_sought (rows_of tables.now.world table) rowid) }
+{
+    let found = find(tables, table, rowid, &mut near);
+    cursor.come_to(table, found, near);
+}
+
+/// The rowid, where a row of a table has it. `near` comes to where that stands, so that it is found in constant time from then on.
+fn find(tables: &Tables, table: u32, rowid: Option<i64>, near: &mut usize) -> Option<i64>
+    ensures { result ≡ rowid_sought (rows_of tables.now.world table) rowid }
+{
+    let rowid = rowid?;
+    let _from = match rowid.checked_sub(1) {
+        None => tables.first(table, near),
+        Some(before) => tables.behind(table, before, near),
+    };
+    tables.rowid(table, rowid, *near)
 }
 
 /// Closes the cursors from a number on.

@@ -182,6 +182,20 @@ fn execute(
             *first,
             *target,
         ),
+        Op::SeekRowid { cursor, rowid } => running.seek_rowid(tables, *cursor, *rowid),
+        Op::SorterOpen { cursor } => running.open_sorter(alloc, *cursor),
+        Op::SorterInsert { first, count } => running.insert_sorted(alloc, *first, *count),
+        Op::SorterSort {
+            cursor,
+            terms,
+            target,
+        } => running.sort(alloc, *cursor, terms.as_slice(), *target),
+        Op::SorterData {
+            cursor,
+            first,
+            count,
+        } => running.put_sorted(*cursor, *first, *count),
+        Op::SorterNext { cursor, target } => running.jump_where_sorted(*cursor, *target),
         Op::Column { cursor, column, to } => running.put_column(
             alloc, tables, *cursor, *column, *to,
         ),

@@ -19,6 +19,7 @@ mod operands;
 mod pace;
 mod running;
 mod searching;
+mod sorting;
 mod values;
 mod writing;
 

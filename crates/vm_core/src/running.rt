@@ -11,7 +11,7 @@ ghost use Rattle.eng_value.specs.declared.value.Value.TheVariants as sql;
 ghost use Rattle.eng_value.specs.declared.value.Value.TheVariants.{Integer, Null};
 ghost use Rattle.vm_code.specs.Machine.{Closed, Open, closed_from, code_of, current, cursor_at, cursor_rows, inserted, is_bad, is_integer, is_missing, jump, put, read as read_of, row_in, skip, standing_on, values_from, with_cursor, with_cursors, with_given, with_row, with_schema, with_table, without_rows, wrote};
 ghost use Rattle.vm_tables.specs.Rows.{LendsColumn};
-ghost use Rattle.vm_core.specs.Cursors.{has_first, has_next, on_first, on_next, rowid_read};
+ghost use Rattle.vm_core.specs.Cursors.{has_first, has_next, on_first, on_next, on_sought, rowid_read};
 ghost use Rattle.vm_core.specs.Events.{Acts, ActsOn, StopsOrActs};
 ghost use Rattle.vm_core.specs.Paused.{first_progress, state_at, written_of};
 ghost use Rattle.vm_core.specs.Tests.{passes};
@@ -19,7 +19,7 @@ ghost use Rattle.vm_core.specs.Tests.{passes};
 use crate::Event;
 use crate::calling::unit_at;
 use crate::cursor::{
-    advance, close_from, closed, column, lent_at, misses, next_rowid, rewind, rowid, table_at,
+    advance, close_from, closed, column, lent_at, misses, next_rowid, rewind, rowid, seek, table_at,
 };
 use crate::jumping::Test;
 use crate::pace::Pace;
@@ -30,7 +30,7 @@ use std::alloc::{AllocError, Global};
 use std::marker::Model;
 use std::mem;
 use vm_code::{Op, Program, SchemaChange, Unit};
-use vm_store::{Cursor, Frames, Registers, is_bad, is_integer};
+use vm_store::{Cursor, Frames, Registers, Sorters, is_bad, is_integer};
 use vm_tables::Tables;
 
 /// The frame that runs, the frames that wait, how many rows were changed, and the rowid of the last row that was put. A register, an
@@ -43,6 +43,7 @@ pub(crate) struct Running {
     pub(crate) registers: Registers,
     pub(crate) args: Registers,
     pub(crate) cursors: Vec<Cursor>,
+    pub(crate) sorters: Sorters,
     pub(crate) frames: Frames,
     changes: u64,
     last_rowid: i64,
@@ -51,7 +52,6 @@ pub(crate) struct Running {
 
 impl Model for Running {
     ghost use Rattle.std.specs.Prelude.{[]};
-    ghost use Rattle.vm_code.specs.Machine.{no_store};
     ghost use Rattle.vm_core.specs.Paused.{Progress};
 
     ghost Value = { Progress };
@@ -69,7 +69,7 @@ impl Model for Running {
           regs = r.registers;
           inputs = record { args = r.args; running = [] };
           scene = record { cursors = r.cursors.items; slots = [] };
-          store = no_store;
+          store = record { lists = r.sorters; groups = []; rows = [] };
           stack = r.frames;
           changes = r.changes;
           last_rowid = r.last_rowid;
@@ -87,6 +87,7 @@ impl Running {
             registers: Registers::nulls(alloc, main.registers)?,
             args: Registers::empty(alloc),
             cursors: closed(alloc, main.cursors)?,
+            sorters: Sorters::new(alloc),
             frames: Frames::new(alloc),
             changes: 0,
             last_rowid,
@@ -373,7 +374,7 @@ impl Running {
     }
 
     /// Puts a cursor in the place of another and goes on.
-    fn put_cursor(&mut self, number: u32, cursor: Cursor)
+    pub(crate) fn put_cursor(&mut self, number: u32, cursor: Cursor)
         requires { self.old.pc + 1 < 2 ^ 64 }
         ensures { self.new ≡ record self.old {
           pc = self.old.pc + 1;
@@ -412,6 +413,17 @@ impl Running {
             advance(&mut self.cursors[at], tables)
         } else {
             false
+        }
+    }
+
+    /// Brings a cursor to the row of its table that has a rowid; off its row where none has it.
+    pub fn seek(&mut self, tables: &Tables, number: u32, rowid: Option<i64>)
+        ensures { let moved = on_sought tables.now.world (cursor_at self.old.scene.cursors number) rowid in
+            self.new ≡ record self.old { scene = record self.old.scene { cursors = slice_set self.old.scene.cursors number moved } } }
+    {
+        let at = number as usize;
+        if at < self.cursors.len() {
+            seek(&mut self.cursors[at], tables, rowid);
         }
     }
 

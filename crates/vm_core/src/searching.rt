@@ -7,7 +7,7 @@ ghost use Rattle.eng_value.specs.Causes.{only};
 ghost use Rattle.eng_value.specs.StoredRows.{StoredRow};
 ghost use Rattle.eng_value.specs.declared.cause.Cause.TheVariants.{Constraint};
 ghost use Rattle.eng_value.specs.declared.cause.ConstraintKind.TheVariants.{Unique};
-ghost use Rattle.vm_code.specs.Machine.{Open, built, conflicted, conflicted_to, cursor_at, cursor_rows, range_in, row_in, rows_of, searched, searched_to, skip_if, world_of};
+ghost use Rattle.vm_code.specs.Machine.{Open, built, conflicted, conflicted_to, cursor_at, cursor_rows, range_in, row_in, rows_of, searched, searched_to, skip_if, some_rowid, sought, world_of};
 ghost use Rattle.vm_store.specs.Cursors.{on_chosen};
 ghost use Rattle.vm_tables.specs.Rows.{on_row};
 ghost use Rattle.vm_core.specs.Events.{Acts, ActsOn, ActsOver};
@@ -81,6 +81,23 @@ impl Running {
         if at < self.cursors.len() {
             self.cursors[at].choose(table, rowids);
         }
+    }
+
+    /// Brings a cursor to the row of its table that has the rowid in a register, or off its row, and goes on.
+    #[inline(never)]
+    pub(crate) fn seek_rowid(
+        &mut self,
+        tables: &Tables,
+        cursor: u32,
+        rowid: u32,
+    ) -> Result<Pace, AllocError>
+        requires { self.old.pc + 1 < 2 ^ 64 }
+        ensures { ActsOn result self.old tables.now.world self.new tables.now.world (λ s. sought (cursor_at s.scene.cursors cursor) s cursor (some_rowid s.regs rowid)) }
+    {
+        let rowid = self.registers.integer_at(rowid);
+        self.seek(tables, cursor, rowid);
+        self.go_on();
+        Ok(Pace::Going)
     }
 
     /// Jumps where no row of a cursor's table is in the way of the row that registers hold; else brings the cursor to the first that is.

@@ -1,11 +1,11 @@
--- Registers that are moved one after another.
+-- Registers that are moved or written one after another.
 use Rattle.std.proofs.Common.{◌≡◌, ◌≢◌, ℕ, suc, ◌+◌, ◌-◌, ◌<◌, List, ap, sym, ◌∙◌, arith}
 use Rattle.std.specs.Prelude.{slice_set}
 use Rattle.std.proofs.lemmas.List.{get_or-set_other}
 use Rattle.eng_value.specs.declared.out.Out.{Out}
 use Rattle.eng_value.specs.declared.out.Out.TheVariants.{Good}
 use Rattle.eng_value.specs.declared.value.Value.TheVariants.{Null}
-use Rattle.vm_code.specs.Machine.{outs_from, put_all, read}
+use Rattle.vm_code.specs.Machine.{columns_from, outs_from, put_all, read, row_of_outs}
 use Rattle.vm_code.proofs.Registers.{outs_same}
 
 -- the registers behind one that is written are as they were
@@ -31,3 +31,11 @@ one_moved own from to first count i lt =
     ∙ ap (λ f. put_all own' (to + i + 1) (outs_from from' f (count - (i + 1)))) source
     ∙ ap (put_all own' (to + i + 1)) rest
     ∙ ap (λ n. put_all own (to + i) (outs_from from (first + i) n)) (sym more)
+
+-- a row's columns that are still to be written, where so many were
+pub one_loaded : (own outs : List Out) (to count i : ℕ) → i < count → put_all (slice_set own (to + i) (read outs i)) (to + (i + 1)) (columns_from (row_of_outs outs) (i + 1) (count - (i + 1))) ≡ put_all own (to + i) (columns_from (row_of_outs outs) i (count - i))
+one_loaded own outs to count i lt =
+    let more : count - i ≡ suc (count - (i + 1)) = omega arith in
+    let target : to + (i + 1) ≡ to + i + 1 = omega arith in
+    ap (λ t. put_all (slice_set own (to + i) (read outs i)) t (columns_from (row_of_outs outs) (i + 1) (count - (i + 1)))) target
+    ∙ ap (λ n. put_all own (to + i) (columns_from (row_of_outs outs) i n)) (sym more)

@@ -1,14 +1,15 @@
 // Cursors.
 ghost use Rattle.std.specs.Prelude.{◌≡◌, ◌∷◌, [], None, is_some, slice_get, true, false};
-ghost use Rattle.vm_code.specs.Machine.{Closed, Open, standing_on};
-ghost use Rattle.vm_store.specs.Cursors.{cursor_of, has_chosen, on_chosen, on_next_chosen};
+ghost use Rattle.vm_code.specs.Machine.{Closed, Open, Sorted, first_sorted, row_of_outs, standing_on};
+ghost use Rattle.vm_store.specs.Cursors.{cursor_of, has_chosen, has_next_sorted, on_chosen, on_next_chosen, on_next_sorted};
 ghost use Rattle.vm_store.specs.declared.cursor.Spot.TheVariants as spots;
 
-use crate::Rowids;
-use eng_value::StoredRow;
+use crate::{Rowids, SortedRows};
+use eng_value::{Out, StoredRow};
 use std::marker::Model;
 
-/// A cursor: closed, open on a table and there on a row or on none, on a row that was chosen with others, or on a row that is no table's.
+/// A cursor: closed, open on a table and there on a row or on none, on a row that was chosen with others, on a row that is no table's, or
+/// on the rows of a sorter.
 /// Contracts see the cursor of the machine over lists.
 #[derive(Drop)]
 pub struct Cursor {
@@ -32,6 +33,10 @@ pub enum Spot {
     /// On a row that is no table's, with none behind it.
     Standing {
         row: StoredRow,
+    },
+    /// In front of these rows of a sorter.
+    Sorted {
+        rows: SortedRows,
     },
 }
 
@@ -83,6 +88,15 @@ impl Cursor {
         }
     }
 
+    /// In front of the rows of a sorter.
+    pub fn sorted(rows: SortedRows) -> Cursor
+        ensures { result ≡ Sorted rows }
+    {
+        Cursor {
+            spot: Spot::Sorted { rows },
+        }
+    }
+
     /// Where it stands.
     pub fn spot(&self) -> &Spot
         ensures { cursor_of result.now ≡ self.now }
@@ -125,6 +139,27 @@ impl Cursor {
         ensures found { result ≡ has_chosen self.old }
     {
         next_chosen(&mut self.spot)
+    }
+
+    /// What the columns of a sorter's first row hold that it stands in front of; nothing where there is none.
+    pub fn sorted_outs(&self) -> &[Out]
+        ensures { row_of_outs result.now ≡ first_sorted self.now }
+    {
+        match &self.spot {
+            Spot::Sorted { rows } => rows.first(),
+            _ => &[],
+        }
+    }
+
+    /// Leaves the first of a sorter's rows, and says whether there is one behind it. Where it stands elsewhere it stays as it is.
+    pub fn next_sorted(&mut self) -> bool
+        ensures cursor { self.new ≡ on_next_sorted self.old }
+        ensures found { result ≡ has_next_sorted self.old }
+    {
+        match &mut self.spot {
+            Spot::Sorted { rows } => rows.drop_first(),
+            _ => false,
+        }
     }
 
     /// Comes off its row and its table.

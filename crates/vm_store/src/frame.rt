@@ -4,7 +4,7 @@ ghost use Rattle.eng_value.specs.declared.out.Out.TheVariants.{Good};
 ghost use Rattle.eng_value.specs.declared.value.Value.TheVariants.{Integer};
 ghost use Rattle.vm_code.specs.Machine.{outs_from, put_all};
 
-use crate::{Cursor, Registers};
+use crate::{Cursor, Registers, Sorters};
 use smallvec::SmallVec;
 use std::alloc::{AllocError, Global};
 use std::default::MadeWith;
@@ -19,12 +19,13 @@ pub struct Frame {
     pub registers: Registers,
     pub args: Registers,
     pub cursors: Vec<Cursor>,
+    pub sorters: Sorters,
     pub to: u32,
 }
 
 impl Model for Frame {
     ghost use Rattle.std.specs.Prelude.{[]};
-    ghost use Rattle.vm_code.specs.Machine.{Frame as MeantFrame, no_store};
+    ghost use Rattle.vm_code.specs.Machine.{Frame as MeantFrame};
 
     ghost Value = { MeantFrame };
 
@@ -41,7 +42,7 @@ impl Model for Frame {
           regs = f.registers;
           inputs = record { args = f.args; running = [] };
           scene = record { cursors = f.cursors.items; slots = [] };
-          store = no_store;
+          store = record { lists = f.sorters; groups = []; rows = [] };
           to = f.to;
         } };
 }
@@ -54,6 +55,7 @@ impl MadeWith<Global> for Frame {
             registers: Registers::empty(alloc),
             args: Registers::empty(alloc),
             cursors: Vec::new(alloc),
+            sorters: Sorters::new(alloc),
             to: 0,
         }
     }

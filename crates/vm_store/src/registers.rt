@@ -5,7 +5,7 @@ ghost use Rattle.eng_index.specs.Searching.{front_values};
 ghost use Rattle.eng_value.specs.declared.out.Out.TheVariants.{Good};
 ghost use Rattle.eng_value.specs.declared.value.Value.TheVariants as sql;
 ghost use Rattle.eng_value.specs.declared.value.Value.TheVariants.{Integer, Null};
-ghost use Rattle.vm_code.specs.Machine.{good_or_null, integer_in, integer_of, outs_from, put_all, read as read_of, values_from};
+ghost use Rattle.vm_code.specs.Machine.{columns_from, good_or_null, integer_in, integer_of, outs_from, put_all, read as read_of, row_of_outs, values_from};
 ghost use Rattle.vm_store.specs.Held.{held_integer, held_text, held_value};
 
 use crate::{held_integer, held_text};
@@ -224,6 +224,18 @@ impl Registers {
             let out = take_from(&mut from.outs, first as usize + i as usize);
             write_to(&mut self.outs, to as usize + i as usize, out);
         }
+    }
+
+    /// Writes copies of the first `count` columns of a row to the registers from `to` on; NULL for one that the row does not have.
+    pub fn load(&mut self, to: u32, row: &[Out], count: u32) -> Result<(), AllocError>
+        ensures { OnOk result (self.new ≡ put_all self.old to (columns_from (row_of_outs row.now) 0 count)) }
+    {
+        for i in 0..count {
+            let at = to as usize + i as usize;
+            let out = copied(row, i as usize)?;
+            write_to(&mut self.outs, at, out);
+        }
+        Ok(())
     }
 }
 

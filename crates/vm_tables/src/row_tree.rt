@@ -152,6 +152,13 @@ impl RowTree {
         Ok(rowids)
     }
 
+    /// How many rows there are.
+    pub fn len(&self) -> usize
+        ensures { result ≡ length self.now }
+    {
+        self.tree.len()
+    }
+
     /// How many rows have this rowid: one or none.
     pub fn count(&self, rowid: i64) -> usize
         ensures { result ≡ length (filter (λ r. int_eq r.rowid rowid) self.now) }

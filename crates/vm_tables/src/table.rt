@@ -99,6 +99,13 @@ impl Table {
         }
     }
 
+    /// How many rows there are.
+    pub fn len(&self) -> usize
+        ensures { result ≡ length self.now }
+    {
+        self.tree.len()
+    }
+
     /// How many rows are within a range of a key's terms, as far as that is known without a walk over them: by the rows' tree where the range is
     /// of one rowid, and else by an index that stands. None where there is none, or memory is wanting.
     pub fn count(&self, alloc: Global, terms: &[KeyTerm], range: &Range) -> Option<usize>

@@ -210,6 +210,16 @@ impl Tables {
         self.tables[place].search(alloc, terms, range)
     }
 
+    /// How many rows a table has; none where there is no such table.
+    pub fn row_count(&self, table: u32) -> usize
+        ensures { result ≡ length (rows_of self.now.world table) }
+    {
+        match self.tables.get(table as usize) {
+            Some(table) => table.len(),
+            None => 0,
+        }
+    }
+
     /// How many of a table's rows a search finds, as far as an index of them stands already: it builds none. Time to find where the range begins
     /// and where it ends. None where there is no such index or no such table, or memory is wanting.
     pub fn count(

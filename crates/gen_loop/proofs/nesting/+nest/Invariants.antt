@@ -1,4 +1,4 @@
-use Rattle.std.proofs.Common.{ℕ, ◌+◌, ◌*◌, length}
+use Rattle.std.proofs.Common.{◌+◌, ◌*◌, length}
 use Rattle.gen_loop.proofs.nesting.+nest.Given as goal
 
 abbrev pub decreases-emit_nest : goal.decreases-emit_nest

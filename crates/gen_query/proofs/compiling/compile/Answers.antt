@@ -1,5 +1,5 @@
-use Rattle.std.proofs.Common.{◌≡◌, ◌+◌, ◌≤◌, [], length, sym, ap, ◌∙◌, subst, arith}
-use Rattle.gen_query.proofs.Fitting.{in-turn}
+use Rattle.std.proofs.Common.{◌≡◌, ◌≤◌, [], sym, ap, ◌∙◌, subst, arith}
+use Rattle.gen_query.proofs.Fitting.{over-spread}
 use Rattle.gen_query.proofs.Performing.{ended-balanced, query-performs}
 use Rattle.vm_code.specs.Draft.{Draft, begun}
 use Rattle.gen_query.proofs.compiling.compile.Goals as goal
@@ -25,4 +25,4 @@ returns-clause-balanced c over =
     let b0 : c.new-b.result ≡ begun [] = c.new-b.ensures ∙ ap begun c.new.ensures in
     let does = rw b0 at c.in_ok-emit.ensures.does in
     let program = rw c.in_ok-op.ensures at c.finish_program.ensures in
-    ended-balanced c.emit.new.b (does (in-turn 0 c.args.query.now.from c.args.plan.now.loops over)).steady c.finish_program.result program
+    ended-balanced c.emit.new.b (does (over-spread c.args.query.now.from c.args.plan.now.loops over)).steady c.finish_program.result program

@@ -1,5 +1,5 @@
-use Rattle.std.proofs.Common.{◌≡◌, ◌+◌, ◌≤◌, length, ap, ◌∙◌, sym, arith}
-use Rattle.gen_query.proofs.Shown.{shows-cursors, shows-next, valued-does}
+use Rattle.std.proofs.Common.{◌≡◌, length, ap, ◌∙◌}
+use Rattle.gen_query.proofs.Shown.{shows-cursors, valued-does}
 use Rattle.vm_code.specs.Draft.{Draft}
 use Rattle.vm_code.specs.declared.op.Op.TheVariants as op
 use Rattle.gen_query.proofs.giving.emit_value_row.Goals as goal

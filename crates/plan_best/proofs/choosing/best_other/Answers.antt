@@ -6,7 +6,7 @@ use Rattle.plan_best.proofs.choosing.best_other.Goals as goal
 
 pub returns-in-Some : goal.returns-in-Some
 returns-in-Some g c =
-    c.of_draft.ensures c.args.params.now c.args.item c.args.indexes.now c.args.conjuncts.now (subst (λ (o : Option Draft). MayBest c.args.params.now c.args.item c.args.indexes.now c.args.conjuncts.now o) c.in-Some.is c.loop-terms.invariant)
+    c.of_draft.ensures c.args.params.now c.args.item c.args.indexes.now c.args.conjuncts.now (subst (λ (o : Option Draft). MayBest c.args.params.now c.args.item c.args.indexes.now c.args.conjuncts.now o) c.in-Some.is c.in_ok-found.ensures)
 
 pub returns-in-None : goal.returns-in-None
 returns-in-None g c = c.scan.ensures c.args.params.now c.args.item c.args.indexes.now c.args.conjuncts.now c.requires

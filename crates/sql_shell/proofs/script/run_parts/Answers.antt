@@ -5,10 +5,10 @@ use Rattle.sql_shell.proofs.script.run_parts.Goals as goal
 pub loop-rest-init : goal.loop-rest-init
 loop-rest-init g c = record {
   so_far = subst (λ x. SoFar g.M.Meanings.hosts c.args.options c.args.pending_runs c.args.text.now c.args.text.now true x (g.K.Sink.written c.args.out.now) (g.K.Sink.written c.args.out.now) c.args.steps.now c.args.steps.now false)
-      (sym (ap (λ x. x.state) c.new-connection.ensures)) (so_far_start g.M.Meanings.hosts c.args.options c.args.pending_runs c.args.text.now _ _);
+      (sym (ap (λ x. x.state) (c.set_join_order.ensures ∙ c.new-connection.ensures))) (so_far_start g.M.Meanings.hosts c.args.options c.args.pending_runs c.args.text.now _ _);
   utf8 = c.utf8.text;
   later = omega arith;
-  budget = ap (λ x. x.budget) c.new-connection.ensures;
+  budget = ap (λ x. x.budget) (c.set_join_order.ensures ∙ c.new-connection.ensures);
   ticks = omega arith;
   told = c.requires.told;
 }

@@ -140,6 +140,24 @@ returns-in-Next-clause-leads c ask = rw c.in-Next.is (c.jump_where_next.ensures 
 pub returns-in-Search-clause-leads : goal.returns-in-Search-clause-leads
 returns-in-Search-clause-leads c ask = rw c.in-Search.is (rw c.as_slice-in-Search.ensures at (c.search.ensures.leads c.args.event.now))
 
+pub returns-in-SeekRowid-clause-leads : goal.returns-in-SeekRowid-clause-leads
+returns-in-SeekRowid-clause-leads c ask = rw c.in-SeekRowid.is (c.seek_rowid.ensures c.args.event.now)
+
+pub returns-in-SorterOpen-clause-leads : goal.returns-in-SorterOpen-clause-leads
+returns-in-SorterOpen-clause-leads c ask = rw c.in-SorterOpen.is (c.open_sorter.ensures c.args.event.now c.args.tables.now.world)
+
+pub returns-in-SorterInsert-clause-leads : goal.returns-in-SorterInsert-clause-leads
+returns-in-SorterInsert-clause-leads c ask = rw c.in-SorterInsert.is (c.insert_sorted.ensures c.args.event.now c.args.tables.now.world)
+
+pub returns-in-SorterSort-clause-leads : goal.returns-in-SorterSort-clause-leads
+returns-in-SorterSort-clause-leads c ask = rw c.in-SorterSort.is (rw c.as_slice-in-SorterSort.ensures at (c.sort.ensures c.args.event.now c.args.tables.now.world))
+
+pub returns-in-SorterData-clause-leads : goal.returns-in-SorterData-clause-leads
+returns-in-SorterData-clause-leads c ask = rw c.in-SorterData.is (c.put_sorted.ensures c.args.event.now c.args.tables.now.world)
+
+pub returns-in-SorterNext-clause-leads : goal.returns-in-SorterNext-clause-leads
+returns-in-SorterNext-clause-leads c ask = rw c.in-SorterNext.is (c.jump_where_sorted.ensures c.args.event.now c.args.tables.now.world)
+
 pub returns-in-Column-clause-leads : goal.returns-in-Column-clause-leads
 returns-in-Column-clause-leads c ask = rw c.in-Column.is (c.put_column.ensures c.args.event.now)
 

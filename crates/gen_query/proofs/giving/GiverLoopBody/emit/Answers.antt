@@ -1,5 +1,5 @@
-use Rattle.std.proofs.Common.{◌≡◌, ◌+◌, ◌≤◌, length, ap, ◌∙◌, sym, arith}
-use Rattle.gen_query.proofs.Shown.{given-does, given-keeps, shows-cursors, shows-next}
+use Rattle.std.proofs.Common.{◌≡◌, length, ap, ◌∙◌}
+use Rattle.gen_query.proofs.Shown.{given-does, given-keeps, shows-cursors}
 use Rattle.vm_code.specs.Draft.{Draft}
 use Rattle.vm_code.specs.declared.op.Op.TheVariants as op
 use Rattle.gen_query.proofs.giving.GiverLoopBody.emit.Goals as goal

@@ -1,5 +1,5 @@
 use Rattle.std.proofs.Common.{[], ap, ◌∙◌}
-use Rattle.vm_code.specs.Machine.{given_up, leads_to, leaving_of, no_store, read}
+use Rattle.vm_code.specs.Machine.{given_up, leads_to, leaving_of, read}
 use Rattle.vm_core.specs.Paused.{Progress, state_at}
 use Rattle.vm_core.proofs.Steps.{acts_behind}
 use Rattle.vm_core.proofs.running.Running.halt.Goals as goal
@@ -13,7 +13,7 @@ returns c w =
       regs = now.registers;
       inputs = record { args = now.args; running = [] };
       scene = record { cursors = now.cursors.items; slots = [] };
-      store = no_store;
+      store = record { lists = now.sorters; groups = []; rows = [] };
       stack = now.frames;
       changes = now.changes;
       last_rowid = now.last_rowid;

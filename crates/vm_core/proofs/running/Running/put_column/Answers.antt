@@ -2,7 +2,7 @@ use Rattle.std.proofs.Common.{◌≡◌, ◌+◌, [], rules, ap, sym, subst, ◌
 use Rattle.eng_value.specs.Environments.{column_of}
 use Rattle.eng_value.specs.declared.out.Out.TheVariants.{Good}
 use Rattle.eng_value.specs.declared.value.Value.TheVariants.{Integer, Text}
-use Rattle.vm_code.specs.Machine.{On, current, cursor_at, no_store, put}
+use Rattle.vm_code.specs.Machine.{On, current, cursor_at, put}
 use Rattle.vm_core.specs.Events.{ActsOver}
 use Rattle.vm_core.specs.Paused.{Progress, state_at}
 use Rattle.vm_core.proofs.running.Running.put_column.Goals as goal
@@ -27,7 +27,7 @@ returns-in_ok-write_str-in-Text c e =
       regs = now.registers;
       inputs = record { args = now.args; running = [] };
       scene = record { cursors = now.cursors.items; slots = [] };
-      store = no_store;
+      store = record { lists = now.sorters; groups = []; rows = [] };
       stack = now.frames;
       changes = now.changes;
       last_rowid = now.last_rowid;
