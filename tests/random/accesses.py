@@ -5,6 +5,7 @@ SQLSH is the built program, or what runs it; so many scripts are made from the s
 CREATE INDEX lines, and both runs must write the lines that the plain program of the definitions (meaning.py) gives, which looks at every
 row of a table. The last line is 'N scripts, N failed'; the status is 1 where one failed.
 """
+import itertools
 import random
 import sys
 
@@ -155,15 +156,15 @@ def text_of(statements):
     return "".join(s + ";\n" for s in statements)
 
 
-def failure(program, statements):
-    """What is wrong with the runs of a script, or None."""
+def failure(program, statements, orders=(None,)):
+    """What is wrong with the runs of a script, or None. Each is run in each of the orders of joins."""
     texts = [text_of(statements), text_of(s for s in statements if not s.startswith("CREATE INDEX"))]
     due = lines_of(texts[0])
     status = int(any(choices[0].startswith("Error ") for choices in due))
-    for text in texts:
-        got = written(program, text)
+    for text, order in itertools.product(texts, orders):
+        got = written(program, text, order)
         if got[0] != status or not agrees(due, got[1]):
-            return "status %d, written %r of\n%s" % (*got, text)
+            return "order %s, status %d, written %r of\n%s" % (order, *got, text)
     return None
 
 

@@ -5,6 +5,7 @@ SQLSH is the built program, or what runs it. The lines that it writes must be th
 plain program of the definitions (meaning.py) gives now. The last line is 'N scripts, N failed'; the status is 1 where one failed.
 """
 import json
+import os
 import pathlib
 import subprocess
 import sys
@@ -12,8 +13,10 @@ import sys
 from meaning import lines_of
 
 
-def written(program, script):
-    done = subprocess.run([program], input=script.encode(), stdout=subprocess.PIPE, timeout=60)
+def written(program, script, order=None):
+    """What the program makes of a script, whose joins are in the order of a number, where one is given."""
+    around = {**os.environ, "SQLSH_JOIN_ORDER": str(order)} if order is not None else None
+    done = subprocess.run([program], input=script.encode(), stdout=subprocess.PIPE, timeout=60, env=around)
     return done.returncode, done.stdout
 
 

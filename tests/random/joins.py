@@ -1,9 +1,10 @@
 #!/usr/bin/env python3
-"""Runs the engine on random joins, with their indexes and without: joins.py SQLSH [NUMBER [SEED]]
+"""Runs the engine on random joins, with their indexes and without, in several orders: joins.py SQLSH [NUMBER [SEED]]
 
 SQLSH is the built program, or what runs it; so many scripts are made from the seed. Each is run as it stands and once more without its
-CREATE INDEX lines, and both runs must write the lines that the plain program of the definitions (meaning.py) gives, which makes each row
-of a FROM in its nested order. The last line is 'N scripts, N failed'; the status is 1 where one failed.
+CREATE INDEX lines, both with the loops in the order that seems cheapest and as near as may be to three others
+(SQLSH_JOIN_ORDER), and all runs must write the lines that the plain program of the definitions (meaning.py) gives, which makes each row of a
+FROM in its nested order. The last line is 'N scripts, N failed'; the status is 1 where one failed.
 """
 import random
 import sys
@@ -172,7 +173,8 @@ def main():
     number, seed = (int(given or plain) for given, plain in zip((sys.argv[2:] + ["", ""])[:2], (SCRIPTS, SEED)))
     source, failed = random.Random(seed), 0
     for n in range(number):
-        wrong = failure(sys.argv[1], JoinWriter(source).script())
+        orders = [None] + [source.randrange(720) for i in range(3)]
+        wrong = failure(sys.argv[1], JoinWriter(source).script(), orders)
         if wrong:
             failed += 1
             print("script %d of seed %d: %s" % (n, seed, wrong))
