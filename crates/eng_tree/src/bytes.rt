@@ -1,9 +1,7 @@
 // Byte strings.
 ghost use Rattle.std.specs.Prelude.{◌≡◌, List, ℕ, IfOk};
-ghost use Rattle.eng_tree.specs.Map.{order};
 
 use std::alloc::{AllocError, Global};
-use std::cmp::Ordering;
 use std::marker::Model;
 
 /// A string of bytes. Contracts see the list of them.
@@ -47,13 +45,6 @@ impl Bytes {
     {
         let Bytes { bytes } = self;
         bytes
-    }
-
-    // How it stands to a key.
-    pub(crate) fn order(&self, key: &[u8]) -> Ordering
-        ensures { result ≡ order self.now key.now }
-    {
-        self.bytes.as_slice().cmp(&key)
     }
 }
 

@@ -7,6 +7,7 @@
 #![tactic(auto)]
 
 mod bytes;
+mod entry;
 mod search;
 mod tree;
 pub mod undoing;

@@ -3,16 +3,16 @@ ghost use Rattle.std.specs.Prelude.{◌≡◌, ◌≤◌, [], length, IfOk, OnEr
 ghost use Rattle.eng_tree.specs.Map.{find, greatest, least_from, put, without, IsAscending, IsFree, IsThere};
 
 use crate::Bytes;
+use crate::entry::Entry;
 use crate::search::{place_of, search, search_near};
 use std::alloc::{AllocError, Global};
 use std::marker::Model;
-use std::mem;
 
 /// A finite map from keys to values, both of them byte strings. Contracts see its pairs in the order of their keys, and its
 /// room: how many pairs fit in the memory that it holds.
 #[derive(Drop)]
 pub struct Tree {
-    entries: Vec<(Bytes, Bytes)>,
+    entries: Vec<Entry>,
 }
 
 impl Model for Tree {
@@ -50,7 +50,7 @@ impl Tree {
         ensures { option_map (λ v. v.now) result ≡ find key.now self.now.pairs }
     {
         match search(&self.entries, key) {
-            Ok(at) => Some(self.entries[at].1.as_slice()),
+            Ok(at) => Some(self.entries[at].value()),
             Err(_) => None,
         }
     }
@@ -61,7 +61,7 @@ impl Tree {
         ensures { option_map (λ v. v.now) result ≡ find key.now self.now.pairs }
     {
         match search_near(&self.entries, key, near) {
-            Ok(place) => Some(self.entries[place].1.as_slice()),
+            Ok(place) => Some(self.entries[place].value()),
             Err(_) => None,
         }
     }
@@ -95,7 +95,7 @@ impl Tree {
         ensures { option_map (λ p. (p.0.now, p.1.now)) result ≡ greatest self.now.pairs }
     {
         match self.entries.last() {
-            Some(pair) => Some((pair.0.as_slice(), pair.1.as_slice())),
+            Some(entry) => Some((entry.key(), entry.value())),
             None => None,
         }
     }
@@ -105,7 +105,7 @@ impl Tree {
         ensures { option_map (λ p. (p.0.now, p.1.now)) result ≡ slice_get self.now.pairs at }
     {
         match self.entries.get(at) {
-            Some(pair) => Some((pair.0.as_slice(), pair.1.as_slice())),
+            Some(entry) => Some((entry.key(), entry.value())),
             None => None,
         }
     }
@@ -123,9 +123,9 @@ impl Tree {
     {
         let last = self.len().saturating_sub(1);
         match search_near(&self.entries, key.as_slice(), last) {
-            Ok(at) => Ok(Some(mem::replace(&mut self.entries[at].1, value))),
+            Ok(at) => Ok(Some(self.entries[at].replace(value))),
             Err(at) => {
-                self.entries.insert(at, (key, value))?;
+                self.entries.insert(at, Entry::new(key, value))?;
                 Ok(None)
             }
         }
@@ -140,7 +140,7 @@ impl Tree {
         ensures fits { length self.new.pairs ≤ self.new.room }
     {
         match search(&self.entries, key) {
-            Ok(at) => Some(self.entries.remove(at)),
+            Ok(at) => Some(self.entries.remove(at).into_pair()),
             Err(_) => None,
         }
     }

@@ -6,11 +6,11 @@ use Rattle.eng_tree.proofs.tree.Tree.insert.Goals as goal
 use Rattle.eng_tree.proofs.tree.Tree.insert.Goals.{After-drop-key-inside, In_ok-insert-in-Err}
 use Rattle.std.specs.Prelude.{slice_set}
 
-became : (c : After-drop-key-inside) → slice_set c.self.inside.entries.items c.in-Ok.at (c.index_mut.result.now.0, c.replace.new.dest) ≡ put c.args.key c.args.value c.self.inside.entries.items
-became c = rw c.replace.ensures.after (replaced c.args.key c.args.value c.self.inside.entries.items c.in-Ok.at c.index_mut.result.now (rw (c.as_slice.ensures, c.deref.ensures.value) at c.in-Ok.ensures) c.index_mut.ensures.value)
+became : (c : After-drop-key-inside) → slice_set c.self.inside.entries.items c.in-Ok.at c.replace.new.self ≡ put c.args.key c.args.value c.self.inside.entries.items
+became c = rw c.replace.ensures.now (replaced c.args.key c.args.value c.self.inside.entries.items c.in-Ok.at c.index_mut.result.now (rw (c.as_slice.ensures, c.deref.ensures.value) at c.in-Ok.ensures) c.index_mut.ensures.value)
 
 became_more : (c : In_ok-insert-in-Err) → c.insert.new.self.items ≡ put c.args.key c.args.value c.self.inside.entries.items
-became_more c = c.in_ok-insert-in-Err.ensures.items ∙ inserted c.args.key c.args.value c.self.inside.entries.items c.in-Err.at (rw (c.as_slice.ensures, c.deref.ensures.value) at c.in-Err.ensures)
+became_more c = c.in_ok-insert-in-Err.ensures.items ∙ rw c.new.ensures (inserted c.args.key c.args.value c.self.inside.entries.items c.in-Err.at (rw (c.as_slice.ensures, c.deref.ensures.value) at c.in-Err.ensures))
 
 pub invariant_of-self : goal.invariant_of-self
 invariant_of-self c = rw (became c) (ascending_put _ _ _ c.self.invariant)

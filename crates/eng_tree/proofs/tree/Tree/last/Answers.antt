@@ -6,7 +6,7 @@ use Rattle.eng_tree.proofs.tree.Tree.last.Goals as goal
 
 pub returns-in-Some : goal.returns-in-Some
 returns-in-Some c =
-    rw (← c.self.view_is) ((λ i. Some (c.as_slice.ensures i, c.as_slice-in-Some.ensures i))
+    rw (← c.self.view_is) ((λ i. Some (c.key.ensures i, c.value.ensures i))
     ∙ c.in-Some.ensures.value
     ∙ ap (λ (ps : List Pair). slice_get ps (length ps - 1)) c.deref.ensures.value
     ∙ sym (greatest_at_end c.self.inside.entries.items))

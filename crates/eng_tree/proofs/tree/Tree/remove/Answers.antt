@@ -3,9 +3,9 @@ use Rattle.eng_tree.specs.Map.{without}
 use Rattle.eng_tree.proofs.Places.{removed, without_none}
 use Rattle.eng_tree.proofs.Laws.{ascending_without}
 use Rattle.eng_tree.proofs.tree.Tree.remove.Goals as goal
-use Rattle.eng_tree.proofs.tree.Tree.remove.Goals.{After-remove}
+use Rattle.eng_tree.proofs.tree.Tree.remove.Goals.{After-into_pair}
 
-became : (c : After-remove) → c.remove.new.self.items ≡ without c.args.key.now c.self.inside.entries.items
+became : (c : After-into_pair) → c.remove.new.self.items ≡ without c.args.key.now c.self.inside.entries.items
 became c = c.remove.ensures.items ∙ removed c.args.key.now c.self.inside.entries.items c.in-Ok.at c.remove.result (rw c.deref.ensures.value at c.in-Ok.ensures)
 
 pub invariant_of-self : goal.invariant_of-self

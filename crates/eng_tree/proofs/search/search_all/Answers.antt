@@ -2,7 +2,7 @@ use Rattle.std.proofs.Common.{rules}
 use Rattle.std.proofs.lemmas.Fn.{always_returns_same}
 use Rattle.eng_tree.specs.Map.{Pair, order}
 use Rattle.eng_tree.proofs.Places.{found}
-use Rattle.eng_tree.proofs.search.search.Goals as goal
+use Rattle.eng_tree.proofs.search.search_all.Goals as goal
 
 pub returns : goal.returns
 returns c =
