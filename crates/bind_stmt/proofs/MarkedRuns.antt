@@ -25,7 +25,7 @@ use Rattle.bound_actions.specs.Froms.{table_of}
 use Rattle.bound_ignored.specs.Marked.{ignoring, marked, marked_as, marked_command, marked_compound, marked_core, marked_part, marked_unit, marked_write, places_in}
 use Rattle.sql_meaning.specs.declared.column.TableEntry.{TableEntry}
 use Rattle.sql_meaning.specs.Running.{command_of, first_part, from_of, has_own_keys, if_built, is_plain_core, is_plain_query, item_of_table, part_of, put_at, put_into, put_of, query_of, rejecting, rows_of_part, runnable_of, select_of, table_of_source, tested_by}
-use Rattle.sql_meaning.specs.Runnables.{Creates, DoesNothing, Drops, FromItem, Indexes, Puts, Queries, Runnable, Shows, Unindexes}
+use Rattle.sql_meaning.specs.Runnables.{Creates, DoesNothing, Drops, Explains, FromItem, Indexes, Puts, Queries, Runnable, Shows, Unindexes}
 use Rattle.sql_meaning.proofs.ValidLaws.{same-ok}
 use Rattle.sql_words.specs.Refusals.{◌>>=◌}
 use Rattle.bind_stmt.specs.Small.{IsSmall, columns_in, from_size}
@@ -48,6 +48,7 @@ bare (Unindexes name) = Unindexes name
 bare (Puts p) = Puts p
 bare (Shows rows) = Shows rows
 bare DoesNothing = DoesNothing
+bare (Explains how x) = Explains how x
 
 abbrev bared : {A : Type 0} → (A → A) → Result A Cause → Result A Cause
 bared f (Ok a) = Ok (f a)
@@ -225,6 +226,7 @@ bare-small size (Unindexes name) small = small
 bare-small size (Puts p) small = small
 bare-small size (Shows rows) small = small
 bare-small size DoesNothing small = small
+bare-small size (Explains how x) small = small
 
 small-bare : (size : ℕ) (x : Runnable) → IsSmall size (bare x) → IsSmall size x
 small-bare size (Queries q) small =
@@ -244,6 +246,7 @@ small-bare size (Unindexes name) small = small
 small-bare size (Puts p) small = small
 small-bare size (Shows rows) small = small
 small-bare size DoesNothing small = small
+small-bare size (Explains how x) small = small
 
 by-bare : (size : ℕ) (x : Runnable) (r : Result Runnable Cause) → bared bare r ≡ Ok (bare x) → ((y : Runnable) → r ≡ Ok y → IsSmall size y) → IsSmall size x
 by-bare size x (Ok y) is small = small-bare size x (subst (IsSmall size) (same-ok (bare y) (bare x) is) (bare-small size y (small y refl)))

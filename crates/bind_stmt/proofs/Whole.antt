@@ -38,7 +38,7 @@ use Rattle.sql_bound.specs.declared.scopes.Work.{Work}
 use Rattle.sql_meaning.specs.Built.{is_abort, is_built, is_built_command, is_built_rows, is_built_rows_source, is_built_values}
 use Rattle.sql_meaning.specs.Declarations.{tables_of}
 use Rattle.sql_meaning.specs.Running.{command_of, has_own_keys, if_built, put_into, put_of, runnable_of, table_of_source}
-use Rattle.sql_meaning.specs.Runnables.{Creates, DoesNothing, Drops, Indexes, Put, Puts, Queries, Runnable, Shows, Unindexes}
+use Rattle.sql_meaning.specs.Runnables.{Creates, DoesNothing, Drops, Explains, Indexes, Put, Puts, Queries, Runnable, Shows, Unindexes}
 use Rattle.sql_meaning.specs.Statement.{around}
 use Rattle.sql_meaning.specs.declared.column.TableEntry.{TableEntry}
 use Rattle.sql_meaning.proofs.AsideLaws.{IsAside, IsAsideCommand, command-aside, create-aside, pragma-aside, removed-aside}
@@ -65,6 +65,7 @@ aside-small size DoesNothing le a = le
 aside-small size (Puts p) le a = absurd a
 aside-small size (Queries q) le a = absurd a
 aside-small size (Shows rows) le a = absurd a
+aside-small size (Explains how x) le a = absurd a
 
 -- ---- DEFAULT VALUES
 
@@ -176,7 +177,7 @@ module _ (catalog : Entries) (number : ℕ) (text : List ℕ) (s : Statement) (m
       opening_is 1 (pragma_bound outer p) w.0 (omega arith) w.2 (λ k e. pragma-aside _ (codes "foreign_keys") (cause.Unknown name_kind.Pragma (name_at outer.text p.name)) k e) w.1
 
   pub small : is_built text s ≡ true → IsSmall (size_of_statement s) x
-  small built = by_command s.command refl (both_hold (not (is_some s.explain)) (is_built_command text s.command) built).1
+  small built = by_command s.command refl built
 
 -- ---- what `bind` answers
 

@@ -17,7 +17,7 @@ use Rattle.bound_tree.specs.Conditions.{conditions_of}
 use Rattle.bound_ignored.specs.Erased.{Marks, erased}
 use Rattle.sql_meaning.specs.Permits.{Asking}
 use Rattle.sql_meaning.specs.Searches.{marks_in}
-use Rattle.sql_meaning.specs.Statement.{statement_bound}
+use Rattle.sql_meaning.specs.Statement.{plain_bound}
 use Rattle.bind_stmt.specs.Small.{IsSmall}
 use Rattle.bind_stmt.specs.declared.creating.NewIndex as bound_index
 use Rattle.bind_stmt.specs.declared.statement.Bound.{Bound}
@@ -96,4 +96,4 @@ BindsTo size meant (Err why) = IsRefusal meant why
 
 -- over this catalog, where a new table gets this number, and this is said of what statements do
 unfoldable pub Binds : Asking → Entries → ℕ → List ℕ → Statement → Result Bound Cause → Type 0
-Binds asked catalog number text s r = BindsTo (size_of_statement s) (statement_bound asked catalog number text s) r
+Binds asked catalog number text s r = BindsTo (size_of_statement s) (plain_bound asked catalog number text s) r

@@ -16,7 +16,7 @@ use sqlite_items::Items;
 pub(crate) fn is_built(text: &str, statement: &Statement) -> bool
     ensures { result ≡ is_built text.now statement.now }
 {
-    statement.explain.is_none() && is_built_command(text, &statement.command)
+    is_built_command(text, &statement.command)
 }
 
 fn is_built_command(text: &str, command: &Command) -> bool

@@ -141,7 +141,7 @@ module _ (hosts : HostMeanings) (entries : Entries) (lists : Lists) (changes : �
     -- where there is one, the causes of the first are among those of all
     put_bad : (first all : CauseSet) (source : List (List Value)) → ((k : Cause) → has_cause (named first) k ≡ true → has_cause all k ≡ true)
         → StandsFor (put_source ctx put (Some all) source) (left (source_run env b start (Some first) source))
-    put_bad first all source among = record { refusal = by_first; given = refl; shows_plan = refl; changed = refl; next = refl }
+    put_bad first all source among = record { refusal = by_first; fails = refl; told = refl; given = refl; shows_plan = refl; changed = refl; next = refl }
       where
         by_first : (why : Option Cause) → IsNamed (Some (named first)) why → IsNamed (Some all) why
         by_first None n = absurd n

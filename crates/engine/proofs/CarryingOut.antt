@@ -1,5 +1,5 @@
 -- What a statement's run says, from what its program's run says.
-use Rattle.std.proofs.Common.{◌≡◌, ℕ, ◌-◌, ◌≤◌, [], List, true, Result, Option, Some, None, Ok, Err, refl, sym, ap, ◌∙◌, subst, arith, length}
+use Rattle.std.proofs.Common.{◌≡◌, ℕ, ◌-◌, ◌≤◌, [], List, true, Result, Option, Some, None, is_some, Ok, Err, refl, sym, ap, ◌∙◌, subst, arith, length}
 use Rattle.eng_value.specs.Causes.{CauseSet, has_cause, only}
 use Rattle.eng_value.specs.declared.cause.Cause.{Cause}
 use Rattle.eng_value.specs.declared.cause.Cause.TheVariants as cause
@@ -39,11 +39,11 @@ pub record Shows (old : State) (o : Outcome) (e : Ending) (x : Shared) : Type 0 
   pub given : x.given ≡ o.given
   pub kept : (causes : CauseSet) → e ≡ Failed causes → o.next ≡ old
 
-named_by : (refusal : Option CauseSet) (e : Ending) (causes : CauseSet) (k : Cause) → e ≡ ended_by refusal → e ≡ Failed causes → has_cause causes k ≡ true → IsNamed refusal (Some k)
+pub named_by : (refusal : Option CauseSet) (e : Ending) (causes : CauseSet) (k : Cause) → e ≡ ended_by refusal → e ≡ Failed causes → has_cause causes k ≡ true → IsNamed refusal (Some k)
 named_by None e causes k is fails has = absurd (let both : Finished ≡ Failed causes = sym is ∙ fails in cc)
 named_by (Some others) e causes k is fails has = let both : Failed others ≡ Failed causes = sym is ∙ fails in let same : others ≡ causes = cc in rw same has
 
-refusal_none : (refusal : Option CauseSet) (e : Ending) → e ≡ ended_by refusal → e ≡ Finished → refusal ≡ None
+pub refusal_none : (refusal : Option CauseSet) (e : Ending) → e ≡ ended_by refusal → e ≡ Finished → refusal ≡ None
 refusal_none None e is ends = refl
 refusal_none (Some causes) e is ends = absurd (let both : Failed causes ≡ Finished = sym is ∙ ends in cc)
 
@@ -93,6 +93,8 @@ carries_refused o state budget bound steps t rose why is = record {
 -- it is the same, but may name fewer of the causes
 pub record StandsFor (o p : Outcome) : Type 0 where
   pub refusal : (why : Option Cause) → IsNamed p.refusal why → IsNamed o.refusal why
+  pub fails : is_some o.refusal ≡ is_some p.refusal
+  pub told : o.told ≡ p.told
   pub given : o.given ≡ p.given
   pub shows_plan : o.shows_plan ≡ p.shows_plan
   pub changed : o.changed ≡ p.changed
@@ -100,9 +102,9 @@ pub record StandsFor (o p : Outcome) : Type 0 where
 
 pub stands_same : (o p : Outcome) → o ≡ p → StandsFor o p
 stands_same o p is =
-    subst (λ q. StandsFor q p) (sym is) (record { refusal = λ why n. n; given = refl; shows_plan = refl; changed = refl; next = refl })
+    subst (λ q. StandsFor q p) (sym is) (record { refusal = λ why n. n; fails = refl; told = refl; given = refl; shows_plan = refl; changed = refl; next = refl })
 
-named_none : (refusal : Option CauseSet) → IsNamed refusal None → refusal ≡ None
+pub named_none : (refusal : Option CauseSet) → IsNamed refusal None → refusal ≡ None
 named_none None n = refl
 named_none (Some causes) n = absurd n
 

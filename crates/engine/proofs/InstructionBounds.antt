@@ -24,6 +24,7 @@ use Rattle.plan_tree.specs.Plans.{all_conjuncts, join_conjuncts}
 use Rattle.gen_write.proofs.Sizing.{steps-few as puts_few}
 use Rattle.gen_write.specs.Writes.{default_nodes, nodes_within, put_steps, row_bound, turns_of}
 use Rattle.sql_lex.specs.Tokens.{tokens_of}
+use Rattle.sql_tree.specs.declared.statement.Explain.{Explain}
 use Rattle.bound_tree.specs.Exprs.{BoundExpr}
 use Rattle.sql_meaning.specs.declared.bound.BoundInsert.{BoundInsert}
 use Rattle.sql_meaning.specs.declared.bound.BoundSelect.{BoundSelect}
@@ -38,7 +39,7 @@ use Rattle.sql_meaning.proofs.StoringLaws.{IsInto, StoresAs}
 use Rattle.sql_meaning.proofs.ValidLaws.{FitsIn, text-fits}
 use Rattle.sql_meaning.specs.Declarations.{tables_of}
 use Rattle.sql_meaning.specs.Valid.{IsWorld}
-use Rattle.sql_meaning.specs.Runnables.{Runnable, Creates, DoesNothing, Drops, FromItem, Indexes, Put, Puts, Queries, Query, Shows, Unindexes}
+use Rattle.sql_meaning.specs.Runnables.{Runnable, Creates, DoesNothing, Drops, Explains, FromItem, Indexes, Put, Puts, Queries, Query, Shows, Unindexes}
 use Rattle.sql_meaning.specs.Permits.{Asking}
 use Rattle.sql_meaning.specs.Searches.{marks_in, rows_counted}
 use Rattle.sql_meaning.specs.Statement.{Item, causes_of, given_of, item_rows, refusal_of, source_of, text_bound}
@@ -46,8 +47,8 @@ use Rattle.sql_meaning.specs.Work.{alone_work, bound_where, bound_within, from_s
 use Rattle.sql_meaning.specs.World.{Context, context, rows_at}
 use Rattle.vm_code.specs.Machine.{World as Lists}
 use Rattle.engine.specs.Held.{state_of, world_in}
-use Rattle.engine.specs.Outcomes.{steps_in, surroundings_in}
-use Rattle.engine.specs.Prepared.{bound_in}
+use Rattle.engine.specs.Outcomes.{steps_behind, steps_in, surroundings_in}
+use Rattle.engine.specs.Prepared.{behind, bound_in}
 use Rattle.engine.specs.declared.preparing.Ready.{Ready}
 use Rattle.engine.specs.declared.preparing.Ready.TheVariants as ready
 use Rattle.engine.proofs.Bridges.{BadSides, bad_sides}
@@ -312,7 +313,16 @@ module _ (asked : Asking) (hosts : HostMeanings) (entries : Entries) (lists : Li
   few_for DoesNothing (ready.Select b) some fits spelled at small = absurd at
   few_for DoesNothing (ready.Values b) some fits spelled at small = absurd at
   few_for DoesNothing ready.Nothing some fits spelled at small = within_size 1 tokens 0 0 0 (omega (arith, small))
+  few_for (Explains how y) (ready.Create n) some fits spelled at small = absurd at
+  few_for (Explains how y) (ready.Drop d) some fits spelled at small = absurd at
+  few_for (Explains how y) (ready.CreateIndex n) some fits spelled at small = absurd at
+  few_for (Explains how y) (ready.DropIndex n) some fits spelled at small = absurd at
+  few_for (Explains how y) (ready.Insert b) some fits spelled at small = absurd at
+  few_for (Explains how y) (ready.Select b) some fits spelled at small = absurd at
+  few_for (Explains how y) (ready.Values b) some fits spelled at small = absurd at
+  few_for (Explains how y) ready.Nothing some fits spelled at small = absurd at
 
-  -- what is ready runs within what its text may run
-  pub runs_within : (x : Runnable) (r : Ready) → text_bound asked (world_in entries lists) text ≡ Ok x → IsBound x (bound_in r) → IsSmall tokens x → steps_in around r ≤ bound_where asked ctx text
-  runs_within x r is at small = rw (ap (bound_within ctx tokens) is) (few_for x r (has_tokens asked (world_in entries lists) text x is) (text-fits asked (world_in entries lists) text x is) (text-spelled asked (world_in entries lists) text x valid is) at small)
+  -- what is ready runs within what its text may run; what is shown doesn't run
+  pub runs_within : (how : Option Explain) (x : Runnable) (r : Ready) → text_bound asked (world_in entries lists) text ≡ Ok (behind how x) → IsBound x (bound_in r) → IsSmall tokens x → steps_behind how (steps_in around r) ≤ bound_where asked ctx text
+  runs_within None x r is at small = rw (ap (bound_within ctx tokens) is) (few_for x r (has_tokens asked (world_in entries lists) text x is) (text-fits asked (world_in entries lists) text x is) (text-spelled asked (world_in entries lists) text x valid is) at small)
+  runs_within (Some how) x r is at small = omega arith

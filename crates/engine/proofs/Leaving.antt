@@ -100,3 +100,10 @@ module _ (hosts : HostMeanings) (entries : Entries) (lists : Lists) (changes : �
       by : (b : Bool) → 0 ≡ (outcome_by b).changed
       by true = refl
       by false = refl
+
+  pub index_told : index_run_of.shared.written.told ≡ (index_outcome_in entries lists changes last n).told
+  index_told = by broken
+    where
+      by : (b : Bool) → [] ≡ (outcome_by b).told
+      by true = refl
+      by false = refl

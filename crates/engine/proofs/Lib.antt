@@ -8,6 +8,7 @@ pub mod Writing
 pub mod Puts
 pub mod Bridges
 pub mod Leaving
+pub mod Named
 pub mod Texts
 pub mod Schemas
 pub mod Bodies
@@ -19,3 +20,4 @@ pub mod InstructionBounds
 pub mod Saying
 pub mod PlainCauses
 pub mod Programs
+pub mod Explanations

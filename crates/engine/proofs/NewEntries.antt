@@ -39,11 +39,11 @@ use Rattle.sql_bound.specs.Statements.{bound_of}
 use Rattle.sql_meaning.proofs.ValidLaws.{if_built-ok, same-ok, then-ok}
 use Rattle.sql_meaning.specs.Built.{is_built}
 use Rattle.sql_meaning.specs.Declarations.{columns_created, rowid_created, table_called, table_with, tables_of}
-use Rattle.sql_meaning.specs.Runnables.{Creates, DoesNothing, Drops, FromItem, Indexes, Put, Puts, Queries, Runnable, Shows, Unindexes}
+use Rattle.sql_meaning.specs.Runnables.{Creates, DoesNothing, Drops, Explains, FromItem, Indexes, Put, Puts, Queries, Runnable, Shows, Unindexes}
 use Rattle.sql_meaning.specs.Running.{are_own, command_of, creation_by, entry_with, has_own_keys, if_built, index_entry_with, index_on, kind_removed, first_part, found_table, from_of, is_plain_core, part_of, put_into, put_of, query_of, rejecting, removal_of, runnable_of, table_of_source}
 use Rattle.bound_tree.specs.declared.statements.BoundStatement.{BoundStatement}
 use Rattle.sql_meaning.specs.Permits.{Asking, permitted}
-use Rattle.sql_meaning.specs.Statement.{around, statement_bound}
+use Rattle.sql_meaning.specs.Statement.{around, plain_bound}
 
 not_nothing : (e : Entry) → let r : Result Runnable Cause = Ok DoesNothing in r ≡ Ok (Creates e) → ⊥
 not_nothing e h = let bad : DoesNothing ≡ Creates e = same-ok DoesNothing (Creates e) h in absurd (cc)
@@ -119,7 +119,7 @@ command-entry tables number text s units (made.Transacted t) e h = absurd (not_r
 command-entry tables number text s units (made.Pragma name) e h = absurd (not_nothing e h)
 command-entry tables number text s units (made.Nothing kind name owner) e h = absurd (not_nothing e h)
 
-statement-entry : (asked : Asking) (catalog : Entries) (number : ℕ) (text : List ℕ) (s : Statement) (e : Entry) → statement_bound asked catalog number text s ≡ Ok (Creates e) → IsEntryFor number text s e
+statement-entry : (asked : Asking) (catalog : Entries) (number : ℕ) (text : List ℕ) (s : Statement) (e : Entry) → plain_bound asked catalog number text s ≡ Ok (Creates e) → IsEntryFor number text s e
 statement-entry asked catalog number text s e h =
     let run : BoundStatement → Result Runnable Cause = runnable_of (tables_of catalog) number text s in
     let built = if_built-ok (is_built text s) (bound_of (around catalog) text s >>= λ b. permitted b (asked b) >>= run) (Creates e) h in
@@ -131,7 +131,7 @@ statement-entry asked catalog number text s e h =
 
 module _ (size : ℕ) (asked : Asking) (catalog : Entries) (number : ℕ) (text : List ℕ) (s : Statement) where
   abbrev meant : Result Runnable Cause
-  meant = statement_bound asked catalog number text s
+  meant = plain_bound asked catalog number text s
 
   -- the table with its entry
   pub create-readies : (new : NewTable) (n : NewEntry) → BindsTo size meant (Ok (bound.CreateTable new)) → n.entry ≡ entry_with number text new.name s
@@ -155,6 +155,7 @@ module _ (size : ℕ) (asked : Asking) (catalog : Entries) (number : ℕ) (text 
       by (Queries q) is at small = absurd at
       by (Shows rows) is at small = absurd at
       by DoesNothing is at small = absurd at
+      by (Explains how y) is at small = absurd at
 
 -- ---- the entry of an index
 
@@ -214,7 +215,7 @@ command-indexes tables number text s units (made.Transacted t) x h = absurd (let
 command-indexes tables number text s units (made.Pragma name) x h = subst (IsIndexFor text s) (same-ok DoesNothing x h) tt
 command-indexes tables number text s units (made.Nothing kind name owner) x h = subst (IsIndexFor text s) (same-ok DoesNothing x h) tt
 
-statement-indexes : (asked : Asking) (catalog : Entries) (number : ℕ) (text : List ℕ) (s : Statement) (x : Runnable) → statement_bound asked catalog number text s ≡ Ok x → IsIndexFor text s x
+statement-indexes : (asked : Asking) (catalog : Entries) (number : ℕ) (text : List ℕ) (s : Statement) (x : Runnable) → plain_bound asked catalog number text s ≡ Ok x → IsIndexFor text s x
 statement-indexes asked catalog number text s x h =
     let run : BoundStatement → Result Runnable Cause = runnable_of (tables_of catalog) number text s in
     let built = if_built-ok (is_built text s) (bound_of (around catalog) text s >>= λ b. permitted b (asked b) >>= run) x h in
@@ -224,11 +225,11 @@ statement-indexes asked catalog number text s x h =
 
 module _ (size : ℕ) (asked : Asking) (catalog : Entries) (number : ℕ) (text : List ℕ) (s : Statement) where
   -- the index with its entry
-  pub index-readies : (new : BoundIndex) (n : NewIndexEntry) → BindsTo size (statement_bound asked catalog number text s) (Ok (bound.CreateIndex new)) → n.entry ≡ index_entry_in text new s → n.index ≡ new
-      → Readies size (statement_bound asked catalog number text s) (Ok (ready.CreateIndex n))
+  pub index-readies : (new : BoundIndex) (n : NewIndexEntry) → BindsTo size (plain_bound asked catalog number text s) (Ok (bound.CreateIndex new)) → n.entry ≡ index_entry_in text new s → n.index ≡ new
+      → Readies size (plain_bound asked catalog number text s) (Ok (ready.CreateIndex n))
   index-readies new n binds entry index = by binds.0 binds.1 binds.2 binds.3
     where
-      by : (x : Runnable) → statement_bound asked catalog number text s ≡ Ok x → IsBound x (bound.CreateIndex new) → IsSmall size x → Readies size (statement_bound asked catalog number text s) (Ok (ready.CreateIndex n))
+      by : (x : Runnable) → plain_bound asked catalog number text s ≡ Ok x → IsBound x (bound.CreateIndex new) → IsSmall size x → Readies size (plain_bound asked catalog number text s) (Ok (ready.CreateIndex n))
       by (Indexes i) is at small =
           let own = statement-indexes asked catalog number text s (Indexes i) is in
           let made : List ℕ → List ℕ → ℕ → Entry = λ name owner k. record { kind = entry_kind.Index; name = name; owner = owner; number = k; text = text; def = s } in
@@ -241,3 +242,4 @@ module _ (size : ℕ) (asked : Asking) (catalog : Entries) (number : ℕ) (text 
       by (Queries q) is at small = absurd at
       by (Shows rows) is at small = absurd at
       by DoesNothing is at small = absurd at
+      by (Explains how y) is at small = absurd at

@@ -4,11 +4,12 @@ use Rattle.std.specs.Prelude.{IfOk}
 use Rattle.std.proofs.lemmas.Result.{IfOk-weaker}
 use Rattle.bound_tree.specs.Exprs.{BoundExpr}
 use Rattle.eng_value.specs.declared.value.Value.{Value}
-use Rattle.gen_query.specs.Queries.{conjuncts_of, query_run, query_steps}
-use Rattle.plan_tree.specs.Plans.{PlanFits}
+use Rattle.gen_query.specs.Queries.{NamesItsItems, conjuncts_of, query_run, query_steps}
+use Rattle.plan_tree.specs.Plans.{AreOver, IsSmall, PlanFits}
 use Rattle.plan_tree.specs.declared.access.JoinPlan.{JoinPlan}
 use Rattle.sql_meaning.specs.declared.bound.BoundSelect.{BoundSelect}
 use Rattle.sql_meaning.specs.declared.bound.FromTable.{FromTable}
+use Rattle.vm_code.specs.Accepted.{IsAccepted}
 use Rattle.vm_code.specs.Machine.{PerformsWith}
 use Rattle.vm_code.specs.declared.program.Program.{Program}
 
@@ -22,3 +23,9 @@ pub performs_by : {E : Type 0} (params : List Value) (q : BoundSelect) (plan : J
     → IfOk result (λ p. (given : List Value) → PlanFits given q.from (conjuncts_of q) plan → PerformsWith given p (query_run q) (query_steps q)) → IfOk result (λ p. PerformsWith params p (query_run q) (query_steps q))
 performs_by params q plan result fits =
     IfOk-weaker result (λ p. (given : List Value) → PlanFits given q.from (conjuncts_of q) plan → PerformsWith given p (query_run q) (query_steps q)) (λ p. PerformsWith params p (query_run q) (query_steps q)) (λ p performs. performs params fits)
+
+-- it keeps the rules where the query names its items
+pub accepted_by : {E : Type 0} (params : List Value) (q : BoundSelect) (plan : JoinPlan) (result : Result Program E) → PlanFits params q.from (conjuncts_of q) plan
+    → IfOk result (λ p. AreOver q.from plan.loops → IsSmall q.from (conjuncts_of q) plan → NamesItsItems q → IsAccepted p) → IfOk result (λ p. NamesItsItems q → IsAccepted p)
+accepted_by params q plan result fits =
+    IfOk-weaker result (λ p. AreOver q.from plan.loops → IsSmall q.from (conjuncts_of q) plan → NamesItsItems q → IsAccepted p) (λ p. NamesItsItems q → IsAccepted p) (λ p accepted. accepted fits.over fits.small)

@@ -9,23 +9,26 @@ use Rattle.eng_value.specs.declared.value.Value.{Value}
 use Rattle.sql_meaning.proofs.TableLaws.{entries-by, found-all, index-no_table}
 use Rattle.sql_meaning.proofs.RowidPlaces.{found-places}
 use Rattle.sql_meaning.proofs.ValidLaws.{FitsIn, index-else, text-fits}
-use Rattle.sql_meaning.specs.Runnables.{Runnable, Creates, DoesNothing, Drops, Indexes, NewIndex, Puts, Queries, Shows, Unindexes}
+use Rattle.sql_meaning.specs.Runnables.{Runnable, Creates, DoesNothing, Drops, Explains, Indexes, NewIndex, Puts, Queries, Shows, Unindexes}
 use Rattle.sql_meaning.specs.Declarations.{table_of, tables_of}
 use Rattle.sql_meaning.specs.Permits.{Asking}
 use Rattle.sql_meaning.specs.Statement.{Outcome, bound_outcome, create_outcome, outcome_of, outcome_where, text_bound, unindex_outcome}
 use Rattle.sql_meaning.specs.Valid.{IsEntry, IsTable, IsWorld}
 use Rattle.sql_meaning.specs.World.{Context, State, context}
+use Rattle.sql_tree.specs.declared.statement.Explain.{Explain}
 use Rattle.vm_code.specs.Machine.{World as Lists, IsSound}
 use Rattle.engine.specs.declared.preparing.NewEntry.{NewEntry}
 use Rattle.engine.specs.declared.preparing.NewIndexEntry.{NewIndexEntry}
 use Rattle.engine.specs.declared.preparing.Ready.{Ready}
 use Rattle.engine.specs.declared.preparing.Ready.TheVariants as ready
 use Rattle.engine.specs.Held.{state_of, world_in}
-use Rattle.engine.specs.Outcomes.{outcome_in}
+use Rattle.engine.specs.Outcomes.{outcome_behind, outcome_in}
 use Rattle.engine.specs.Connected.{CarriesOut}
-use Rattle.engine.specs.Prepared.{HasEntry, IsNew, IsNewIndex, LeavesNoTable, MayRun, bound_in}
+use Rattle.engine.specs.Prepared.{HasEntry, IsNew, IsNewIndex, LeavesNoTable, MayRun, behind, bound_in}
 use Rattle.engine.specs.Taking.{Rows}
 use Rattle.engine.proofs.CarryingOut.{StandsFor, stands_same, carries_Mem, carries_refused}
+use Rattle.meaning_laws.specs.Runs.{RunnableIsWithin}
+use Rattle.engine.proofs.Named.{ready_names, text_within}
 use Rattle.engine.proofs.Bridges.{drop_same, index_same, put_same, query_same}
 
 module _ (asked : Asking) (hosts : HostMeanings) (entries : Entries) (lists : Lists) (changes : ℕ) (last : ℤ) (params : List Value) (text : List ℕ) (valid : IsWorld (world_in entries lists)) where
@@ -58,32 +61,44 @@ module _ (asked : Asking) (hosts : HostMeanings) (entries : Entries) (lists : Li
   indexes_else : (table : List ℕ) → All (LeavesNoTable (λ e. not (is_index_on table e))) entries.names
   indexes_else table = entries-by (IsEntry (tables_of entries)) (LeavesNoTable (λ e. not (is_index_on table e))) entries.names (index-else table (tables_of entries)) valid.entries
 
-  by_ready : (x : Runnable) (r : Ready) → Fits x → IsBound x (bound_in r) → HasEntry x r → MayRun entries r
-  by_ready (Creates e) (ready.Create n) fits at has = is_new e n fits has
-  by_ready (Drops t) (ready.Create n) fits at has = absurd at
-  by_ready (Indexes i) (ready.Create n) fits at has = absurd at
-  by_ready (Unindexes name) (ready.Create n) fits at has = absurd at
-  by_ready (Puts p) (ready.Create n) fits at has = absurd at
-  by_ready (Queries q) (ready.Create n) fits at has = absurd at
-  by_ready (Shows rows) (ready.Create n) fits at has = absurd at
-  by_ready DoesNothing (ready.Create n) fits at has = absurd at
-  by_ready (Creates e) (ready.CreateIndex n) fits at has = absurd at
-  by_ready (Drops t) (ready.CreateIndex n) fits at has = absurd at
-  by_ready (Indexes i) (ready.CreateIndex n) fits at has = is_new_index i n fits has
-  by_ready (Unindexes name) (ready.CreateIndex n) fits at has = absurd at
-  by_ready (Puts p) (ready.CreateIndex n) fits at has = absurd at
-  by_ready (Queries q) (ready.CreateIndex n) fits at has = absurd at
-  by_ready (Shows rows) (ready.CreateIndex n) fits at has = absurd at
-  by_ready DoesNothing (ready.CreateIndex n) fits at has = absurd at
-  by_ready x (ready.Drop d) fits at has = indexes_else d.name
-  by_ready x (ready.DropIndex n) fits at has = tt
-  by_ready x (ready.Insert b) fits at has = tt
-  by_ready x (ready.Select b) fits at has = tt
-  by_ready x (ready.Values b) fits at has = tt
-  by_ready x ready.Nothing fits at has = tt
+  by_ready : (x : Runnable) (r : Ready) → RunnableIsWithin x → Fits x → IsBound x (bound_in r) → HasEntry x r → MayRun entries r
+  by_ready (Creates e) (ready.Create n) within fits at has = is_new e n fits has
+  by_ready (Drops t) (ready.Create n) within fits at has = absurd at
+  by_ready (Indexes i) (ready.Create n) within fits at has = absurd at
+  by_ready (Unindexes name) (ready.Create n) within fits at has = absurd at
+  by_ready (Puts p) (ready.Create n) within fits at has = absurd at
+  by_ready (Queries q) (ready.Create n) within fits at has = absurd at
+  by_ready (Shows rows) (ready.Create n) within fits at has = absurd at
+  by_ready DoesNothing (ready.Create n) within fits at has = absurd at
+  by_ready (Creates e) (ready.CreateIndex n) within fits at has = absurd at
+  by_ready (Drops t) (ready.CreateIndex n) within fits at has = absurd at
+  by_ready (Indexes i) (ready.CreateIndex n) within fits at has = is_new_index i n fits has
+  by_ready (Unindexes name) (ready.CreateIndex n) within fits at has = absurd at
+  by_ready (Puts p) (ready.CreateIndex n) within fits at has = absurd at
+  by_ready (Queries q) (ready.CreateIndex n) within fits at has = absurd at
+  by_ready (Shows rows) (ready.CreateIndex n) within fits at has = absurd at
+  by_ready DoesNothing (ready.CreateIndex n) within fits at has = absurd at
+  by_ready (Explains how y) (ready.Create n) within fits at has = absurd at
+  by_ready (Explains how y) (ready.CreateIndex n) within fits at has = absurd at
+  by_ready x (ready.Drop d) within fits at has = indexes_else d.name
+  by_ready x (ready.DropIndex n) within fits at has = ready_names x (ready.DropIndex n) at within
+  by_ready x (ready.Insert b) within fits at has = ready_names x (ready.Insert b) at within
+  by_ready x (ready.Select b) within fits at has = ready_names x (ready.Select b) at within
+  by_ready x (ready.Values b) within fits at has = ready_names x (ready.Values b) at within
+  by_ready x ready.Nothing within fits at has = tt
 
-  pub may_run : (x : Runnable) (r : Ready) → text_bound asked (world_in entries lists) text ≡ Ok x → IsBound x (bound_in r) → HasEntry x r → MayRun entries r
-  may_run x r is at has = by_ready x r (text-fits asked (world_in entries lists) text x is) at has
+  -- what stands behind EXPLAIN fits and reads as it does without
+  fits_behind : (how : Option Explain) (x : Runnable) → Fits (behind how x) → Fits x
+  fits_behind None x fits = fits
+  fits_behind (Some how) x fits = fits
+
+  pub within_behind : (how : Option Explain) (x : Runnable) → RunnableIsWithin (behind how x) → RunnableIsWithin x
+  within_behind None x within = within
+  within_behind (Some how) x within = within
+
+  pub may_run : (how : Option Explain) (x : Runnable) (r : Ready) → text_bound asked (world_in entries lists) text ≡ Ok (behind how x) → IsBound x (bound_in r) → HasEntry x r → MayRun entries r
+  may_run how x r is at has =
+      by_ready x r (within_behind how x (text_within asked (world_in entries lists) text (behind how x) is)) (fits_behind how x (text-fits asked (world_in entries lists) text (behind how x) is)) at has
 
   bound_stands : (x : Runnable) (r : Ready) → IsSound lists → Fits x → IsBound x (bound_in r) → HasEntry x r → StandsFor (outcome_of ctx x) (outcome_in hosts entries lists changes last params r)
   bound_stands (Creates e) (ready.Create n) sound fits at has = stands_same _ _ (ap (create_outcome state) (sym has.0))
@@ -150,10 +165,28 @@ module _ (asked : Asking) (hosts : HostMeanings) (entries : Entries) (lists : Li
   bound_stands DoesNothing (ready.Select b) sound fits at has = absurd at
   bound_stands DoesNothing (ready.Values b) sound fits at has = absurd at
   bound_stands DoesNothing ready.Nothing sound fits at has = stands_same _ _ refl
+  bound_stands (Explains how y) (ready.Create n) sound fits at has = absurd at
+  bound_stands (Explains how y) (ready.Drop d) sound fits at has = absurd at
+  bound_stands (Explains how y) (ready.CreateIndex n) sound fits at has = absurd at
+  bound_stands (Explains how y) (ready.DropIndex n) sound fits at has = absurd at
+  bound_stands (Explains how y) (ready.Insert b) sound fits at has = absurd at
+  bound_stands (Explains how y) (ready.Select b) sound fits at has = absurd at
+  bound_stands (Explains how y) (ready.Values b) sound fits at has = absurd at
+  bound_stands (Explains how y) ready.Nothing sound fits at has = absurd at
 
-  pub text_stands : (x : Runnable) (r : Ready) → IsSound lists → text_bound asked (world_in entries lists) text ≡ Ok x → IsBound x (bound_in r) → HasEntry x r → StandsFor (outcome_where asked ctx text) (outcome_in hosts entries lists changes last params r)
-  text_stands x r sound is at has =
-      subst (λ (o : Outcome). StandsFor o (outcome_in hosts entries lists changes last params r)) (sym (ap (bound_outcome ctx) is)) (bound_stands x r sound (text-fits asked (world_in entries lists) text x is) at has)
+  -- what is ready stands for what its text means without EXPLAIN
+  pub plain_stands : (how : Option Explain) (x : Runnable) (r : Ready) → IsSound lists → text_bound asked (world_in entries lists) text ≡ Ok (behind how x) → IsBound x (bound_in r) → HasEntry x r → StandsFor (outcome_of ctx x) (outcome_in hosts entries lists changes last params r)
+  plain_stands how x r sound is at has = bound_stands x r sound (fits_behind how x (text-fits asked (world_in entries lists) text (behind how x) is)) at has
+
+  behind_stands : (how : Option Explain) (x : Runnable) (o : Outcome) → StandsFor (outcome_of ctx x) o → StandsFor (outcome_of ctx (behind how x)) (outcome_behind how state o)
+  behind_stands None x o stands = stands
+  behind_stands (Some how) x o stands = stands_same _ _ refl
+
+  pub text_stands : (how : Option Explain) (x : Runnable) (r : Ready) → IsSound lists → text_bound asked (world_in entries lists) text ≡ Ok (behind how x) → IsBound x (bound_in r) → HasEntry x r
+      → StandsFor (outcome_where asked ctx text) (outcome_behind how state (outcome_in hosts entries lists changes last params r))
+  text_stands how x r sound is at has =
+      subst (λ (o : Outcome). StandsFor o (outcome_behind how state (outcome_in hosts entries lists changes last params r))) (sym (ap (bound_outcome ctx) is))
+      (behind_stands how x (outcome_in hosts entries lists changes last params r) (plain_stands how x r sound is at has))
 
   -- ---- a text that is not run
 

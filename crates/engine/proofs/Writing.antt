@@ -22,6 +22,9 @@ module _ (entries : Entries) (lists : Lists) (changes : ℕ) (last : ℤ) where
   pub left_next : (e : Ending) (x : Shared) → e ≡ Finished → (left_by entries lists changes last e x).next ≡ state_of entries (world_of x) x.written.changes x.written.last_rowid
   left_next e x ends = rw ends refl
 
+  pub left_told : (e : Ending) (x : Shared) → e ≡ Finished → (left_by entries lists changes last e x).told ≡ x.written.told
+  left_told e x ends = rw ends refl
+
   pub left_changed : (e : Ending) (x : Shared) → e ≡ Finished → (left_by entries lists changes last e x).changed ≡ x.written.changes
   left_changed e x ends = rw ends refl
 

@@ -8,4 +8,5 @@ pub mod Causes
 pub mod Connected
 pub mod Prepared
 pub mod Outcomes
+pub mod Explained
 pub mod Uncounted

@@ -1,5 +1,5 @@
 -- What statements come to that are ready to run, and in how many instructions at most.
-use Rattle.std.specs.Prelude.{⊤, ℕ, ◌&&◌, List, [], ℤ, if◌then◌else◌, slice_set}
+use Rattle.std.specs.Prelude.{⊤, ℕ, ◌&&◌, true, List, [], ℤ, if◌then◌else◌, Option, None, Some, slice_set}
 use Rattle.eng_entry.specs.Entries.{Entries, with_entry, without_indexes, without_name}
 use Rattle.eng_index.specs.Keys.{has_doubles}
 use Rattle.eng_value.specs.Causes.{only}
@@ -16,6 +16,7 @@ use Rattle.sql_meaning.specs.declared.bound.BoundInsert.{BoundInsert}
 use Rattle.sql_meaning.specs.declared.bound.BoundSelect.{BoundSelect}
 use Rattle.sql_meaning.specs.Statement.{Outcome, create_outcome, done, failed, nothing, query_outcome, refused, shown_rows}
 use Rattle.sql_meaning.specs.World.{State, context, rows_at}
+use Rattle.sql_tree.specs.declared.statement.Explain.{Explain}
 use Rattle.bind_stmt.specs.declared.statement.DroppedTable.{DroppedTable}
 use Rattle.vm_code.specs.Machine.{World as Lists, Run, Shared, Ending, Finished, Failed, world_of}
 use Rattle.engine.specs.declared.preparing.NewIndexEntry.{NewIndexEntry}
@@ -81,6 +82,17 @@ steps_in x (ready.Insert b) = put_steps b x
 steps_in x (ready.Select q) = query_steps q x
 steps_in x (ready.Values rows) = values_steps rows x
 steps_in x ready.Nothing = nothing_steps x
+
+-- ---- a statement that may stand behind EXPLAIN
+
+-- nothing is done then, and what is given are the lines of how it would be
+abbrev pub outcome_behind : Option Explain → State → Outcome → Outcome
+outcome_behind None state o = o
+outcome_behind (Some how) state o = record (nothing state) { shows_plan = true }
+
+abbrev pub steps_behind : Option Explain → ℕ → ℕ
+steps_behind None steps = steps
+steps_behind (Some how) steps = 0
 
 -- ---- the run of a statement's program, and what is left behind it
 

@@ -1,5 +1,5 @@
 -- Why a text has no statement, and what a statement that is ready to run stands for.
-use Rattle.std.specs.Prelude.{◌≡◌, ◌≤◌, ⊤, ℕ, ◌+◌, Bool, false, not, List, All, Some, None, Result, Ok, Err}
+use Rattle.std.specs.Prelude.{◌≡◌, ◌≤◌, ⊤, ℕ, ◌+◌, Bool, false, not, List, All, Option, Some, None, Result, Ok, Err}
 use Rattle.bind_stmt.specs.declared.statement.Bound.{Bound}
 use Rattle.bind_stmt.specs.declared.statement.Bound.TheVariants as bound
 use Rattle.bind_stmt.specs.Binds.{IsBound, IsRefusal}
@@ -12,12 +12,16 @@ use Rattle.eng_value.specs.declared.cause.Cause.{Cause}
 use Rattle.eng_value.specs.declared.cause.Cause.TheVariants as cause
 use Rattle.parse_cursor.specs.declared.texts.Failure.{Failure}
 use Rattle.parse_cursor.specs.declared.texts.Failure.TheVariants as failure
+use Rattle.gen_query.specs.Queries.{NamesItsItems, NamesNoItem}
+use Rattle.gen_write.specs.Writes.{NamesWhatIsThere as InsertNames}
+use Rattle.sql_tree.specs.declared.statement.Explain.{Explain}
 use Rattle.sql_tree.specs.declared.statement.Statement.{Statement}
-use Rattle.sql_meaning.specs.Runnables.{Runnable, Creates, Indexes}
+use Rattle.sql_meaning.specs.Runnables.{Runnable, Creates, Explains, Indexes}
 use Rattle.sql_meaning.specs.Declarations.{table_of}
 use Rattle.sql_meaning.specs.Statement.{limit_kind}
 use Rattle.engine.specs.declared.preparing.NewEntry.{NewEntry}
 use Rattle.engine.specs.declared.preparing.NewIndexEntry.{NewIndexEntry}
+use Rattle.engine.specs.declared.preparing.Prepared.{Prepared}
 use Rattle.engine.specs.declared.preparing.Ready.{Ready}
 use Rattle.engine.specs.declared.preparing.Ready.TheVariants as ready
 
@@ -74,6 +78,16 @@ abbrev pub Readies : ℕ → Result Runnable Cause → Result Ready Cause → Ty
 Readies size meant (Ok r) = (x : Runnable) × (meant ≡ Ok x) × IsBound x (bound_in r) × IsSmall size x × HasEntry x r
 Readies size meant (Err why) = IsRefusal meant why
 
+-- what stands behind EXPLAIN is shown and not run
+abbrev pub behind : Option Explain → Runnable → Runnable
+behind None x = x
+behind (Some how) x = Explains how x
+
+-- the same of a statement that may stand behind EXPLAIN
+abbrev pub Prepares : ℕ → Result Runnable Cause → Result Prepared Cause → Type 0
+Prepares size meant (Ok p) = (x : Runnable) × (meant ≡ Ok (behind p.explain x)) × IsBound x (bound_in p.ready) × IsSmall size x × HasEntry x p.ready
+Prepares size meant (Err why) = IsRefusal meant why
+
 -- ---- what may run
 
 -- what a test leaves out is the entry of no table
@@ -92,9 +106,16 @@ pub record IsNewIndex (entries : Entries) (n : NewIndexEntry) : Type 0 where
   pub free : entry_named n.entry.name entries.names ≡ None
   pub undeclared : table_of n.entry ≡ None
 
--- where a table is dropped, the entries of its indexes are those of no table
+-- what a query reads are items of its FROM, and of an INSERT the CHECKs alone read a row, which is the one that is put
+abbrev pub NamesWhatIsThere : Ready → Type 0
+NamesWhatIsThere (ready.Insert b) = InsertNames b
+NamesWhatIsThere (ready.Select q) = NamesItsItems q
+NamesWhatIsThere (ready.Values rows) = NamesNoItem rows
+NamesWhatIsThere r = ⊤
+
+-- where a table is dropped, the entries of its indexes are those of no table; and what is read is there
 abbrev pub MayRun : Entries → Ready → Type 0
 MayRun entries (ready.Create n) = IsNew entries n
 MayRun entries (ready.CreateIndex n) = IsNewIndex entries n
 MayRun entries (ready.Drop d) = All (LeavesNoTable (λ e. not (is_index_on d.name e))) entries.names
-MayRun entries r = ⊤
+MayRun entries r = NamesWhatIsThere r

@@ -2,6 +2,9 @@
 ghost use Rattle.std.specs.Prelude.{◌≡◌, ◌≤◌, ◌+◌, ◌-◌, map, slice_set, None, Some, OnOk, OnErr, IfOk, IfErr};
 ghost use Rattle.eng_value.specs.declared.cause.Cause.TheVariants.{Mem};
 ghost use Rattle.engine.specs.Causes.{GivesCounted, GivesFront, IsCause, WhereTold};
+ghost use Rattle.engine.specs.Explained.{Explaining, GivesLines, by_cause};
+ghost use Rattle.sql_meaning.specs.Permits.{WhereAsked};
+ghost use Rattle.sql_tree.specs.declared.statement.Explain.TheVariants.{Instructions, QueryPlan};
 ghost use Rattle.std.specs.Option.{option_copied};
 ghost use Rattle.sql_meaning.specs.Declarations.{table_called};
 ghost use Rattle.host_traits.specs.Faults.{Rose};
@@ -11,11 +14,13 @@ ghost use Rattle.vm_core.specs.Meant.{meant};
 
 use crate::answers::{Done, Refusal};
 use crate::database::{Database, run_text};
+use crate::explaining::explain_text;
 use crate::planning::JoinOrder;
 use crate::row_sink::RowSink;
 use eng_entry::is_same_name;
 use eng_value::{Cause, Row, Rows, Steps, StoredRow, Value};
 use sql_meaning::TableEntry;
+use sql_tree::Explain;
 use std::alloc::{AllocError, Global};
 use std::marker::Model;
 use std::sync::ledger::Ledger;
@@ -82,6 +87,8 @@ impl Connection {
     /// - any other cause: that is one of those that it means, the rows in front of it were taken, and the connection holds what the
     ///   refusal means, which is what it held before.
     ///
+    /// Behind EXPLAIN nothing is run, and the rows are the lines that `explain` or `query_plan` answer.
+    ///
     /// After any refusal the connection is as it was, whatever the hosts do. The rows that were taken are a front of what the statement
     /// means, where the hosts tell.
     pub fn run<R: RowSink, L: Ledger>(
@@ -99,6 +106,9 @@ impl Connection {
         ensures rows { IfOk result (λ d. WhereTold (meant (λ b. verdicts (b.vtable, b.value)) hosts.old) self.old.state params.now sql.now
             (λ o bound. GivesCounted o (R.taken rows.old) (R.taken rows.new) d.given)) }
         ensures changed { IfOk result (λ d. WhereTold (meant (λ b. verdicts (b.vtable, b.value)) hosts.old) self.old.state params.now sql.now (λ o bound. d.changed ≡ o.changed)) }
+
+        // of a statement behind EXPLAIN the rows are those of `explain` or `query_plan`,
+        ensures plan { OnOk result (WhereAsked (meant (λ b. verdicts (b.vtable, b.value)) hosts.old).authorizer (λ asked. GivesLines asked (meant (λ b. verdicts (b.vtable, b.value)) hosts.old) self.old.state sql.now (R.taken rows.old) (R.taken rows.new))) }
 
         // a refusal has its cause, and leaves what it means, or all as it was,
         ensures cause { IfErr result (λ r. WhereTold (meant (λ b. verdicts (b.vtable, b.value)) hosts.old) self.old.state params.now sql.now
@@ -129,6 +139,31 @@ impl Connection {
             steps,
         ) {
             Ok(done) => Ok(done),
+            Err(cause) => Err(Refusal { cause }),
+        }
+    }
+
+    /// The program of a statement as it would run now with each parameter NULL: a row of eight columns for each instruction, addr, opcode, p1 to
+    /// p5 and comment. Nothing is run. The statement may stand behind EXPLAIN or EXPLAIN QUERY PLAN. The refusals are those of the
+    /// statement before it runs, and want of memory (EXPLAIN; docs/BYTECODE.md tells of the opcodes).
+    pub fn explain(&self, alloc: Global, hosts: &mut Hosts, sql: &str) -> Result<Rows, Refusal>
+        ensures shows { WhereAsked (meant (λ b. verdicts (b.vtable, b.value)) hosts.old).authorizer (λ asked. Explaining Instructions asked (meant (λ b. verdicts (b.vtable, b.value)) hosts.old) self.now.state sql.now (by_cause result)) }
+        ensures hosts { meant (λ b. verdicts (b.vtable, b.value)) hosts.new ≡ meant (λ b. verdicts (b.vtable, b.value)) hosts.old }
+    {
+        match explain_text(alloc, &self.database, hosts, Explain::Instructions, sql) {
+            Ok(lines) => Ok(lines),
+            Err(cause) => Err(Refusal { cause }),
+        }
+    }
+
+    /// The plan by which a query would read its tables now, with each parameter NULL: a row of id, parent, 0 and detail for each loop, outermost
+    /// first, and for the sort behind them; without a loop one row says so. A statement that queries nothing has none. All else is as `explain` (EXPLAIN QUERY PLAN).
+    pub fn query_plan(&self, alloc: Global, hosts: &mut Hosts, sql: &str) -> Result<Rows, Refusal>
+        ensures shows { WhereAsked (meant (λ b. verdicts (b.vtable, b.value)) hosts.old).authorizer (λ asked. Explaining QueryPlan asked (meant (λ b. verdicts (b.vtable, b.value)) hosts.old) self.now.state sql.now (by_cause result)) }
+        ensures hosts { meant (λ b. verdicts (b.vtable, b.value)) hosts.new ≡ meant (λ b. verdicts (b.vtable, b.value)) hosts.old }
+    {
+        match explain_text(alloc, &self.database, hosts, Explain::QueryPlan, sql) {
+            Ok(lines) => Ok(lines),
             Err(cause) => Err(Refusal { cause }),
         }
     }

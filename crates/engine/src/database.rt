@@ -1,22 +1,26 @@
 // What a connection holds, and how a statement changes it.
-ghost use Rattle.std.specs.Prelude.{◌≡◌, ◌≤◌, ◌+◌, ◌-◌, [], length, pos, IfOk, OnErr};
+ghost use Rattle.std.specs.Prelude.{◌≡◌, ◌≤◌, ◌+◌, ◌-◌, [], length, pos, IfOk, OnErr, OnOk};
 ghost use Rattle.engine.specs.Causes.{WhereSaid, WhereTold};
 ghost use Rattle.engine.specs.Connected.{CarriesOut};
+ghost use Rattle.engine.specs.Explained.{GivesLines, GivesReady};
+ghost use Rattle.sql_meaning.specs.Permits.{WhereAsked};
 ghost use Rattle.eng_entry.specs.Entries.{no_entries};
 ghost use Rattle.engine.specs.Held.{state_of, world_in};
 ghost use Rattle.sql_meaning.specs.Statement.{create_outcome};
 ghost use Rattle.sql_meaning.specs.Valid.{IsWorld};
-ghost use Rattle.engine.specs.Outcomes.{IsOther, changed_by, index_outcome_in, outcome_in, run_in, state_after, steps_in, surroundings_in};
-ghost use Rattle.engine.specs.Prepared.{IsNew, IsNewIndex, MayRun};
+ghost use Rattle.engine.specs.Outcomes.{IsOther, changed_by, index_outcome_in, outcome_behind, outcome_in, run_in, state_after, steps_behind, steps_in, surroundings_in};
+ghost use Rattle.engine.specs.Prepared.{IsNew, IsNewIndex, MayRun, NamesWhatIsThere};
 ghost use Rattle.gen_write.specs.Writes.{create_steps, index_run, index_steps};
 ghost use Rattle.host_traits.specs.Faults.{Rose};
+ghost use Rattle.vm_code.specs.Accepted.{IsAccepted};
 ghost use Rattle.vm_code.specs.Machine.{IsSound, Performs, PerformsWith};
 ghost use Rattle.vm_core.specs.Meant.{meant};
 
 use crate::answers::Done;
 use crate::executing::execute;
+use crate::explaining::show;
 use crate::planning::{JoinOrder, compiled_query};
-use crate::preparing::{NewEntry, NewIndexEntry, Ready, prepare};
+use crate::preparing::{NewEntry, NewIndexEntry, Prepared, Ready, prepare};
 use crate::row_sink::RowSink;
 use crate::running::Completed;
 use crate::schema::Schema;
@@ -114,6 +118,8 @@ pub(crate) fn run_text<R: RowSink, L: Ledger>(
         (state_of database.new.schema database.new.tables.world database.new.changes database.new.last_rowid)
         budget bound (steps.new - steps.old) (R.taken rows.old) (R.taken rows.new)
         (Rose (R.fault_count rows.old) (R.fault_count rows.new)) result) }
+    ensures plan { WhereAsked (meant (λ b. verdicts (b.vtable, b.value)) hosts.old).authorizer (λ asked. OnOk result (GivesLines asked (meant (λ b. verdicts (b.vtable, b.value)) hosts.old)
+        (state_of database.old.schema database.old.tables.world database.old.changes database.old.last_rowid) text.now (R.taken rows.old) (R.taken rows.new))) }
     ensures kept { OnErr result
         (state_of database.new.schema database.new.tables.world database.new.changes database.new.last_rowid
         ≡ state_of database.old.schema database.old.tables.world database.old.changes database.old.last_rowid) }
@@ -125,10 +131,48 @@ pub(crate) fn run_text<R: RowSink, L: Ledger>(
     database.tables.order();
     let number = database.tables.len();
     match prepare(alloc, hosts, &database.schema, number, text) {
-        Ok(ready) => run_ready::<Brand, R, L>(
-            alloc, database, hosts, budget, ready, params, rows, steps,
+        Ok(prepared) => run_prepared::<Brand, R, L>(
+            alloc, database, hosts, budget, prepared, params, rows, steps,
         ),
         Err(cause) => Err(cause),
+    }
+}
+
+/// Runs a statement, or shows how it would be run where it stands behind EXPLAIN.
+fn run_prepared<M: Meanings, R: RowSink, L: Ledger>(
+    alloc: Global,
+    database: &mut Database,
+    hosts: &mut Hosts,
+    budget: u64,
+    prepared: Prepared,
+    params: &[Value],
+    rows: &mut R,
+    steps: &mut Steps<L>,
+) -> Result<Done, Cause>
+    requires runs { MayRun database.old.schema prepared.ready }
+    requires sound { IsSound database.old.tables.world }
+    requires told { meant (λ b. verdicts (b.vtable, b.value)) hosts.old ≡ M.hosts }
+    ensures marks { database.new.tables.marks ≡ database.old.tables.marks }
+    ensures carried { CarriesOut
+        (outcome_behind prepared.explain (state_of database.old.schema database.old.tables.world database.old.changes database.old.last_rowid)
+        (outcome_in M.hosts database.old.schema database.old.tables.world database.old.changes database.old.last_rowid params.now prepared.ready))
+        (state_of database.old.schema database.old.tables.world database.old.changes database.old.last_rowid)
+        (state_of database.new.schema database.new.tables.world database.new.changes database.new.last_rowid)
+        budget (steps_behind prepared.explain (steps_in (surroundings_in M.hosts params.now database.old.tables.world) prepared.ready)) (steps.new - steps.old) (R.taken rows.old) (R.taken rows.new)
+        (Rose (R.fault_count rows.old) (R.fault_count rows.new)) result }
+    ensures plan { OnOk result (GivesReady prepared.explain prepared.ready (R.taken rows.old) (R.taken rows.new)) }
+    ensures kept { OnErr result
+        (state_of database.new.schema database.new.tables.world database.new.changes database.new.last_rowid
+        ≡ state_of database.old.schema database.old.tables.world database.old.changes database.old.last_rowid) }
+    ensures ticks { steps.old ≤ steps.new }
+    ensures within { steps.new ≤ steps.old + budget }
+    ensures faults { R.fault_count rows.old ≤ R.fault_count rows.new }
+    ensures told { meant (λ b. verdicts (b.vtable, b.value)) hosts.new ≡ M.hosts }
+{
+    let Prepared { explain, ready } = prepared;
+    match explain {
+        Some(how) => show(alloc, database, how, &ready, rows),
+        None => run_ready::<M, R, L>(alloc, database, hosts, budget, ready, params, rows, steps),
     }
 }
 
@@ -335,14 +379,15 @@ fn run_other<M: Meanings, R: RowSink, L: Ledger>(
 }
 
 /// The program of a statement with these parameters, over tables that stand so.
-fn compiled(
+pub(crate) fn compiled(
     alloc: Global,
     ready: &Ready,
     params: &[Value],
     tables: &Tables,
     order: JoinOrder,
 ) -> Result<Program, AllocError>
-    ensures { IfOk result (λ p. PerformsWith params.now p (run_in ready.now) (λ x. steps_in x ready.now)) }
+    ensures performs { IfOk result (λ p. PerformsWith params.now p (run_in ready.now) (λ x. steps_in x ready.now)) }
+    ensures accepted { IfOk result (λ p. NamesWhatIsThere ready.now → IsAccepted p) }
 {
     match ready {
         Ready::Create(_) => compile_create(alloc),
@@ -357,7 +402,8 @@ fn compiled(
 }
 
 fn compiled_index(alloc: Global, index: &NewIndex) -> Result<Program, AllocError>
-    ensures { IfOk result (λ p. Performs p (index_run index.now.table index.now.table_name index.now.terms index.now.unique) index_steps) }
+    ensures performs { IfOk result (λ p. Performs p (index_run index.now.table index.now.table_name index.now.terms index.now.unique) index_steps) }
+    ensures accepted { IfOk result (λ p. IsAccepted p) }
 {
     compile_index(
         alloc,

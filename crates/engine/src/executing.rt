@@ -3,6 +3,7 @@ ghost use Rattle.std.specs.Prelude.{◌≡◌, ◌≤◌, ◌+◌, ◌-◌, ℕ,
 ghost use Rattle.eng_value.specs.HostMeanings.{Oracle};
 ghost use Rattle.engine.specs.Executing.{ExecutesAs, NamesStop};
 ghost use Rattle.host_traits.specs.Faults.{Rose};
+ghost use Rattle.vm_code.specs.Accepted.{IsAccepted};
 ghost use Rattle.vm_code.specs.Honesty.{ProgramIsTold};
 ghost use Rattle.vm_code.specs.Machine.{Ending, Ends, Shared, setting, start};
 ghost use Rattle.vm_core.specs.Meant.{meant};
@@ -28,7 +29,7 @@ fn cause_of(stop: Stop) -> Cause
     }
 }
 
-/// Runs a program, with the cause where it does not come to its end. The tables are then as before.
+/// Runs a program that keeps the rules, with the cause where it does not come to its end. The tables are then as before.
 pub(crate) fn execute<M: Meanings, R: RowSink, L: Ledger>(
     alloc: Global,
     program: Program,
@@ -40,6 +41,7 @@ pub(crate) fn execute<M: Meanings, R: RowSink, L: Ledger>(
     rows: &mut R,
     steps: &mut Steps<L>,
 ) -> Result<Completed, Cause>
+    requires accepted { IsAccepted program }
     requires told { meant (λ b. verdicts (b.vtable, b.value)) hosts.old ≡ M.hosts }
     ensures runs { ProgramIsTold M.hosts program → (ask : Oracle) (most : ℕ) (e : Ending) (x : Shared) →
         Ends (setting M.hosts ask params.now program) most (start program tables.old.world last_rowid) e x →

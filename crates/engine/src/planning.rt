@@ -1,7 +1,8 @@
 // The way by which a query reads its tables.
 ghost use Rattle.std.specs.Prelude.{IfOk};
-ghost use Rattle.gen_query.specs.Queries.{query_run, query_steps};
+ghost use Rattle.gen_query.specs.Queries.{NamesItsItems, conjuncts_of, query_run, query_steps};
 ghost use Rattle.plan_tree.specs.Plans.{PlanFits};
+ghost use Rattle.vm_code.specs.Accepted.{IsAccepted};
 ghost use Rattle.vm_code.specs.Machine.{PerformsWith};
 
 use eng_index::{KeyTerm, Range};
@@ -42,15 +43,15 @@ impl Counts for RowCounts<'_> {
     }
 }
 
-/// The program of a query with these parameters: it reads its tables by the plan that is best as they stand.
-pub(crate) fn compiled_query(
+/// The plan of a query with these parameters that is best as its tables stand, where no other order is wanted.
+pub(crate) fn query_plan<'a>(
     alloc: Global,
-    query: &BoundSelect,
+    query: &'a BoundSelect,
     params: &[Value],
     tables: &Tables,
     wanted: JoinOrder,
-) -> Result<Program, AllocError>
-    ensures { IfOk result (λ p. PerformsWith params.now p (query_run query.now) (query_steps query.now)) }
+) -> Result<JoinPlan<'a>, AllocError>
+    ensures { IfOk result (λ p. PlanFits params.now query.now.from (conjuncts_of query.now) p) }
 {
     let conjuncts = split(alloc, query.conjuncts.as_slice())?;
     let from = query.from.as_slice();
@@ -59,7 +60,21 @@ pub(crate) fn compiled_query(
         tables,
         from,
     };
-    let plan = planned(alloc, from, conjuncts.as_slice(), params, &counts, wanted)?;
+    planned(alloc, from, conjuncts.as_slice(), params, &counts, wanted)
+}
+
+/// The program of a query with these parameters: it reads its tables by the plan that is best as they stand.
+pub(crate) fn compiled_query(
+    alloc: Global,
+    query: &BoundSelect,
+    params: &[Value],
+    tables: &Tables,
+    wanted: JoinOrder,
+) -> Result<Program, AllocError>
+    ensures performs { IfOk result (λ p. PerformsWith params.now p (query_run query.now) (query_steps query.now)) }
+    ensures accepted { IfOk result (λ p. NamesItsItems query.now → IsAccepted p) }
+{
+    let plan = query_plan(alloc, query, params, tables, wanted)?;
     gen_query::compile(alloc, query, &plan)
 }
 

@@ -7,7 +7,7 @@ ghost use Rattle.eng_entry.specs.Entries.{Entries};
 ghost use Rattle.eng_value.specs.declared.cause.Cause.{Cause};
 ghost use Rattle.eng_value.specs.declared.cause.Cause.TheVariants.{Mem};
 ghost use Rattle.engine.specs.Held.{world_in};
-ghost use Rattle.engine.specs.Prepared.{CreatesNone, Readies, StandsIn, cause_of, index_entry_in};
+ghost use Rattle.engine.specs.Prepared.{CreatesNone, Prepares, Readies, StandsIn, cause_of, index_entry_in};
 ghost use Rattle.sql_lex.specs.Cutting.{start_of};
 ghost use Rattle.sql_lex.specs.Tokens.{InOrder, slice_of, tokens_of};
 ghost use Rattle.sql_meaning.specs.Runnables.{Runnable};
@@ -15,7 +15,7 @@ ghost use Rattle.sql_meaning.specs.Declarations.{tables_of};
 ghost use Rattle.sql_words.specs.Bodies.{end_of, without_end};
 ghost use Rattle.sql_meaning.specs.Permits.{Asking, WhereAsked};
 ghost use Rattle.sql_meaning.specs.Running.{entry_with};
-ghost use Rattle.sql_meaning.specs.Statement.{limit_kind, statement_bound, text_bound, text_bound_from};
+ghost use Rattle.sql_meaning.specs.Statement.{limit_kind, plain_bound, text_bound, text_bound_from};
 ghost use Rattle.sql_tree.specs.Sizes.{size_of_statement};
 ghost use Rattle.vm_code.specs.Machine.{World as Lists};
 ghost use Rattle.vm_core.specs.Meant.{meant};
@@ -30,7 +30,7 @@ use parse_stmt::{Failure, parse};
 use sql_grammar::Limit;
 use sql_lex::tokens;
 use sql_meaning::{BoundInsert, BoundSelect, TableEntry};
-use sql_tree::{Statement, Token, TokenKind};
+use sql_tree::{Explain, Statement, Token, TokenKind};
 use sqlite_items::{Boxed, Items};
 use std::alloc::Global;
 use vm_core::Hosts;
@@ -62,6 +62,13 @@ pub(crate) enum Ready {
     Nothing,
 }
 
+/// A statement that is ready to run, or whose way of running is shown instead.
+#[derive(Drop)]
+pub(crate) struct Prepared {
+    pub(crate) explain: Option<Explain>,
+    pub(crate) ready: Ready,
+}
+
 /// The statement of a text over so many tables that ever were, or why it is refused: first by the grammar, then since a part of it is
 /// not built, then for names.
 pub(crate) fn prepare(
@@ -70,8 +77,8 @@ pub(crate) fn prepare(
     schema: &Schema,
     number: usize,
     text: &str,
-) -> Result<Ready, Cause>
-    ensures readies { WhereAsked (meant (λ b. verdicts (b.vtable, b.value)) hosts.old).authorizer (λ asked. (lists : Lists) → length lists ≡ number → Readies (length (tokens_of text.now)) (text_bound asked (world_in schema.now lists) text.now) result) }
+) -> Result<Prepared, Cause>
+    ensures readies { WhereAsked (meant (λ b. verdicts (b.vtable, b.value)) hosts.old).authorizer (λ asked. (lists : Lists) → length lists ≡ number → Prepares (length (tokens_of text.now)) (text_bound asked (world_in schema.now lists) text.now) result) }
     ensures hosts { meant (λ b. verdicts (b.vtable, b.value)) hosts.new ≡ meant (λ b. verdicts (b.vtable, b.value)) hosts.old }
 {
     let found = tokens(alloc, text)?;
@@ -92,12 +99,12 @@ fn prepare_from(
     text: &str,
     start: usize,
     tokens: &[Token],
-) -> Result<Ready, Cause>
+) -> Result<Prepared, Cause>
     requires cut { IsCharBoundary text.now start }
     requires tokens { tokens.now ≡ tokens_of (drop start text.now) }
     requires order { InOrder 0 (length (drop start text.now)) tokens.now }
     requires characters { All (λ t. is_utf8 (slice_of (drop start text.now) t) ≡ true) tokens.now }
-    ensures readies { WhereAsked (meant (λ b. verdicts (b.vtable, b.value)) hosts.old).authorizer (λ asked. (lists : Lists) → length lists ≡ number → Readies (length tokens.now) (text_bound_from asked (world_in schema.now lists) start text.now) result) }
+    ensures readies { WhereAsked (meant (λ b. verdicts (b.vtable, b.value)) hosts.old).authorizer (λ asked. (lists : Lists) → length lists ≡ number → Prepares (length tokens.now) (text_bound_from asked (world_in schema.now lists) start text.now) result) }
     ensures hosts { meant (λ b. verdicts (b.vtable, b.value)) hosts.new ≡ meant (λ b. verdicts (b.vtable, b.value)) hosts.old }
 {
     let from = &text[start..];
@@ -114,7 +121,9 @@ fn prepare_from(
         body,
         &statement,
     )?;
-    readied(alloc, bound, number, body, statement)
+    let explain = statement.explain;
+    let ready = readied(alloc, bound, number, body, statement)?;
+    Ok(Prepared { explain, ready })
 }
 
 /// A bound statement with what running it takes.
@@ -125,8 +134,8 @@ fn readied(
     body: &str,
     statement: Statement,
 ) -> Result<Ready, Cause>
-    ensures { (lists : Lists) (entries : Entries) → length lists ≡ number → (asked : Asking) → BindsTo (size_of_statement statement) (statement_bound asked entries number body.now statement) (Ok bound)
-        → Readies (size_of_statement statement) (statement_bound asked entries number body.now statement) result }
+    ensures { (lists : Lists) (entries : Entries) → length lists ≡ number → (asked : Asking) → BindsTo (size_of_statement statement) (plain_bound asked entries number body.now statement) (Ok bound)
+        → Readies (size_of_statement statement) (plain_bound asked entries number body.now statement) result }
 {
     match bound {
         Bound::CreateTable(new) => created(alloc, new, number, body, statement),
@@ -161,8 +170,8 @@ fn created(
     body: &str,
     statement: Statement,
 ) -> Result<Ready, Cause>
-    ensures { (lists : Lists) (entries : Entries) → length lists ≡ number → (asked : Asking) → BindsTo (size_of_statement statement) (statement_bound asked entries number body.now statement) (Ok (bound.CreateTable new))
-        → Readies (size_of_statement statement) (statement_bound asked entries number body.now statement) result }
+    ensures { (lists : Lists) (entries : Entries) → length lists ≡ number → (asked : Asking) → BindsTo (size_of_statement statement) (plain_bound asked entries number body.now statement) (Ok (bound.CreateTable new))
+        → Readies (size_of_statement statement) (plain_bound asked entries number body.now statement) result }
 {
     let entry = new_entry(alloc, new, number, body, statement)?;
     Ok(Ready::Create(Boxed::new(alloc, entry)?))
@@ -171,8 +180,8 @@ fn created(
 /// A CREATE INDEX with its entry.
 #[inline(never)]
 fn indexed(alloc: Global, new: NewIndex, body: &str, statement: Statement) -> Result<Ready, Cause>
-    ensures { (number : ℕ) (entries : Entries) (asked : Asking) → BindsTo (size_of_statement statement) (statement_bound asked entries number body.now statement) (Ok (bound.CreateIndex new))
-        → Readies (size_of_statement statement) (statement_bound asked entries number body.now statement) result }
+    ensures { (number : ℕ) (entries : Entries) (asked : Asking) → BindsTo (size_of_statement statement) (plain_bound asked entries number body.now statement) (Ok (bound.CreateIndex new))
+        → Readies (size_of_statement statement) (plain_bound asked entries number body.now statement) result }
 {
     let entry = new_index_entry(alloc, new, body, statement)?;
     Ok(Ready::CreateIndex(Boxed::new(alloc, entry)?))

@@ -4,6 +4,7 @@ ghost use Rattle.eng_value.specs.HostMeanings.{Oracle};
 ghost use Rattle.engine.specs.Running.{RunsAs};
 ghost use Rattle.engine.specs.Stretches.{DriveIs, NextIs, TakesOne};
 ghost use Rattle.host_traits.specs.Faults.{Rose};
+ghost use Rattle.vm_code.specs.Accepted.{IsAccepted};
 ghost use Rattle.vm_code.specs.Honesty.{ProgramIsTold};
 ghost use Rattle.vm_code.specs.Machine.{Ending, Ends, Shared, setting, start};
 ghost use Rattle.vm_core.specs.Events.{NoneInVain};
@@ -14,6 +15,7 @@ use crate::row_sink::{RowSink, Took};
 use eng_value::{Causes, Meanings, Row, Steps, Value};
 use std::alloc::{AllocError, Global};
 use std::sync::ledger::Ledger;
+use vm_check::check;
 use vm_code::Program;
 use vm_core::{Budget, Event, Hosts, Machine};
 use vm_tables::Tables;
@@ -36,7 +38,7 @@ pub(crate) enum Stop {
     Mem,
 }
 
-/// Runs a program over the tables, hands each row that it gives to the sink, and gives the tables back as they were where it does not
+/// Runs a program that keeps the rules over the tables, hands each row that it gives to the sink, and gives the tables back as they were where it does not
 /// come to its end. The rowid is that of the last row that was put before.
 pub(crate) fn run_program<M: Meanings, R: RowSink, L: Ledger>(
     alloc: Global,
@@ -49,6 +51,7 @@ pub(crate) fn run_program<M: Meanings, R: RowSink, L: Ledger>(
     rows: &mut R,
     steps: &mut Steps<L>,
 ) -> Result<Completed, Stop>
+    requires accepted { IsAccepted program }
     requires told { meant (λ b. verdicts (b.vtable, b.value)) hosts.old ≡ M.hosts }
     ensures runs { ProgramIsTold M.hosts program → (ask : Oracle) (most : ℕ) (e : Ending) (x : Shared) →
         Ends (setting M.hosts ask params.now program) most (start program tables.old.world last_rowid) e x →
@@ -80,15 +83,19 @@ pub(crate) fn run_program<M: Meanings, R: RowSink, L: Ledger>(
     }
 }
 
-/// A machine for a program with copies of the parameters.
+/// A machine for a program that keeps the rules, with copies of the parameters.
 fn machine(
     alloc: Global,
     program: Program,
     params: &[Value],
     last_rowid: i64,
 ) -> Result<Machine, AllocError>
+    requires { IsAccepted program }
     ensures { IfOk result (λ m. m ≡ at_start program params.now last_rowid) }
 {
+    let Some(program) = check(program) else {
+        unreachable!();
+    };
     Machine::new(alloc, program, Row::new(params.to_vec(alloc)?), last_rowid)
 }
 

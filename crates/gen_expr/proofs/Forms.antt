@@ -15,22 +15,24 @@ use Rattle.eng_value.specs.declared.out.Out.TheVariants.{Good, Bad}
 use Rattle.eng_value.specs.declared.value.Value.TheVariants.{Null, Integer}
 use Rattle.gen_expr.specs.declared.parts.Operands.{Operands}
 use Rattle.gen_expr.specs.Parts.{Turns, Decides, IsDecidedBy, decided_by, decided_known, has_truth, jump_on, with_arm_left, with_arm_tested, with_between, with_known_left, with_left_tested, with_member_begun, with_or_equal}
+use Rattle.gen_expr.proofs.Covering.{covers_high, covers_low, covers_only}
 use Rattle.gen_expr.proofs.Deciding.{decided_bad, decided_rejected, decided_accepted, known_null, known_other}
 use Rattle.gen_expr.proofs.Stretches.{as_begun, begun_but, Reads, Turned, Won, Open, turns_of, t_offers, t_turns, decides_of}
 use Rattle.sql_meaning.specs.Expression.{between_of}
+use Rattle.vm_code.specs.declared.open_cursor.Need.{Need}
 use Rattle.vm_code.specs.declared.op.Op.{Op}
 use Rattle.vm_code.specs.declared.op.Op.TheVariants as op
 use Rattle.vm_code.specs.declared.operand.Operand.{Operand}
 use Rattle.vm_code.specs.declared.operand.Operand.TheVariants as operand
 use Rattle.vm_code.specs.Draft.{Draft, bound, released, with_op, with_label, taken}
-use Rattle.vm_code.specs.Track.{used_by, way_of}
+use Rattle.vm_code.specs.Track.{needs_of, way_of}
 use Rattle.vm_code.specs.Tracked.{Among, Steady}
 use Rattle.vm_code.specs.declared.way.Way.TheVariants as way
 use Rattle.vm_code.specs.Machine.{Setting, State, act, jump_if, operand_in, read, is_bad, is_null, is_rejected}
-use Rattle.vm_code.specs.Frames.{Grows, Here, Leaves, Offers, environment_of, no_calls, placed}
+use Rattle.vm_code.specs.Frames.{Grows, Here, Leaves, Offers, environment_of, needing, placed}
 use Rattle.vm_code.specs.Claims.{Claim, Labels, Triple}
 use Rattle.vm_code.proofs.Drafts.{grows_then, g_op, g_taken, g_label, g_bound, g_released, open_new}
-use Rattle.vm_code.proofs.Tracks.{place-bound, st_fork, st_goto, st_inner, st_label, st_made, st_op, st_released, st_taken, st_then}
+use Rattle.vm_code.proofs.Tracks.{place-bound, st_fork, st_goto, st_label, st_made, st_op, st_reads, st_released, st_taken, st_then, st_within}
 use Rattle.vm_code.proofs.Effects.{But, but_regs, but_env, t_leaves, t_put, leaves_of}
 use Rattle.vm_code.proofs.Triples.{no_labels, no_last, with_claim, t_seq, t_more, t_draft, t_bind, t_test, t_goto}
 
@@ -50,8 +52,8 @@ of_three f other = Good Null
 
 -- ---- BETWEEN
 
-pub between_leaves : (a b : Draft) (above below : Sides) (o : Operands) (first to n : ℕ) (f g k : Environment → Out) → first ≡ a.next → Offers no_calls a b (o.first ∷ o.second ∷ o.third ∷ []) (λ env. f env ∷ g env ∷ k env ∷ []) (λ env. n) → to < a.next → Leaves no_calls a (with_between b above below o first to) to (λ env. between_of (keys_of env.hosts) above below (f env) (g env) (k env)) (λ env. n + 3)
-between_leaves a b above below o first to n f g k first_is x lt =
+pub between_leaves : {needs : List Need} (a b : Draft) (above below : Sides) (o : Operands) (first to n : ℕ) (f g k : Environment → Out) → first ≡ a.next → Offers (needing needs) a b (o.first ∷ o.second ∷ o.third ∷ []) (λ env. f env ∷ g env ∷ k env ∷ []) (λ env. n) → to < a.next → Leaves (needing needs) a (with_between b above below o first to) to (λ env. between_of (keys_of env.hosts) above below (f env) (g env) (k env)) (λ env. n + 3)
+between_leaves {needs} a b above below o first to n f g k first_is x lt =
     let os = o.first ∷ o.second ∷ o.third ∷ [] in
     let low_op = op.Binary (binary.Compare compare.Ge above) o.first o.second b.next in
     let high_op = op.Binary (binary.Compare compare.Le below) o.first o.third to in
@@ -62,7 +64,7 @@ between_leaves a b above below o first to n f g k first_is x lt =
     let values : Environment → List Out = λ env. f env ∷ g env ∷ k env ∷ [] in
     let at_least : Environment → Out = λ env. comparison_of (keys_of env.hosts) compare.Ge above (f env) (g env) in
     let at_most : Environment → Out = λ env. comparison_of (keys_of env.hosts) compare.Le below (f env) (k env) in
-    leaves_of to (λ env. between_of (keys_of env.hosts) above below (f env) (g env) (k env)) as_begun (grows_then x.grows (grows_then (g_taken b) (grows_then (g_op (taken b) low_op) (grows_then (g_op d1 high_op) (grows_then (g_op d2 and_op) (g_released d3 first)))))) first_is (st_then x.grows x.steady (st_then (g_taken b) (st_taken [] [] b) (st_then (g_op (taken b) low_op) (st_op [] [] (taken b) low_op (refl, refl)) (st_then (g_op d1 high_op) (st_op [] [] d1 high_op (refl, refl)) (st_then (g_op d2 and_op) (st_op [] [] d2 and_op (refl, refl)) (st_released [] [] d3 first)))))) (λ h. refl) (λ m called.
+    leaves_of to (λ env. between_of (keys_of env.hosts) above below (f env) (g env) (k env)) as_begun (grows_then x.grows (grows_then (g_taken b) (grows_then (g_op (taken b) low_op) (grows_then (g_op d1 high_op) (grows_then (g_op d2 and_op) (g_released d3 first)))))) first_is (st_then x.grows x.steady (st_then (g_taken b) (st_taken needs [] b) (st_then (g_op (taken b) low_op) (st_reads needs [] (taken b) low_op refl (λ xs met. covers_low o.first o.second o.third xs (x.needs xs met))) (st_then (g_op d1 high_op) (st_reads needs [] d1 high_op refl (λ xs met. covers_high o.first o.second o.third xs (x.needs xs met))) (st_then (g_op d2 and_op) (st_op needs [] d2 and_op (refl, refl)) (st_released needs [] d3 first)))))) (λ h. refl) (λ m called.
     let reads : Here → Operand → Out = λ h. operand_in m h.regs h.inputs h.scene h.shared in
     let c1 : Claim = λ h0 h. But a.next to h0 h × Reads m h b.next os (values (environment_of m h0)) in
     let c2 : Claim = λ h0 h. But a.next to h0 h × Reads m h b.next os (values (environment_of m h0)) × (read h.regs b.next ≡ at_least (environment_of m h0)) in
@@ -90,12 +92,12 @@ forks_on : (wanted : Bool) (register target : ℕ) → way_of (jump_on wanted re
 forks_on true register target = refl
 forks_on false register target = refl
 
-uses_none : (wanted : Bool) (register target : ℕ) → used_by (jump_on wanted register target) ≡ []
+uses_none : (wanted : Bool) (register target : ℕ) → needs_of (jump_on wanted register target) ≡ []
 uses_none true register target = refl
 uses_none false register target = refl
 
-pub decided_leaves : (a b c : Draft) (operator : BinaryOperator) (wanted : Bool) (right : Operand) (to end first i n : ℕ) (f g : Environment → Out) → IsDecidedBy operator wanted → Leaves no_calls a b to (λ env. truth_of (f env)) (λ env. i) → end ≡ length b.labels → first ≡ b.next → Offers no_calls (with_left_tested b wanted to) c (right ∷ []) (λ env. g env ∷ []) (λ env. n) → to < a.next → a.next ≤ a.most → Leaves no_calls a (bound (released (with_op c (op.Binary operator (operand.Register to) right to)) first) end) to (λ env. binary_of (keys_of env.hosts) operator (f env) (g env)) (λ env. i + n + 2)
-decided_leaves a b c operator wanted right to end first i n f g decided l end_is first_is x lt counted =
+pub decided_leaves : {needs : List Need} (a b c : Draft) (operator : BinaryOperator) (wanted : Bool) (right : Operand) (to end first i n : ℕ) (f g : Environment → Out) → IsDecidedBy operator wanted → Leaves (needing needs) a b to (λ env. truth_of (f env)) (λ env. i) → end ≡ length b.labels → first ≡ b.next → Offers (needing needs) (with_left_tested b wanted to) c (right ∷ []) (λ env. g env ∷ []) (λ env. n) → to < a.next → a.next ≤ a.most → Leaves (needing needs) a (bound (released (with_op c (op.Binary operator (operand.Register to) right to)) first) end) to (λ env. binary_of (keys_of env.hosts) operator (f env) (g env)) (λ env. i + n + 2)
+decided_leaves {needs} a b c operator wanted right to end first i n f g decided l end_is first_is x lt counted =
     let all : Environment → Out = λ env. binary_of (keys_of env.hosts) operator (f env) (g env) in
     leaves_of to all as_begun grown (first_is ∙ l.next) steady (λ h. refl) (λ m called.
     let done : Claim = λ h0 h. But a.next to h0 h × (read h.regs to ≡ all (environment_of m h0)) in
@@ -146,8 +148,8 @@ decided_leaves a b c operator wanted right to end first i n f g decided l end_is
     inside : List ℕ
     inside = end ∷ []
 
-    steady : Steady [] [] a (bound d5 end)
-    steady = st_then l.grows l.steady (st_label end end_is behind (st_then (g_op d1 test_op) (st_fork [] inside d1 test_op (length b.labels) (forks_on wanted to (length b.labels)) (uses_none wanted to (length b.labels)) (inl end_is)) (st_then x.grows (st_inner [] inside x.steady) (st_then (g_op c last_op) (st_op [] inside c last_op (refl, refl)) (st_released [] inside d4 first)))))
+    steady : Steady needs [] a (bound d5 end)
+    steady = st_then l.grows l.steady (st_label end end_is behind (st_then (g_op d1 test_op) (st_fork needs inside d1 test_op (length b.labels) (forks_on wanted to (length b.labels)) (uses_none wanted to (length b.labels)) (inl end_is)) (st_then x.grows (st_within inside (λ xs met. met) x.steady) (st_then (g_op c last_op) (st_reads needs inside c last_op refl (λ xs met. covers_only right xs (x.needs xs met))) (st_released needs inside d4 first)))))
 
 -- ---- IN: none is equal so far, and one operand more that may be
 
@@ -155,12 +157,12 @@ falsehood-merged : (a : Out) → merged a (Good (Integer (pos 0))) ≡ falsehood
 falsehood-merged (Good v) = refl
 falsehood-merged (Bad causes) = refl
 
-pub begun_turns : (a : Draft) (held to : ℕ) → to < a.next → a.next ≤ a.most → held < a.next → held ≢ to → Turns a (with_member_begun a held to) held to (λ env x y. falsehood_of x) 2
-begun_turns a held to lt counted held_lt ne =
+pub begun_turns : {needs : List Need} (a : Draft) (held to : ℕ) → to < a.next → a.next ≤ a.most → held < a.next → held ≢ to → Turns needs a (with_member_begun a held to) held to (λ env x y. falsehood_of x) 2
+begun_turns {needs} a held to lt counted held_lt ne =
     let false_op = op.Integer (pos 0) to in
     let merge_op = op.Merge held to in
     let d1 = with_op a false_op in
-    turns_of held to (λ env x y. falsehood_of x) (grows_then (g_op a false_op) (g_op d1 merge_op)) refl (st_then (g_op a false_op) (st_op [] [] a false_op (refl, refl)) (st_op [] [] d1 merge_op (refl, refl))) (λ m.
+    turns_of held to (λ env x y. falsehood_of x) (grows_then (g_op a false_op) (g_op d1 merge_op)) refl (st_then (g_op a false_op) (st_op needs [] a false_op (refl, refl)) (st_op needs [] d1 merge_op (refl, refl))) (λ m.
     let mid : Claim = λ h0 h. But a.next to h0 h × (read h.regs to ≡ Good (Integer (pos 0))) in
     let done : Claim = Turned m a.next held to (λ env x y. falsehood_of x) in
     let start : Triple m a d1 (λ w. 1) no_labels no_last as_begun mid = t_put m a false_op to (λ h. Good (Integer (pos 0))) no_labels no_last as_begun mid (omega arith) (λ at s. refl) (λ h0 h regs pre long is same.
@@ -169,14 +171,14 @@ begun_turns a held to lt counted held_lt ne =
     (but_regs regs (λ k below other. same k other) pre.0, is ∙ ap (merged (read h.regs held)) pre.1 ∙ falsehood-merged (read h.regs held) ∙ ap falsehood_of (pre.0.regs held held_lt ne))) in
     t_seq start merge)
 
-pub or_equal_turns : (a b d : Draft) (sides : Sides) (other : Operand) (held first to i n : ℕ) (f : Environment → Out → Out → Out) (g : Environment → Out) → first ≡ b.next → Turns a b held to f i → Offers no_calls b d (other ∷ []) (λ env. g env ∷ []) (λ env. n) → to < a.next → held < a.next → held ≢ to → Turns a (with_or_equal d sides held other first to) held to (λ env x y. or_equal (keys_of env.hosts) sides x (f env x y) (g env)) (i + n + 2)
-or_equal_turns a b d sides other held first to i n f g first_is t l lt held_lt ne =
+pub or_equal_turns : {needs : List Need} (a b d : Draft) (sides : Sides) (other : Operand) (held first to i n : ℕ) (f : Environment → Out → Out → Out) (g : Environment → Out) → first ≡ b.next → Turns needs a b held to f i → Offers (needing needs) b d (other ∷ []) (λ env. g env ∷ []) (λ env. n) → to < a.next → held < a.next → held ≢ to → Turns needs a (with_or_equal d sides held other first to) held to (λ env x y. or_equal (keys_of env.hosts) sides x (f env x y) (g env)) (i + n + 2)
+or_equal_turns {needs} a b d sides other held first to i n f g first_is t l lt held_lt ne =
     let compared = op.Binary (binary.Compare compare.Eq sides) (operand.Register held) other d.next in
     let joined = op.Binary binary.Or (operand.Register to) (operand.Register d.next) to in
     let d1 = with_op (taken d) compared in
     let d2 = with_op d1 joined in
     let all : Environment → Out → Out → Out = λ env x y. or_equal (keys_of env.hosts) sides x (f env x y) (g env) in
-    turns_of held to all (grows_then t.grows (grows_then l.grows (grows_then (g_taken d) (grows_then (g_op (taken d) compared) (grows_then (g_op d1 joined) (g_released d2 first)))))) (first_is ∙ t.next) (st_then t.grows t.steady (st_then l.grows l.steady (st_then (g_taken d) (st_taken [] [] d) (st_then (g_op (taken d) compared) (st_op [] [] (taken d) compared (refl, refl)) (st_then (g_op d1 joined) (st_op [] [] d1 joined (refl, refl)) (st_released [] [] d2 first)))))) (λ m.
+    turns_of held to all (grows_then t.grows (grows_then l.grows (grows_then (g_taken d) (grows_then (g_op (taken d) compared) (grows_then (g_op d1 joined) (g_released d2 first)))))) (first_is ∙ t.next) (st_then t.grows t.steady (st_then l.grows l.steady (st_then (g_taken d) (st_taken needs [] d) (st_then (g_op (taken d) compared) (st_reads needs [] (taken d) compared refl (λ xs met. covers_only other xs (l.needs xs met))) (st_then (g_op d1 joined) (st_op needs [] d1 joined (refl, refl)) (st_released needs [] d2 first)))))) (λ m.
     let done : Claim = Turned m a.next held to all in
     let c1 : Claim = Turned m a.next held to f in
     let c2 : Claim = λ h0 h. c1 h0 h × Reads m h d.next (other ∷ []) (g (environment_of m h0) ∷ []) in
@@ -195,8 +197,8 @@ or_equal_turns a b d sides other held first to i n f g first_is t l lt held_lt n
 
 -- ---- CASE: one arm
 
-pub arm_decides : (a t v : Draft) (held to next end i n : ℕ) (c : Environment → Out → Out) (g : Environment → Out) → next ≡ length t.labels → Turns a t held to (λ env x y. truth_of (c env x)) i → Leaves no_calls (with_arm_tested t to end) v to (λ env. g env) (λ env. n) → to < a.next → a.next ≤ a.most → Decides a (with_arm_left v end next) held to end (λ env x. decided_by (truth_in (truth_of (c env x))) (g env)) (i + n + 3)
-arm_decides a t v held to next end i n c g next_is x l lt counted =
+pub arm_decides : {needs : List Need} (a t v : Draft) (held to next end i n : ℕ) (c : Environment → Out → Out) (g : Environment → Out) → next ≡ length t.labels → Turns needs a t held to (λ env x y. truth_of (c env x)) i → Leaves (needing needs) (with_arm_tested t to end) v to (λ env. g env) (λ env. n) → to < a.next → a.next ≤ a.most → Decides needs a (with_arm_left v end next) held to end (λ env x. decided_by (truth_in (truth_of (c env x))) (g env)) (i + n + 3)
+arm_decides {needs} a t v held to next end i n c g next_is x l lt counted =
     let all : Environment → Out → Option Out = λ env y. decided_by (truth_in (truth_of (c env y))) (g env) in
     let d1 = with_label t in
     let d3 = with_op d1 (op.IsBad to end) in
@@ -241,16 +243,16 @@ arm_decides a t v held to next end i n c g next_is x l lt counted =
     at_next : Among inside (length t.labels)
     at_next = inl next_is
 
-    steady : Steady [] (end ∷ []) a (with_arm_left v end next)
-    steady = st_then x.grows (st_inner [] (end ∷ []) x.steady) (st_made next next_is (place-bound (with_op v (op.Goto end)) next is_open) (st_then (g_op _ (op.IsBad to end)) (st_fork [] inside _ (op.IsBad to end) end refl refl (inr (inl refl))) (st_then (g_op _ (op.IfNot to (length t.labels) true)) (st_fork [] inside _ (op.IfNot to (length t.labels) true) (length t.labels) refl refl at_next) (st_then l.grows (st_inner [] inside l.steady) (st_goto [] inside v end next (inr (inl refl)) (inl refl))))))
+    steady : Steady needs (end ∷ []) a (with_arm_left v end next)
+    steady = st_then x.grows (st_within (end ∷ []) (λ xs met. met) x.steady) (st_made next next_is (place-bound (with_op v (op.Goto end)) next is_open) (st_then (g_op _ (op.IsBad to end)) (st_fork needs inside _ (op.IsBad to end) end refl refl (inr (inl refl))) (st_then (g_op _ (op.IfNot to (length t.labels) true)) (st_fork needs inside _ (op.IfNot to (length t.labels) true) (length t.labels) refl refl at_next) (st_then l.grows (st_within inside (λ xs met. met) l.steady) (st_goto needs inside v end next (inr (inl refl)) (inl refl))))))
 
     grown : Grows a (with_arm_left v end next)
     grown = grows_then x.grows (g_bound (with_op v (op.Goto end)) next (grows_then tested (grows_then l.grows (g_op v (op.Goto end)))) (omega (arith, next_is)) is_open)
 
 -- ---- coalesce: one operand
 
-pub known_decides : (a b : Draft) (held to end n : ℕ) (g : Environment → Out) → Leaves no_calls a b to (λ env. g env) (λ env. n) → Decides a (with_known_left b to end) held to end (λ env x. decided_known (g env)) (n + 2)
-known_decides a b held to end n g l =
+pub known_decides : {needs : List Need} (a b : Draft) (held to end n : ℕ) (g : Environment → Out) → Leaves (needing needs) a b to (λ env. g env) (λ env. n) → Decides needs a (with_known_left b to end) held to end (λ env x. decided_known (g env)) (n + 2)
+known_decides {needs} a b held to end n g l =
     let next = length b.labels in
     let all : Environment → Out → Option Out = λ env y. decided_known (g env) in
     let d1 = with_label b in
@@ -274,8 +276,8 @@ known_decides a b held to end n g l =
     inside : List ℕ
     inside = length b.labels ∷ end ∷ []
 
-    steady : Steady [] (end ∷ []) a (with_known_left b to end)
-    steady = st_then l.grows (st_inner [] (end ∷ []) l.steady) (st_made (length b.labels) refl (place-bound (with_op (with_op (with_label b) (op.IsNull to (length b.labels))) (op.Goto end)) (length b.labels) (open_new b)) (st_then (g_op (with_label b) (op.IsNull to (length b.labels))) (st_fork [] inside (with_label b) (op.IsNull to (length b.labels)) (length b.labels) refl refl (inl refl)) (st_goto [] inside (with_op (with_label b) (op.IsNull to (length b.labels))) end (length b.labels) (inr (inl refl)) (inl refl))))
+    steady : Steady needs (end ∷ []) a (with_known_left b to end)
+    steady = st_then l.grows (st_within (end ∷ []) (λ xs met. met) l.steady) (st_made (length b.labels) refl (place-bound (with_op (with_op (with_label b) (op.IsNull to (length b.labels))) (op.Goto end)) (length b.labels) (open_new b)) (st_then (g_op (with_label b) (op.IsNull to (length b.labels))) (st_fork needs inside (with_label b) (op.IsNull to (length b.labels)) (length b.labels) refl refl (inl refl)) (st_goto needs inside (with_op (with_label b) (op.IsNull to (length b.labels))) end (length b.labels) (inr (inl refl)) (inl refl))))
 
     grown : Grows a (with_known_left b to end)
     grown = grows_then l.grows (g_bound (with_op (with_op (with_label b) (op.IsNull to (length b.labels))) (op.Goto end)) (length b.labels) (grows_then (g_label b) (grows_then (g_op (with_label b) (op.IsNull to (length b.labels))) (g_op _ (op.Goto end)))) (omega arith) (open_new b))

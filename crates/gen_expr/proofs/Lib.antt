@@ -1,5 +1,6 @@
 pub mod Truths
 pub mod Deciding
+pub mod Covering
 pub mod Forms
 pub mod Stretches
 pub mod StepLaws

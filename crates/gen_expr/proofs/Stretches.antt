@@ -4,17 +4,20 @@ use Rattle.std.specs.Prelude.{slice_get}
 use Rattle.eng_value.specs.Environments.{Environment}
 use Rattle.eng_value.specs.HostMeanings.{HostMeanings}
 use Rattle.eng_value.specs.declared.out.Out.{Out}
+use Rattle.gen_expr.proofs.Covering.{Covers}
 use Rattle.gen_expr.specs.Parts.{Turns, Decides, Decided, first_of, out_or}
+use Rattle.vm_code.specs.declared.open_cursor.Need.{Need}
 use Rattle.vm_code.specs.declared.op.Op.{Op}
 use Rattle.vm_code.specs.declared.operand.Operand.{Operand}
 use Rattle.vm_code.specs.Draft.{Draft, with_op, with_label, bound, taken, given_back, released}
-use Rattle.vm_code.specs.Tracked.{GoesOn, Steady}
+use Rattle.vm_code.specs.Tracked.{Steady}
 use Rattle.vm_code.specs.Machine.{Setting, State, act, operand_in, operand_of, put, read, Reaches}
-use Rattle.vm_code.specs.Frames.{placed, Grows, Here, here, with_regs, Left, Leaves, Offers, environment_of, no_calls}
+use Rattle.vm_code.specs.Frames.{placed, Grows, Here, here, with_regs, Left, Leaves, Offers, environment_of, needing}
 use Rattle.vm_code.specs.Claims.{Claim, Labels, Last, Falls, Exits, on, off, ends, Triple}
 use Rattle.vm_code.proofs.Drafts.{extends, grows_none, grows_then, g_op, g_taken, g_given_back, g_label, g_bound, g_released, open_new}
-use Rattle.vm_code.proofs.Tracks.{st_given_back, st_inner, st_label, st_none, st_op, st_released, st_taken, st_then}
+use Rattle.vm_code.proofs.Tracks.{st_given_back, st_label, st_none, st_reads, st_released, st_taken, st_then, st_wider, st_within}
 use Rattle.vm_code.proofs.Effects.{But, but_none, but_regs, but_env, left_as, t_leaves, t_put, leaves_of}
+use Rattle.vm_code.proofs.Operands.{Takes}
 use Rattle.vm_code.proofs.Runs.{leads_more}
 use Rattle.vm_code.proofs.Triples.{no_labels, no_last, with_claim, t_seq, t_use, t_more, t_draft, t_bind}
 
@@ -25,8 +28,8 @@ abbrev pub Reads : Setting → Here → ℕ → List Operand → List Out → Ty
 Reads m h mark os vs =
     (q : List Out) → ((k : ℕ) → k < mark → read q k ≡ read h.regs k) → map (operand_in m q h.inputs h.scene h.shared) os ≡ vs
 
-pub t_offers : (m : Setting) {a b : Draft} {os : List Operand} {f : Environment → List Out} {n : ℕ} (g : Labels) (e : Last) (p q : Claim) → Offers no_calls a b os f (λ env. n) → ((h0 h : Here) (regs : List Out) → p h0 h → Reads m (with_regs h regs) b.next os (f (environment_of m h)) → ((k : ℕ) → k < a.next → read regs k ≡ read h.regs k) → q h0 (with_regs h regs)) → Triple m a b (λ w. n) g e p q
-t_offers m {a} {b} {os} {f} {n} g e p q x goes = record {
+pub t_offers : (m : Setting) {needs : List Need} {a b : Draft} {os : List Operand} {f : Environment → List Out} {n : ℕ} (g : Labels) (e : Last) (p q : Claim) → Offers (needing needs) a b os f (λ env. n) → ((h0 h : Here) (regs : List Out) → p h0 h → Reads m (with_regs h regs) b.next os (f (environment_of m h)) → ((k : ℕ) → k < a.next → read regs k ≡ read h.regs k) → q h0 (with_regs h regs)) → Triple m a b (λ w. n) g e p q
+t_offers m {needs} {a} {b} {os} {f} {n} g e p q x goes = record {
   extends = extends x.grows;
   runs = λ u at h h0 s room start pre.
       let l = x.offers m tt u at h s room start in
@@ -44,15 +47,15 @@ t_offers m {a} {b} {os} {f} {n} g e p q x goes = record {
 
 -- ---- values that turn
 
-pub turns_leaves : {a b : Draft} {to n : ℕ} {f : Environment → Out} (held : ℕ) → Leaves no_calls a b to (λ env. f env) (λ env. n) → Turns a b held to (λ env x y. f env) n
-turns_leaves held l = record { grows = l.grows; next = l.next; steady = l.steady; turns = λ m u at h s room start. l.leaves m tt u at h s room start }
+pub turns_leaves : {needs : List Need} {a b : Draft} {to n : ℕ} {f : Environment → Out} (held : ℕ) → Leaves (needing needs) a b to (λ env. f env) (λ env. n) → Turns needs a b held to (λ env x y. f env) n
+turns_leaves {needs} held l = record { grows = l.grows; next = l.next; steady = l.steady; turns = λ m u at h s room start. l.leaves m tt u at h s room start }
 
-pub leaves_turns : {a b : Draft} {to n : ℕ} {f : Environment → Out} (held : ℕ) → Turns a b held to (λ env x y. f env) n → Leaves no_calls a b to (λ env. f env) (λ env. n)
-leaves_turns held t = record { grows = t.grows; next = t.next; steady = t.steady; leaves = λ m called u at h s room start. t.turns m u at h s room start }
+pub leaves_turns : {needs : List Need} {a b : Draft} {to n : ℕ} {f : Environment → Out} (held : ℕ) → Turns needs a b held to (λ env x y. f env) n → Leaves (needing needs) a b to (λ env. f env) (λ env. n)
+leaves_turns {needs} held t = record { grows = t.grows; next = t.next; steady = t.steady; leaves = λ m called u at h s room start. t.turns m u at h s room start }
 
 -- the same of functions that agree, in more instructions
-pub turns_as : {a b : Draft} {held to i : ℕ} {f : Environment → Out → Out → Out} (g : Environment → Out → Out → Out) (n : ℕ) → ((env : Environment) (x y : Out) → f env x y ≡ g env x y) → i ≤ n → Turns a b held to f i → Turns a b held to g n
-turns_as {a} {b} {held} {to} {i} {f} g n same le t = record {
+pub turns_as : {needs : List Need} {a b : Draft} {held to i : ℕ} {f : Environment → Out → Out → Out} (g : Environment → Out → Out → Out) (n : ℕ) → ((env : Environment) (x y : Out) → f env x y ≡ g env x y) → i ≤ n → Turns needs a b held to f i → Turns needs a b held to g n
+turns_as {needs} {a} {b} {held} {to} {i} {f} g n same le t = record {
   grows = t.grows;
   next = t.next;
   steady = t.steady;
@@ -60,6 +63,11 @@ turns_as {a} {b} {held} {to} {i} {f} g n same le t = record {
       let x = t.turns m u at h s room start in
       record { regs = x.regs; way = leads_more m n le x.way; long = x.long; has = x.has ∙ same (environment_of m (here s)) (read s.regs held) (read s.regs to); keeps = x.keeps };
 }
+
+-- the same where more is so of cursors
+pub turns_wider : {needs : List Need} {a b : Draft} {held to n : ℕ} {f : Environment → Out → Out → Out} (more : List Need) → Covers more needs → Turns needs a b held to f n → Turns more a b held to f n
+turns_wider {needs} more covers t =
+    record { grows = t.grows; next = t.next; steady = st_wider covers t.steady; turns = t.turns }
 
 -- the frame is the one of the start
 abbrev pub as_begun : Claim
@@ -77,8 +85,8 @@ turned_at m f held to h = f (environment_of m h) (read h.regs held) (read h.regs
 abbrev pub Turned : Setting → ℕ → ℕ → ℕ → (Environment → Out → Out → Out) → Claim
 Turned m mark held to f h0 h = But mark to h0 h × (read h.regs to ≡ f (environment_of m h0) (read h0.regs held) (read h0.regs to))
 
-pub turns_of : {a b : Draft} {n : ℕ} (held to : ℕ) (f : Environment → Out → Out → Out) → Grows a b → b.next ≡ a.next → Steady [] [] a b → ((m : Setting) → Triple m a b (λ w. n) no_labels no_last as_begun (Turned m a.next held to f)) → Turns a b held to f n
-turns_of {a} {b} {n} held to f grows next steady x = record {
+pub turns_of : {needs : List Need} {a b : Draft} {n : ℕ} (held to : ℕ) (f : Environment → Out → Out → Out) → Grows a b → b.next ≡ a.next → Steady needs [] a b → ((m : Setting) → Triple m a b (λ w. n) no_labels no_last as_begun (Turned m a.next held to f)) → Turns needs a b held to f n
+turns_of {needs} {a} {b} {n} held to f grows next steady x = record {
   grows = grows;
   next = next;
   steady = steady;
@@ -96,8 +104,8 @@ turns_of {a} {b} {n} held to f grows next steady x = record {
       keeps = h.holds.0.regs;
     }
 
-pub t_turns : (m : Setting) {a b : Draft} {held to n : ℕ} {f : Environment → Out → Out → Out} (g : Labels) (e : Last) (p q : Claim) → Turns a b held to f n → ((h0 h : Here) (regs : List Out) → p h0 h → read regs to ≡ f (environment_of m h) (read h.regs held) (read h.regs to) → ((k : ℕ) → k < a.next → k ≢ to → read regs k ≡ read h.regs k) → q h0 (with_regs h regs)) → Triple m a b (λ w. n) g e p q
-t_turns m {a} {b} {held} {to} {n} {f} g e p q x goes = record {
+pub t_turns : (m : Setting) {needs : List Need} {a b : Draft} {held to n : ℕ} {f : Environment → Out → Out → Out} (g : Labels) (e : Last) (p q : Claim) → Turns needs a b held to f n → ((h0 h : Here) (regs : List Out) → p h0 h → read regs to ≡ f (environment_of m h) (read h.regs held) (read h.regs to) → ((k : ℕ) → k < a.next → k ≢ to → read regs k ≡ read h.regs k) → q h0 (with_regs h regs)) → Triple m a b (λ w. n) g e p q
+t_turns m {needs} {a} {b} {held} {to} {n} {f} g e p q x goes = record {
   extends = extends x.grows;
   runs = λ u at h h0 s room start pre.
       let l = x.turns m u at h s room start in
@@ -114,9 +122,9 @@ t_turns m {a} {b} {held} {to} {n} {f} g e p q x goes = record {
 }
 
 -- a value by the value that another register holds, which is free behind it
-pub leaves_held : (a b c : Draft) (held to i n : ℕ) (g : Environment → Out) (f : Environment → Out → Out) → held ≡ a.next → Leaves no_calls (taken a) b held (λ env. g env) (λ env. i) → Turns b c held to (λ env x y. f env x) n → to < a.next → Leaves no_calls a (given_back c) to (λ env. f env (g env)) (λ env. i + n)
-leaves_held a b c held to i n g f is_next l t lt =
-    leaves_of to (λ env. f env (g env)) as_begun (grows_then (g_taken a) (grows_then l.grows (grows_then t.grows (g_given_back c)))) (omega (arith, l.next, t.next)) (st_then (g_taken a) (st_taken [] [] a) (st_then l.grows l.steady (st_then t.grows t.steady (st_given_back [] [] c)))) (λ h. refl) (λ m called.
+pub leaves_held : {needs : List Need} (a b c : Draft) (held to i n : ℕ) (g : Environment → Out) (f : Environment → Out → Out) → held ≡ a.next → Leaves (needing needs) (taken a) b held (λ env. g env) (λ env. i) → Turns needs b c held to (λ env x y. f env x) n → to < a.next → Leaves (needing needs) a (given_back c) to (λ env. f env (g env)) (λ env. i + n)
+leaves_held {needs} a b c held to i n g f is_next l t lt =
+    leaves_of to (λ env. f env (g env)) as_begun (grows_then (g_taken a) (grows_then l.grows (grows_then t.grows (g_given_back c)))) (omega (arith, l.next, t.next)) (st_then (g_taken a) (st_taken needs [] a) (st_then l.grows l.steady (st_then t.grows t.steady (st_given_back needs [] c)))) (λ h. refl) (λ m called.
     let there_is : Claim = λ h0 h. But a.next to h0 h × (read h.regs held ≡ g (environment_of m h0)) in
     let done : Claim = λ h0 h. But a.next to h0 h × (read h.regs to ≡ f (environment_of m h0) (g (environment_of m h0))) in
     let take = t_draft m no_labels no_last as_begun (g_taken a) refl in
@@ -128,9 +136,9 @@ leaves_held a b c held to i n g f is_next l t lt =
     t_more (λ w. i + n) (λ w. omega arith) (t_seq (t_seq (t_seq take first) second) back))
 
 -- operands, and an instruction that takes them and the value of the other register
-pub turns_by : (a b : Draft) (op : Op) (os : List Operand) (held first to n : ℕ) (f : Environment → List Out) (u : HostMeanings → Out → List Out → Out) → GoesOn op → first ≡ a.next → Offers no_calls a b os (λ env. f env) (λ env. n) → to < a.next → held < a.next → ((m : Setting) (at : ℕ → ℕ) (s : State) → act m (Some (placed at op)) s ≡ put s to (u m.hosts (read s.regs held) (map (operand_of m s) os))) → Turns a (released (with_op b op) first) held to (λ env x y. u env.hosts x (f env)) (n + 1)
-turns_by a b op os held first to n f u plain first_is x lt held_lt law =
-    turns_of held to (λ env y z. u env.hosts y (f env)) (grows_then x.grows (grows_then (g_op b op) (g_released (with_op b op) first))) first_is (st_then x.grows x.steady (st_then (g_op b op) (st_op [] [] b op plain) (st_released [] [] (with_op b op) first))) (λ m.
+pub turns_by : {needs : List Need} (a b : Draft) (op : Op) (os : List Operand) (held first to n : ℕ) (f : Environment → List Out) (u : HostMeanings → Out → List Out → Out) → Takes os op → first ≡ a.next → Offers (needing needs) a b os (λ env. f env) (λ env. n) → to < a.next → held < a.next → ((m : Setting) (at : ℕ → ℕ) (s : State) → act m (Some (placed at op)) s ≡ put s to (u m.hosts (read s.regs held) (map (operand_of m s) os))) → Turns needs a (released (with_op b op) first) held to (λ env x y. u env.hosts x (f env)) (n + 1)
+turns_by {needs} a b op os held first to n f u plain first_is x lt held_lt law =
+    turns_of held to (λ env y z. u env.hosts y (f env)) (grows_then x.grows (grows_then (g_op b op) (g_released (with_op b op) first))) first_is (st_then x.grows x.steady (st_then (g_op b op) (st_reads needs [] b op plain.0 (λ xs met. plain.1 xs (x.needs xs met))) (st_released needs [] (with_op b op) first))) (λ m.
     let mid : Claim = λ h0 h. But a.next to h0 h × (read h.regs held ≡ read h0.regs held) × Reads m h b.next os (f (environment_of m h0)) in
     let done : Claim = Turned m a.next held to (λ env y z. u env.hosts y (f env)) in
     let offered : Triple m a b (λ w. n) no_labels no_last as_begun mid = t_offers m no_labels no_last as_begun mid x (λ h0 h regs pre reads same.
@@ -151,8 +159,8 @@ Won m mark held to f h0 h = But mark to h0 h × (f (environment_of m h0) (read h
 abbrev pub Open : Setting → ℕ → ℕ → ℕ → (Environment → Out → Option Out) → Claim
 Open m mark held to f h0 h = But mark to h0 h × (f (environment_of m h0) (read h0.regs held) ≡ None)
 
-pub decides_of : {a b : Draft} {n : ℕ} (held to label : ℕ) (f : Environment → Out → Option Out) → Grows a b → b.next ≡ a.next → Steady [] (label ∷ []) a b → ((m : Setting) → Triple m a b (λ w. n) (with_claim label (Won m a.next held to f) no_labels) no_last as_begun (Open m a.next held to f)) → Decides a b held to label f n
-decides_of {a} {b} {n} held to label f grows next steady x = record {
+pub decides_of : {needs : List Need} {a b : Draft} {n : ℕ} (held to label : ℕ) (f : Environment → Out → Option Out) → Grows a b → b.next ≡ a.next → Steady needs (label ∷ []) a b → ((m : Setting) → Triple m a b (λ w. n) (with_claim label (Won m a.next held to f) no_labels) no_last as_begun (Open m a.next held to f)) → Decides needs a b held to label f n
+decides_of {needs} {a} {b} {n} held to label f grows next steady x = record {
   grows = grows;
   next = next;
   steady = steady;
@@ -183,8 +191,8 @@ decides_of {a} {b} {n} held to label f grows next steady x = record {
         ⊎_elim (λ ok. wins m at s l ok.0 (record { regs = h.regs; scene = h.scene; store = h.store; shared = h.shared; way = h.way; long = h.long; wide = h.wide; holds = tt }) ok.1) (λ no. absurd no) h.holds
     by m at s (ends o shared z h) = absurd h
 
-pub t_decides : (m : Setting) {a b : Draft} {held to label n : ℕ} {f : Environment → Out → Option Out} (g : Labels) (e : Last) (p q : Claim) → Decides a b held to label f n → ((h0 h : Here) (regs : List Out) → p h0 h → f (environment_of m h) (read h.regs held) ≡ None → ((k : ℕ) → k < a.next → k ≢ to → read regs k ≡ read h.regs k) → q h0 (with_regs h regs)) → ((h0 h : Here) (regs : List Out) → p h0 h → f (environment_of m h) (read h.regs held) ≡ Some (read regs to) → ((k : ℕ) → k < a.next → k ≢ to → read regs k ≡ read h.regs k) → g label h0 (with_regs h regs)) → Triple m a b (λ w. n) g e p q
-t_decides m {a} {b} {held} {to} {label} {n} {f} g e p q x goes wins = record {
+pub t_decides : (m : Setting) {needs : List Need} {a b : Draft} {held to label n : ℕ} {f : Environment → Out → Option Out} (g : Labels) (e : Last) (p q : Claim) → Decides needs a b held to label f n → ((h0 h : Here) (regs : List Out) → p h0 h → f (environment_of m h) (read h.regs held) ≡ None → ((k : ℕ) → k < a.next → k ≢ to → read regs k ≡ read h.regs k) → q h0 (with_regs h regs)) → ((h0 h : Here) (regs : List Out) → p h0 h → f (environment_of m h) (read h.regs held) ≡ Some (read regs to) → ((k : ℕ) → k < a.next → k ≢ to → read regs k ≡ read h.regs k) → g label h0 (with_regs h regs)) → Triple m a b (λ w. n) g e p q
+t_decides m {needs} {a} {b} {held} {to} {label} {n} {f} g e p q x goes wins = record {
   extends = extends x.grows;
   runs = λ u at h h0 s room start pre.
       by at h0 s pre (decision_at m f held (here s)) refl (x.decides m u at h s room start);
@@ -212,17 +220,17 @@ t_decides m {a} {b} {held} {to} {label} {n} {f} g e p q x goes wins = record {
       holds = wins h0 (here s) l.regs pre (is ∙ ap Some (sym l.has)) l.keeps;
     })
 
-pub decides_none : (a : Draft) (held to label : ℕ) → Decides a a held to label (λ env x. None) 0
-decides_none a held to label =
+pub decides_none : (needs : List Need) (a : Draft) (held to label : ℕ) → Decides needs a a held to label (λ env x. None) 0
+decides_none needs a held to label =
     let none : Environment → Out → Option Out = λ env x. None in
-    decides_of held to label none (grows_none a) refl (st_none [] (label ∷ []) a) (λ m.
+    decides_of held to label none (grows_none a) refl (st_none needs (label ∷ []) a) (λ m.
     let g : Labels = with_claim label (Won m a.next held to none) no_labels in
     let done : Claim = Open m a.next held to none in
     t_use as_begun done (λ h0 h pre. pre) (λ h0 h pre. (begun_but a.next to h0 h pre, refl)) (t_draft m g no_last as_begun (grows_none a) refl))
 
 -- one decision behind another, which reads its register as the first does
-pub decides_then : {a b c : Draft} {held to label i n : ℕ} {f g : Environment → Out → Option Out} → Decides a b held to label f i → Decides b c held to label g n → ((env : Environment) (r q : List Out) → ((k : ℕ) → k < a.next → k ≢ to → read r k ≡ read q k) → g env (read r held) ≡ g env (read q held)) → Decides a c held to label (λ env x. first_of (f env x) (g env x)) (i + n)
-decides_then {a} {b} {c} {held} {to} {label} {i} {n} {f} {g} x y stay =
+pub decides_then : {needs : List Need} {a b c : Draft} {held to label i n : ℕ} {f g : Environment → Out → Option Out} → Decides needs a b held to label f i → Decides needs b c held to label g n → ((env : Environment) (r q : List Out) → ((k : ℕ) → k < a.next → k ≢ to → read r k ≡ read q k) → g env (read r held) ≡ g env (read q held)) → Decides needs a c held to label (λ env x. first_of (f env x) (g env x)) (i + n)
+decides_then {needs} {a} {b} {c} {held} {to} {label} {i} {n} {f} {g} x y stay =
     let all : Environment → Out → Option Out = λ env z. first_of (f env z) (g env z) in
     decides_of held to label all (grows_then x.grows y.grows) (y.next ∙ x.next) (st_then x.grows x.steady y.steady) (λ m.
     let labels : Labels = with_claim label (Won m a.next held to all) no_labels in
@@ -239,8 +247,8 @@ decides_then {a} {b} {c} {held} {to} {label} {i} {n} {f} {g} x y stay =
     t_seq first second)
 
 -- the same of functions that agree, in more instructions
-pub decides_as : {a b : Draft} {held to label i : ℕ} {f : Environment → Out → Option Out} (g : Environment → Out → Option Out) (n : ℕ) → ((env : Environment) (x : Out) → f env x ≡ g env x) → i ≤ n → Decides a b held to label f i → Decides a b held to label g n
-decides_as {a} {b} {held} {to} {label} {i} {f} g n same le x = decides_of held to label g x.grows x.next x.steady (λ m. t_more (λ w. n) (λ w. le) (t_decides m (labels m) no_last as_begun (done m) x (λ h0 h regs pre is keeps.
+pub decides_as : {needs : List Need} {a b : Draft} {held to label i : ℕ} {f : Environment → Out → Option Out} (g : Environment → Out → Option Out) (n : ℕ) → ((env : Environment) (x : Out) → f env x ≡ g env x) → i ≤ n → Decides needs a b held to label f i → Decides needs a b held to label g n
+decides_as {needs} {a} {b} {held} {to} {label} {i} {f} g n same le x = decides_of held to label g x.grows x.next x.steady (λ m. t_more (λ w. n) (λ w. le) (t_decides m (labels m) no_last as_begun (done m) x (λ h0 h regs pre is keeps.
     (but_regs regs keeps (begun_but a.next to h0 h pre), agree m h0 h pre ∙ is)) (λ h0 h regs pre is keeps. inl (refl, (but_regs regs keeps (begun_but a.next to h0 h pre), agree m h0 h pre ∙ is)))))
   where
     labels : Setting → Labels
@@ -252,11 +260,16 @@ decides_as {a} {b} {held} {to} {label} {i} {f} g n same le x = decides_of held t
     agree : (m : Setting) (h0 h : Here) → h ≡ h0 → decision_at m g held h0 ≡ decision_at m f held h
     agree m h0 h pre = sym (same (environment_of m h0) (read h0.regs held)) ∙ sym (begun_is (decision_at m f held) h0 h pre)
 
+-- the same where more is so of cursors
+pub decides_wider : {needs : List Need} {a b : Draft} {held to label n : ℕ} {f : Environment → Out → Option Out} (more : List Need) → Covers more needs → Decides needs a b held to label f n → Decides more a b held to label f n
+decides_wider {needs} more covers x =
+    record { grows = x.grows; next = x.next; steady = st_wider covers x.steady; decides = x.decides }
+
 -- what is decided, or else the value of the code behind
-pub turns_decided : (a b c : Draft) (held to label i n : ℕ) (f : Environment → Out → Option Out) (g : Environment → Out) → label ≡ length a.labels → Decides (with_label a) b held to label f i → Leaves no_calls b c to (λ env. g env) (λ env. n) → Turns a (bound c label) held to (λ env x y. out_or (f env x) (g env)) (i + n)
-turns_decided a b c held to label i n f g label_is x l =
+pub turns_decided : {needs : List Need} (a b c : Draft) (held to label i n : ℕ) (f : Environment → Out → Option Out) (g : Environment → Out) → label ≡ length a.labels → Decides needs (with_label a) b held to label f i → Leaves (needing needs) b c to (λ env. g env) (λ env. n) → Turns needs a (bound c label) held to (λ env x y. out_or (f env x) (g env)) (i + n)
+turns_decided {needs} a b c held to label i n f g label_is x l =
     let all : Environment → Out → Out → Out = λ env z y. out_or (f env z) (g env) in
-    turns_of held to all (g_bound c label (grows_then (g_label a) (grows_then x.grows l.grows)) (omega (arith, label_is)) is_open) (l.next ∙ x.next) (st_label label label_is (grows_then x.grows l.grows) (st_then x.grows x.steady (st_inner [] (label ∷ []) l.steady))) (λ m.
+    turns_of held to all (g_bound c label (grows_then (g_label a) (grows_then x.grows l.grows)) (omega (arith, label_is)) is_open) (l.next ∙ x.next) (st_label label label_is (grows_then x.grows l.grows) (st_then x.grows x.steady (st_within (label ∷ []) (λ xs met. met) l.steady))) (λ m.
     let done : Claim = Turned m a.next held to all in
     let labels : Labels = with_claim label done no_labels in
     let mid : Claim = Open m a.next held to f in
@@ -274,14 +287,14 @@ turns_decided a b c held to label i n f g label_is x l =
 
 -- ---- one turn behind another
 
-pub turns_none : (a : Draft) (held to : ℕ) → Turns a a held to (λ env x y. y) 0
-turns_none a held to =
+pub turns_none : (needs : List Need) (a : Draft) (held to : ℕ) → Turns needs a a held to (λ env x y. y) 0
+turns_none needs a held to =
     let same : Environment → Out → Out → Out = λ env x y. y in
-    turns_of held to same (grows_none a) refl (st_none [] [] a) (λ m.
+    turns_of held to same (grows_none a) refl (st_none needs [] a) (λ m.
     t_use as_begun (Turned m a.next held to same) (λ h0 h pre. pre) (λ h0 h pre. (begun_but a.next to h0 h pre, ap (λ (z : Here). read z.regs to) pre)) (t_draft m no_labels no_last as_begun (grows_none a) refl))
 
-pub turns_then : {a b c : Draft} {held to i n : ℕ} {f g : Environment → Out → Out → Out} → Turns a b held to f i → Turns b c held to g n → held < a.next → held ≢ to → Turns a c held to (λ env x y. g env x (f env x y)) (i + n)
-turns_then {a} {b} {c} {held} {to} {i} {n} {f} {g} x y lt ne =
+pub turns_then : {needs : List Need} {a b c : Draft} {held to i n : ℕ} {f g : Environment → Out → Out → Out} → Turns needs a b held to f i → Turns needs b c held to g n → held < a.next → held ≢ to → Turns needs a c held to (λ env x y. g env x (f env x y)) (i + n)
+turns_then {needs} {a} {b} {c} {held} {to} {i} {n} {f} {g} x y lt ne =
     let all : Environment → Out → Out → Out = λ env z v. g env z (f env z v) in
     turns_of held to all (grows_then x.grows y.grows) (y.next ∙ x.next) (st_then x.grows x.steady y.steady) (λ m.
     let mid : Claim = Turned m a.next held to f in

@@ -17,6 +17,7 @@ use Rattle.eng_value.specs.declared.truth.Truth.TheVariants as truth
 use Rattle.eng_value.specs.declared.value.Value.TheVariants as value
 use Rattle.gen_expr.specs.declared.parts.Operands.{Operands}
 use Rattle.sql_meaning.specs.Expression.{Arm, MatchArm}
+use Rattle.vm_code.specs.declared.open_cursor.Need.{Need}
 use Rattle.vm_code.specs.declared.op.Op.{Op}
 use Rattle.vm_code.specs.declared.op.Op.TheVariants as op
 use Rattle.vm_code.specs.declared.operand.Operand.{Operand}
@@ -74,11 +75,11 @@ with_left_tested d wanted to = with_op (with_label d) (jump_on wanted to (length
 
 -- ---- code that leaves a value by what registers hold
 
--- it leaves in a register a function of the environment, of another register and of what it held before
-pub record Turns (a b : Draft) (held to : ℕ) (f : Environment → Out → Out → Out) (most : ℕ) : Type 0 where
+-- it leaves in a register a function of the environment, of another register and of what it held before, where this is so of cursors
+pub record Turns (needs : List Need) (a b : Draft) (held to : ℕ) (f : Environment → Out → Out → Out) (most : ℕ) : Type 0 where
   pub grows : Grows a b
   pub next : b.next ≡ a.next
-  pub steady : Steady [] [] a b
+  pub steady : Steady needs [] a b
   pub turns : (m : Setting) (u : ℕ) (at : ℕ → ℕ) → Holds b m.prog u at → (s : State) → Ready b u s → s.pc ≡ length a.code
       → Left m most s (length b.code) a.next to (f (environment_of m (here s)) (read s.regs held) (read s.regs to))
 
@@ -89,11 +90,11 @@ abbrev pub Decided : Setting → ℕ → State → ℕ → ℕ → ℕ → ℕ �
 Decided m most s place out mark to None = (v : Out) × Left m most s place mark to v
 Decided m most s place out mark to (Some v) = Left m most s out mark to v
 
--- it decides by the environment and by what another register holds
-pub record Decides (a b : Draft) (held to label : ℕ) (f : Environment → Out → Option Out) (most : ℕ) : Type 0 where
+-- it decides by the environment and by what another register holds, where this is so of cursors
+pub record Decides (needs : List Need) (a b : Draft) (held to label : ℕ) (f : Environment → Out → Option Out) (most : ℕ) : Type 0 where
   pub grows : Grows a b
   pub next : b.next ≡ a.next
-  pub steady : Steady [] (label ∷ []) a b
+  pub steady : Steady needs (label ∷ []) a b
   pub decides : (m : Setting) (u : ℕ) (at : ℕ → ℕ) → Holds b m.prog u at → (s : State) → Ready b u s → s.pc ≡ length a.code
       → Decided m most s (length b.code) (at label) a.next to (f (environment_of m (here s)) (read s.regs held))
 

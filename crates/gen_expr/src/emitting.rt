@@ -1,14 +1,16 @@
 // The code of an expression.
-ghost use Rattle.std.specs.Prelude.{◌≡◌, ◌+◌, ◌<◌, ◌≤◌, [], ◌∷◌, OnOk, IfOk, map, sum_by};
+ghost use Rattle.std.specs.List.{flat_map};
+ghost use Rattle.std.specs.Prelude.{◌≡◌, ◌+◌, ◌<◌, ◌≤◌, [], ◌∷◌, ◌++◌, OnOk, IfOk, map, sum_by};
 ghost use Rattle.eng_value.specs.Applied.{binary_of, member_of};
 ghost use Rattle.eng_value.specs.Collations.{keys_of};
 ghost use Rattle.bound_tree.specs.Exprs as e;
 ghost use Rattle.bound_tree.specs.Seen.{seen, seen_arm, seen_match};
 ghost use Rattle.eng_value.specs.Truths.{choice_of, truth_of};
+ghost use Rattle.gen_expr.specs.Needs.{arm_needs_of, match_needs_of, needs_of};
 ghost use Rattle.gen_expr.specs.Parts.{IsDecidedBy};
 ghost use Rattle.gen_expr.specs.Steps.{arm_steps_of, match_steps_of, steps_of, test_steps};
 ghost use Rattle.sql_meaning.specs.Expression.{arm_of, chosen_in, first_known, in_all, match_of, matched_in, value_of};
-ghost use Rattle.vm_code.specs.Frames.{Leaves, Offers, no_calls};
+ghost use Rattle.vm_code.specs.Frames.{Leaves, Offers, needing};
 
 use crate::giving::gives_truth;
 use crate::literals::{constant, emit_literal, emit_unbuilt};
@@ -27,7 +29,7 @@ use vm_code::{Builder, Op, Operand};
 pub(crate) fn emit(alloc: Global, b: &mut Builder, e: &ExprTree, to: u32) -> Result<(), AllocError>
     requires taken { to < b.old.next }
     requires counted { b.old.next ≤ b.old.most }
-    ensures leaves { OnOk result (Leaves no_calls b.old b.new to (λ env. value_of (seen e.now) env) (λ _. steps_of (seen e.now))) }
+    ensures leaves { OnOk result (Leaves (needing (needs_of (seen e.now))) b.old b.new to (λ env. value_of (seen e.now) env) (λ _. steps_of (seen e.now))) }
     ensures units { OnOk result (b.new.units ≡ b.old.units) }
     ensures cursors { OnOk result (b.new.cursors ≡ b.old.cursors) }
 {
@@ -91,7 +93,7 @@ pub(crate) fn emit_truth(
 ) -> Result<(), AllocError>
     requires taken { to < b.old.next }
     requires counted { b.old.next ≤ b.old.most }
-    ensures leaves { OnOk result (Leaves no_calls b.old b.new to (λ env. truth_of (value_of (seen e.now) env)) (λ _. steps_of (seen e.now) + 1)) }
+    ensures leaves { OnOk result (Leaves (needing (needs_of (seen e.now))) b.old b.new to (λ env. truth_of (value_of (seen e.now) env)) (λ _. steps_of (seen e.now) + 1)) }
     ensures units { OnOk result (b.new.units ≡ b.old.units) }
     ensures cursors { OnOk result (b.new.cursors ≡ b.old.cursors) }
 {
@@ -118,7 +120,7 @@ pub(crate) fn emit_binary(
 ) -> Result<(), AllocError>
     requires taken { to < b.old.next }
     requires counted { b.old.next ≤ b.old.most }
-    ensures leaves { OnOk result (Leaves no_calls b.old b.new to (λ env. binary_of (keys_of env.hosts) operator (value_of (seen left.now) env) (value_of (seen right.now) env)) (λ _. steps_of (seen left.now) + steps_of (seen right.now) + 1 + test_steps operator)) }
+    ensures leaves { OnOk result (Leaves (needing (needs_of (seen left.now) ++ needs_of (seen right.now))) b.old b.new to (λ env. binary_of (keys_of env.hosts) operator (value_of (seen left.now) env) (value_of (seen right.now) env)) (λ _. steps_of (seen left.now) + steps_of (seen right.now) + 1 + test_steps operator)) }
     ensures units { OnOk result (b.new.units ≡ b.old.units) }
     ensures cursors { OnOk result (b.new.cursors ≡ b.old.cursors) }
 {
@@ -145,7 +147,7 @@ fn emit_decided(
     requires decided { IsDecidedBy operator wanted }
     requires taken { to < b.old.next }
     requires counted { b.old.next ≤ b.old.most }
-    ensures leaves { OnOk result (Leaves no_calls b.old b.new to (λ env. binary_of (keys_of env.hosts) operator (value_of (seen left.now) env) (value_of (seen right.now) env)) (λ _. steps_of (seen left.now) + steps_of (seen right.now) + 3)) }
+    ensures leaves { OnOk result (Leaves (needing (needs_of (seen left.now) ++ needs_of (seen right.now))) b.old b.new to (λ env. binary_of (keys_of env.hosts) operator (value_of (seen left.now) env) (value_of (seen right.now) env)) (λ _. steps_of (seen left.now) + steps_of (seen right.now) + 3)) }
     ensures units { OnOk result (b.new.units ≡ b.old.units) }
     ensures cursors { OnOk result (b.new.cursors ≡ b.old.cursors) }
 {
@@ -162,7 +164,7 @@ fn emit_decided(
 #[cycle(emitting)]
 fn operand(alloc: Global, b: &mut Builder, e: &ExprTree) -> Result<Operand, AllocError>
     requires counted { b.old.next ≤ b.old.most }
-    ensures offers { IfOk result (λ o. Offers no_calls b.old b.new (o ∷ []) (λ env. value_of (seen e.now) env ∷ []) (λ _. steps_of (seen e.now))) }
+    ensures offers { IfOk result (λ o. Offers (needing (needs_of (seen e.now))) b.old b.new (o ∷ []) (λ env. value_of (seen e.now) env ∷ []) (λ _. steps_of (seen e.now))) }
     ensures units { OnOk result (b.new.units ≡ b.old.units) }
     ensures cursors { OnOk result (b.new.cursors ≡ b.old.cursors) }
 {
@@ -191,7 +193,7 @@ fn three_operands(
     z: &ExprTree,
 ) -> Result<Operands, AllocError>
     requires counted { b.old.next ≤ b.old.most }
-    ensures offers { IfOk result (λ o. Offers no_calls b.old b.new (o.first ∷ o.second ∷ o.third ∷ []) (λ env. value_of (seen x.now) env ∷ value_of (seen y.now) env ∷ value_of (seen z.now) env ∷ []) (λ _. steps_of (seen x.now) + steps_of (seen y.now) + steps_of (seen z.now))) }
+    ensures offers { IfOk result (λ o. Offers (needing (needs_of (seen x.now) ++ needs_of (seen y.now) ++ needs_of (seen z.now))) b.old b.new (o.first ∷ o.second ∷ o.third ∷ []) (λ env. value_of (seen x.now) env ∷ value_of (seen y.now) env ∷ value_of (seen z.now) env ∷ []) (λ _. steps_of (seen x.now) + steps_of (seen y.now) + steps_of (seen z.now))) }
     ensures units { OnOk result (b.new.units ≡ b.old.units) }
     ensures cursors { OnOk result (b.new.cursors ≡ b.old.cursors) }
 {
@@ -213,7 +215,7 @@ fn all_operands(
     all: &[ExprTree],
 ) -> Result<Items<Operand>, AllocError>
     requires counted { b.old.next ≤ b.old.most }
-    ensures offers { IfOk result (λ os. Offers no_calls b.old b.new os (λ env. in_all (map value_of (map seen all.now)) env) (λ _. sum_by steps_of (map seen all.now))) }
+    ensures offers { IfOk result (λ os. Offers (needing (flat_map needs_of (map seen all.now))) b.old b.new os (λ env. in_all (map value_of (map seen all.now)) env) (λ _. sum_by steps_of (map seen all.now))) }
     ensures units { OnOk result (b.new.units ≡ b.old.units) }
     ensures cursors { OnOk result (b.new.cursors ≡ b.old.cursors) }
 {
@@ -236,7 +238,7 @@ fn emit_member(
 ) -> Result<(), AllocError>
     requires taken { to < b.old.next }
     requires counted { b.old.next ≤ b.old.most }
-    ensures leaves { OnOk result (Leaves no_calls b.old b.new to (λ env. member_of (keys_of env.hosts) sides (value_of (seen tested.now) env) (in_all (map value_of (map seen others.now)) env)) (λ _. steps_of (seen tested.now) + 2 + sum_by (λ e. steps_of e + 2) (map seen others.now))) }
+    ensures leaves { OnOk result (Leaves (needing (needs_of (seen tested.now) ++ flat_map needs_of (map seen others.now))) b.old b.new to (λ env. member_of (keys_of env.hosts) sides (value_of (seen tested.now) env) (in_all (map value_of (map seen others.now)) env)) (λ _. steps_of (seen tested.now) + 2 + sum_by (λ e. steps_of e + 2) (map seen others.now))) }
     ensures units { OnOk result (b.new.units ≡ b.old.units) }
     ensures cursors { OnOk result (b.new.cursors ≡ b.old.cursors) }
 {
@@ -262,7 +264,7 @@ fn emit_known(
 ) -> Result<(), AllocError>
     requires taken { to < b.old.next }
     requires counted { b.old.next ≤ b.old.most }
-    ensures leaves { OnOk result (Leaves no_calls b.old b.new to (λ env. first_known (in_all (map value_of (map seen operands.now)) env)) (λ _. sum_by (λ e. steps_of e + 2) (map seen operands.now) + 1)) }
+    ensures leaves { OnOk result (Leaves (needing (flat_map needs_of (map seen operands.now))) b.old b.new to (λ env. first_known (in_all (map value_of (map seen operands.now)) env)) (λ _. sum_by (λ e. steps_of e + 2) (map seen operands.now) + 1)) }
     ensures units { OnOk result (b.new.units ≡ b.old.units) }
     ensures cursors { OnOk result (b.new.cursors ≡ b.old.cursors) }
 {
@@ -287,7 +289,7 @@ fn emit_choice(
 ) -> Result<(), AllocError>
     requires taken { to < b.old.next }
     requires counted { b.old.next ≤ b.old.most }
-    ensures leaves { OnOk result (Leaves no_calls b.old b.new to (λ env. chosen_in env (map arm_of (map seen_arm arms.now)) (value_of (seen otherwise.now) env)) (λ _. sum_by arm_steps_of (map seen_arm arms.now) + steps_of (seen otherwise.now))) }
+    ensures leaves { OnOk result (Leaves (needing (flat_map arm_needs_of (map seen_arm arms.now) ++ needs_of (seen otherwise.now))) b.old b.new to (λ env. chosen_in env (map arm_of (map seen_arm arms.now)) (value_of (seen otherwise.now) env)) (λ _. sum_by arm_steps_of (map seen_arm arms.now) + steps_of (seen otherwise.now))) }
     ensures units { OnOk result (b.new.units ≡ b.old.units) }
     ensures cursors { OnOk result (b.new.cursors ≡ b.old.cursors) }
 {
@@ -315,7 +317,7 @@ fn emit_iif(
 ) -> Result<(), AllocError>
     requires taken { to < b.old.next }
     requires counted { b.old.next ≤ b.old.most }
-    ensures leaves { OnOk result (Leaves no_calls b.old b.new to (λ env. choice_of (value_of (seen condition.now) env) (value_of (seen value.now) env) (value_of (seen otherwise.now) env)) (λ _. steps_of (e.Iif (seen condition.now) (seen value.now) (seen otherwise.now)))) }
+    ensures leaves { OnOk result (Leaves (needing (needs_of (seen condition.now) ++ needs_of (seen value.now) ++ needs_of (seen otherwise.now))) b.old b.new to (λ env. choice_of (value_of (seen condition.now) env) (value_of (seen value.now) env) (value_of (seen otherwise.now) env)) (λ _. steps_of (e.Iif (seen condition.now) (seen value.now) (seen otherwise.now)))) }
     ensures units { OnOk result (b.new.units ≡ b.old.units) }
     ensures cursors { OnOk result (b.new.cursors ≡ b.old.cursors) }
 {
@@ -342,7 +344,7 @@ fn emit_match(
 ) -> Result<(), AllocError>
     requires taken { to < b.old.next }
     requires counted { b.old.next ≤ b.old.most }
-    ensures leaves { OnOk result (Leaves no_calls b.old b.new to (λ env. matched_in env (value_of (seen tested.now) env) (map match_of (map seen_match arms.now)) (value_of (seen otherwise.now) env)) (λ _. steps_of (seen tested.now) + sum_by match_steps_of (map seen_match arms.now) + steps_of (seen otherwise.now))) }
+    ensures leaves { OnOk result (Leaves (needing (needs_of (seen tested.now) ++ flat_map match_needs_of (map seen_match arms.now) ++ needs_of (seen otherwise.now))) b.old b.new to (λ env. matched_in env (value_of (seen tested.now) env) (map match_of (map seen_match arms.now)) (value_of (seen otherwise.now) env)) (λ _. steps_of (seen tested.now) + sum_by match_steps_of (map seen_match arms.now) + steps_of (seen otherwise.now))) }
     ensures units { OnOk result (b.new.units ≡ b.old.units) }
     ensures cursors { OnOk result (b.new.cursors ≡ b.old.cursors) }
 {

@@ -4,9 +4,10 @@ ghost use Rattle.bound_tree.specs.Exprs as e;
 ghost use Rattle.bound_tree.specs.Seen.{seen};
 ghost use Rattle.eng_value.specs.Truths.{truth_of};
 ghost use Rattle.eng_value.specs.declared.operators.BinaryOperator.TheVariants as binary;
+ghost use Rattle.gen_expr.specs.Needs.{needs_of};
 ghost use Rattle.gen_expr.specs.Steps.{steps_of};
 ghost use Rattle.sql_meaning.specs.Expression.{value_of};
-ghost use Rattle.vm_code.specs.Frames.{Leaves, no_calls};
+ghost use Rattle.vm_code.specs.Frames.{Leaves, needing};
 
 use crate::emitting;
 use bound_tree::{BoundExpr, ExprTree};
@@ -19,7 +20,7 @@ use vm_code::Builder;
 pub fn emit(alloc: Global, b: &mut Builder, e: &BoundExpr, to: u32) -> Result<(), AllocError>
     requires taken { to < b.old.next }
     requires counted { b.old.next ≤ b.old.most }
-    ensures leaves { OnOk result (Leaves no_calls b.old b.new to (λ env. value_of e.now env) (λ _. steps_of e.now)) }
+    ensures leaves { OnOk result (Leaves (needing (needs_of e.now)) b.old b.new to (λ env. value_of e.now env) (λ _. steps_of e.now)) }
     ensures units { OnOk result (b.new.units ≡ b.old.units) }
     ensures cursors { OnOk result (b.new.cursors ≡ b.old.cursors) }
 {
@@ -30,7 +31,7 @@ pub fn emit(alloc: Global, b: &mut Builder, e: &BoundExpr, to: u32) -> Result<()
 pub fn emit_tree(alloc: Global, b: &mut Builder, e: &ExprTree, to: u32) -> Result<(), AllocError>
     requires taken { to < b.old.next }
     requires counted { b.old.next ≤ b.old.most }
-    ensures leaves { OnOk result (Leaves no_calls b.old b.new to (λ env. value_of (seen e.now) env) (λ _. steps_of (seen e.now))) }
+    ensures leaves { OnOk result (Leaves (needing (needs_of (seen e.now))) b.old b.new to (λ env. value_of (seen e.now) env) (λ _. steps_of (seen e.now))) }
     ensures units { OnOk result (b.new.units ≡ b.old.units) }
     ensures cursors { OnOk result (b.new.cursors ≡ b.old.cursors) }
 {
@@ -50,7 +51,7 @@ pub fn emit_comparison(
 ) -> Result<(), AllocError>
     requires taken { to < b.old.next }
     requires counted { b.old.next ≤ b.old.most }
-    ensures leaves { OnOk result (Leaves no_calls b.old b.new to (λ env. value_of (e.Binary (binary.Compare op sides) (seen left.now) (seen right.now)) env) (λ _. steps_of (e.Binary (binary.Compare op sides) (seen left.now) (seen right.now)))) }
+    ensures leaves { OnOk result (Leaves (needing (needs_of (e.Binary (binary.Compare op sides) (seen left.now) (seen right.now)))) b.old b.new to (λ env. value_of (e.Binary (binary.Compare op sides) (seen left.now) (seen right.now)) env) (λ _. steps_of (e.Binary (binary.Compare op sides) (seen left.now) (seen right.now)))) }
     ensures units { OnOk result (b.new.units ≡ b.old.units) }
     ensures cursors { OnOk result (b.new.cursors ≡ b.old.cursors) }
 {
@@ -69,7 +70,7 @@ pub fn emit_comparison(
 pub fn emit_truth(alloc: Global, b: &mut Builder, e: &BoundExpr, to: u32) -> Result<(), AllocError>
     requires taken { to < b.old.next }
     requires counted { b.old.next ≤ b.old.most }
-    ensures leaves { OnOk result (Leaves no_calls b.old b.new to (λ env. truth_of (value_of e.now env)) (λ _. steps_of e.now + 1)) }
+    ensures leaves { OnOk result (Leaves (needing (needs_of e.now)) b.old b.new to (λ env. truth_of (value_of e.now env)) (λ _. steps_of e.now + 1)) }
     ensures units { OnOk result (b.new.units ≡ b.old.units) }
     ensures cursors { OnOk result (b.new.cursors ≡ b.old.cursors) }
 {

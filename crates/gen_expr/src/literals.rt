@@ -1,8 +1,8 @@
 // What literals stand for, and their code.
-ghost use Rattle.std.specs.Prelude.{◌≡◌, ◌<◌, ◌≤◌, IfOk, OnOk};
+ghost use Rattle.std.specs.Prelude.{◌≡◌, ◌<◌, ◌≤◌, [], IfOk, OnOk};
 ghost use Rattle.eng_value.specs.declared.out.Out.TheVariants.{Good};
 ghost use Rattle.sql_meaning.specs.Expression.{literal_out, unbuilt};
-ghost use Rattle.vm_code.specs.Frames.{Leaves, no_calls};
+ghost use Rattle.vm_code.specs.Frames.{Leaves, needing};
 
 use eng_value::{Cause, Out, Value};
 use sql_words::Literal;
@@ -23,7 +23,7 @@ pub(crate) fn constant(alloc: Global, literal: &Literal) -> Result<Constant, All
 pub fn emit_literal(b: &mut Builder, literal: &Literal, to: u32) -> Result<(), AllocError>
     requires taken { to < b.old.next }
     requires counted { b.old.next ≤ b.old.most }
-    ensures leaves { OnOk result (Leaves no_calls b.old b.new to (λ _. literal_out literal.now) (λ _. 1)) }
+    ensures leaves { OnOk result (Leaves (needing []) b.old b.new to (λ _. literal_out literal.now) (λ _. 1)) }
     ensures units { OnOk result (b.new.units ≡ b.old.units) }
     ensures cursors { OnOk result (b.new.cursors ≡ b.old.cursors) }
 {
@@ -41,7 +41,7 @@ pub fn emit_literal(b: &mut Builder, literal: &Literal, to: u32) -> Result<(), A
 pub(crate) fn emit_unbuilt(b: &mut Builder, to: u32) -> Result<(), AllocError>
     requires taken { to < b.old.next }
     requires counted { b.old.next ≤ b.old.most }
-    ensures leaves { OnOk result (Leaves no_calls b.old b.new to (λ _. unbuilt) (λ _. 1)) }
+    ensures leaves { OnOk result (Leaves (needing []) b.old b.new to (λ _. unbuilt) (λ _. 1)) }
     ensures units { OnOk result (b.new.units ≡ b.old.units) }
     ensures cursors { OnOk result (b.new.cursors ≡ b.old.cursors) }
 {
@@ -51,7 +51,7 @@ pub(crate) fn emit_unbuilt(b: &mut Builder, to: u32) -> Result<(), AllocError>
 fn emit_value(b: &mut Builder, value: &Value, to: u32) -> Result<(), AllocError>
     requires taken { to < b.old.next }
     requires counted { b.old.next ≤ b.old.most }
-    ensures leaves { OnOk result (Leaves no_calls b.old b.new to (λ _. Good value.now) (λ _. 1)) }
+    ensures leaves { OnOk result (Leaves (needing []) b.old b.new to (λ _. Good value.now) (λ _. 1)) }
     ensures units { OnOk result (b.new.units ≡ b.old.units) }
     ensures cursors { OnOk result (b.new.cursors ≡ b.old.cursors) }
 {

@@ -1,11 +1,10 @@
 -- A loop of a LEFT JOIN: a flag tells whether a row was kept, and where none was, the row stays alone.
 use Rattle.std.proofs.Common.{◌≡◌, ◌≢◌, ℕ, pos, ◌+◌, ◌≤◌, ◌<◌, Contains, List, [], ◌∷◌, ◌++◌, true, false, length, sum_by, Some, None, refl, sym, ap, ◌∙◌, subst, arith, inl, inr, ◌⊎◌, ⊎_elim}
-use Rattle.std.specs.Prelude.{slice_get, slice_set}
+use Rattle.std.specs.Prelude.{All, slice_get, slice_set}
 use Rattle.std.specs.List.{flat_map}
 use Rattle.std.specs.Option.{option_map, option_to_list}
 use Rattle.std.specs.declared.option.Option.{Option}
 use Rattle.std.proofs.lemmas.List.Concat.{flat_map-cons}
-use Rattle.std.proofs.lemmas.List.Elements.{All-nil}
 use Rattle.bound_tree.specs.Exprs.{BoundExpr}
 use Rattle.eng_value.specs.Environments.{Environment, ItemRow, no_causes, table_row}
 use Rattle.eng_value.specs.StoredRows.{StoredRow}
@@ -14,21 +13,25 @@ use Rattle.eng_value.specs.declared.out.Out.{Out}
 use Rattle.eng_value.specs.declared.out.Out.TheVariants.{Good}
 use Rattle.eng_value.specs.declared.value.Value.TheVariants.{Integer}
 use Rattle.gen_loop.specs.Loops.{KeepsWritten, alone_steps, conjuncts_steps, each, loop_steps, paired, passing, path_steps, turn_steps}
-use Rattle.gen_loop.specs.Stretches.{ArePlaced, Comes, Nests, Stand, places_of}
+use Rattle.gen_loop.specs.Needs.{conjuncts_read, loop_needs}
+use Rattle.gen_loop.specs.Stretches.{ArePlaced, Comes, Nests, Stand}
 use Rattle.gen_loop.proofs.Pairs.{at_turn, end_of, next_of, opening, top_of}
 use Rattle.gen_loop.proofs.Paths.{OnPath, first-cursors, first-grows, first-next, first-steady, on_path, sees_off, sees_row, t_path}
-use Rattle.gen_loop.proofs.Places.{inner_used, loop_uses, st_inside, sums-le}
+use Rattle.gen_loop.proofs.Places.{checks_met, inner_met, keys_met, loop_moves, ons_met, st_inside, sums-le}
 use Rattle.gen_loop.proofs.Turns.{OwesPairs, at_pair, nests_of, outer_row, owes_moved, owes_none, owes_other, owes_regs, owes_start, pair_due, pair_done, t_pair, t_tests}
-use Rattle.plan_tree.specs.Plans.{paired_with, visited_by}
+use Rattle.plan_tree.specs.Plans.{ons_in, paired_with, visited_by}
 use Rattle.plan_tree.specs.Visits.{at_item, visited}
 use Rattle.plan_tree.specs.declared.access.Loop.{Loop}
 use Rattle.plan_tree.specs.declared.access.Pairs.TheVariants.{OrAlone}
 use Rattle.sql_meaning.specs.Products.{FromRow, or_alone, passed, sifted, with_item}
 use Rattle.vm_code.specs.declared.op.Op.TheVariants as op
+use Rattle.vm_code.specs.declared.open_cursor.Need.{Need}
+use Rattle.vm_code.specs.declared.open_cursor.Need.TheVariants as need
 use Rattle.vm_code.specs.Draft.{Draft, with_op, with_label, bound, taken, released}
+use Rattle.vm_code.specs.Track.{Meets, OpenSet}
 use Rattle.vm_code.specs.Tracked.{HasPlace, Steady}
 use Rattle.vm_code.specs.Machine.{Cursor, Open, Setting, advanced, is_known, read, rows_of, world_of}
-use Rattle.vm_code.specs.Frames.{Here, with_regs, environment_of, sight_of, Sight, memory_of, Effect, Grows, Memory, Outcome, Shut, Sifts, no_calls}
+use Rattle.vm_code.specs.Frames.{Here, with_regs, environment_of, sight_of, Sight, memory_of, Effect, Grows, Memory, Outcome, Shut, Sifts, needing}
 use Rattle.vm_code.specs.Claims.{Claim, Labels, Last, Triple}
 use Rattle.vm_code.proofs.Drafts.{extends, g_bound, g_label, g_op, g_released, g_taken, grows_then, long_label, open_new, open_old, open_other}
 use Rattle.vm_code.proofs.Loops.{At, moved}
@@ -59,14 +62,14 @@ row-open a first l comes =
     let b = flagging a in
     (first-grows (unset a) l.place (end_of b) l.path first comes).open_labels (top_of b) (open_old (with_label (with_label b)) (top_of b) (open_new (with_label b)))
 
-pub pair-open : (a first u : Draft) (l : Loop) (ons : List BoundExpr) (causes : ℕ) → Comes (unset a) first l.place (end_of (flagging a)) l.path → Sifts no_calls (at_turn first a (top_of (flagging a)) causes (a.next + 1)) u (a.next + 1) (next_of (flagging a)) (sifted ons) (λ env. conjuncts_steps ons) → slice_get u.labels (length a.labels) ≡ Some None
+pub pair-open : (a first u : Draft) (l : Loop) (ons : List BoundExpr) (causes : ℕ) → Comes (unset a) first l.place (end_of (flagging a)) l.path → Sifts (needing (conjuncts_read ons)) (at_turn first a (top_of (flagging a)) causes (a.next + 1)) u (a.next + 1) (next_of (flagging a)) (sifted ons) (λ env. conjuncts_steps ons) → slice_get u.labels (length a.labels) ≡ Some None
 pair-open a first u l ons causes comes sifts =
     let b = flagging a in
     let pair = length a.labels in
     let at_first = (first-grows (unset a) l.place (end_of b) l.path first comes).open_labels pair (open_old (with_label (with_label b)) pair (open_old (with_label b) pair (open_old b pair (open_old (with_label a) pair (open_new a))))) in
     sifts.grows.open_labels pair (open_other first (top_of b) pair (λ same. absurd (omega (arith, same, long_label a, long_label (with_label a), long_label b))) at_first)
 
-module _ (a first u t y : Draft) (l : Loop) (ons : List BoundExpr) (loops : List Loop) (lo causes : ℕ) (K : Effect) (keeps : KeepsWritten K) (nK : Environment → ℕ) (is_alone : l.pairs ≡ OrAlone ons) (lo_le : lo ≤ causes) (causes_lt : causes < a.next) (comes : Comes (unset a) first l.place (end_of (flagging a)) l.path) (on_sifts : Sifts no_calls (at_turn first a (top_of (flagging a)) causes (a.next + 1)) u (a.next + 1) (next_of (flagging a)) (sifted ons) (λ env. conjuncts_steps ons)) (sifts : Sifts no_calls (at_pairs u (length a.labels) a.next) t (a.next + 1) (next_of (flagging a)) (sifted l.checks) (λ env. conjuncts_steps l.checks)) (u_wide : u.cursors ≡ first.cursors) (wide : t.cursors ≡ u.cursors) (nests : Nests loops t y lo (a.next + 1) K nK) where
+module _ {inner : List Need} (a first u t y : Draft) (l : Loop) (ons : List BoundExpr) (loops : List Loop) (lo causes : ℕ) (K : Effect) (keeps : KeepsWritten K) (nK : Environment → ℕ) (is_alone : l.pairs ≡ OrAlone ons) (lo_le : lo ≤ causes) (causes_lt : causes < a.next) (comes : Comes (unset a) first l.place (end_of (flagging a)) l.path) (on_sifts : Sifts (needing (conjuncts_read ons)) (at_turn first a (top_of (flagging a)) causes (a.next + 1)) u (a.next + 1) (next_of (flagging a)) (sifted ons) (λ env. conjuncts_steps ons)) (sifts : Sifts (needing (conjuncts_read l.checks)) (at_pairs u (length a.labels) a.next) t (a.next + 1) (next_of (flagging a)) (sifted l.checks) (λ env. conjuncts_steps l.checks)) (u_wide : u.cursors ≡ first.cursors) (wide : t.cursors ≡ u.cursors) (nests : Nests inner loops t y lo (a.next + 1) K nK) where
   abbrev c : ℕ
   c = l.place
 
@@ -251,30 +254,32 @@ module _ (a first u t y : Draft) (l : Loop) (ons : List BoundExpr) (loops : List
 
   -- ---- what is open
 
-  abbrev uses : List ℕ
-  uses = places_of (l ∷ loops)
+  abbrev needs : List Need
+  needs = loop_needs l inner
 
   abbrev inside : List ℕ
   inside = next ∷ top ∷ end ∷ done ∷ pair ∷ []
 
-  among : Contains uses c
-  among = loop_uses l loops
+  own_needed : Contains needs (need.Table c)
+  own_needed = loop_moves l inner
 
-  tests_in : {d e : Draft} → Steady [] (next ∷ []) d e → Steady uses inside d e
-  tests_in x =
-      st_inside uses inside [] (next ∷ []) (λ xs h. All-nil (Contains xs)) (λ k among. ⊎_elim (λ same. inl same) (λ no. absurd no) among) x
+  tested : (xs : OpenSet) → All (Meets xs) needs → All (Meets xs) (conjuncts_read ons)
+  tested xs met = subst (λ p. All (Meets xs) (conjuncts_read (ons_in p))) is_alone (ons_met l inner xs met)
 
-  behind : Steady uses inside y f4
+  tests_in : {d e : Draft} {own : List Need} → ((xs : OpenSet) → All (Meets xs) needs → All (Meets xs) own) → Steady own (next ∷ []) d e → Steady needs inside d e
+  tests_in wider x = st_inside needs inside wider (λ k among. ⊎_elim (λ same. inl same) (λ no. absurd no) among) x
+
+  behind : Steady needs inside y f4
   behind =
-      st_on (λ k xs m. m) (st_bind uses inside y next (inl refl)) (st_then (g_op e1 (op.Next c top)) (st_fork_use uses inside e1 (op.Next c top) top c refl refl among (inr (inl refl))) (st_on (λ k xs m. m) (st_bind uses inside e2 end (inr (inr (inl refl)))) (st_then (g_op e3 (op.NotNull flag done)) (st_fork uses inside e3 (op.NotNull flag done) done refl refl (inr (inr (inr (inl refl))))) (st_then f1_f2 (st_op uses inside f1 (op.Copy causes mine) (refl, refl)) (st_goto uses inside f2 pair done (inr (inr (inr (inr (inl refl))))) (inr (inr (inr (inl refl)))))))))
+      st_on (λ k xs m. m) (st_bind needs inside y next (inl refl)) (st_then (g_op e1 (op.Next c top)) (st_fork_use needs inside e1 (op.Next c top) top (need.Table c) refl refl own_needed (inr (inl refl))) (st_on (λ k xs m. m) (st_bind needs inside e2 end (inr (inr (inl refl)))) (st_then (g_op e3 (op.NotNull flag done)) (st_fork needs inside e3 (op.NotNull flag done) done refl refl (inr (inr (inr (inl refl))))) (st_then f1_f2 (st_op needs inside f1 (op.Copy causes mine) (refl, refl)) (st_goto needs inside f2 pair done (inr (inr (inr (inr (inl refl))))) (inr (inr (inr (inl refl)))))))))
 
-  from_pair : Steady uses inside u f4
+  from_pair : Steady needs inside u f4
   from_pair =
-      st_on (λ k xs m. m) (st_bind uses inside u pair (inr (inr (inr (inr (inl refl)))))) (st_then (g_op u1 (op.Integer (pos 1) flag)) (st_op uses inside u1 (op.Integer (pos 1) flag) (refl, refl)) (st_then sifts.grows (tests_in sifts.steady) (st_then nests.grows (st_inside uses inside (places_of loops) [] (inner_used l loops) (λ k no. absurd no) nests.steady) behind)))
+      st_on (λ k xs m. m) (st_bind needs inside u pair (inr (inr (inr (inr (inl refl)))))) (st_then (g_op u1 (op.Integer (pos 1) flag)) (st_op needs inside u1 (op.Integer (pos 1) flag) (refl, refl)) (st_then sifts.grows (tests_in (checks_met l inner) sifts.steady) (st_then nests.grows (st_inside needs inside (inner_met l inner) (λ k no. absurd no) nests.steady) behind)))
 
-  turns : Steady uses inside b6 f4
+  turns : Steady needs inside b6 f4
   turns =
-      st_then (g_taken b6) (st_taken uses inside b6) (st_then (g_op z0 (op.Null flag)) (st_op uses inside z0 (op.Null flag) (refl, refl)) (st_then z_first (first-steady z c end uses inside l.path first among (inr (inr (inl refl))) comes) (st_on (λ k xs m. m) (st_bind uses inside first top (inr (inl refl))) (st_then (g_op d6 (op.Copy causes mine)) (st_op uses inside d6 (op.Copy causes mine) (refl, refl)) (st_then on_sifts.grows (tests_in on_sifts.steady) from_pair)))))
+      st_then (g_taken b6) (st_taken needs inside b6) (st_then (g_op z0 (op.Null flag)) (st_op needs inside z0 (op.Null flag) (refl, refl)) (st_then z_first (first-steady z c end needs inside l.path first own_needed (keys_met l inner) (inr (inr (inl refl))) comes) (st_on (λ k xs m. m) (st_bind needs inside first top (inr (inl refl))) (st_then (g_op d6 (op.Copy causes mine)) (st_op needs inside d6 (op.Copy causes mine) (refl, refl)) (st_then on_sifts.grows (tests_in tested on_sifts.steady) from_pair)))))
 
   kept_y : (k : ℕ) → HasPlace y k → HasPlace f4 k
   kept_y k is = has-bound f3 done k (has-bound e2 end k (has-bound y next k is))
@@ -294,9 +299,9 @@ module _ (a first u t y : Draft) (l : Loop) (ons : List BoundExpr) (loops : List
   end_placed : HasPlace f4 end
   end_placed = has-bound f3 done end (place-bound e2 end end_e)
 
-  pub steady_code : Steady uses [] a code
+  pub steady_code : Steady needs [] a code
   steady_code =
-      st_then a_f4 (st_made pair refl pair_placed (st_made done refl (place-bound f3 done done_f) (st_then (g_taken b2) (st_taken uses (done ∷ pair ∷ []) b2) (st_made end refl end_placed (st_made top refl top_placed (st_made next refl next_placed turns)))))) (st_released uses [] f4 flag)
+      st_then a_f4 (st_made pair refl pair_placed (st_made done refl (place-bound f3 done done_f) (st_then (g_taken b2) (st_taken needs (done ∷ pair ∷ []) b2) (st_made end refl end_placed (st_made top refl top_placed (st_made next refl next_placed turns)))))) (st_released needs [] f4 flag)
 
   -- ---- what it does
 
@@ -561,6 +566,6 @@ module _ (a first u t y : Draft) (l : Loop) (ons : List BoundExpr) (loops : List
     does : Triple m a code (λ h0. loop_steps l nK (environment_of m h0)) no_labels last started ended
     does = t_more (λ h0. loop_steps l nK (environment_of m h0)) enough all
 
-  pub alone-nest : Nests (l ∷ loops) a code lo causes (paired l (passing l.checks K)) (loop_steps l nK)
+  pub alone-nest : Nests (loop_needs l inner) (l ∷ loops) a code lo causes (paired l (passing l.checks K)) (loop_steps l nK)
   alone-nest =
-      nests_of (l ∷ loops) lo causes (paired l (passing l.checks K)) (λ h0 h. (h ≡ h0) × (Stand (l ∷ loops) h0.scene.cursors × Shut a.cursors h0.scene.cursors)) grows_code refl steady_code (λ h stand shut. (refl, (stand, shut))) (λ m placed. does m placed)
+      nests_of needs (l ∷ loops) lo causes (paired l (passing l.checks K)) (λ h0 h. (h ≡ h0) × (Stand (l ∷ loops) h0.scene.cursors × Shut a.cursors h0.scene.cursors)) grows_code refl steady_code (λ h stand shut. (refl, (stand, shut))) (λ m placed. does m placed)

@@ -1,22 +1,26 @@
 -- The code of a plan whose loops give the rows in its order: its cursors are opened, its loops stand between, and the cursors are closed.
-use Rattle.std.proofs.Common.{◌≡◌, ℕ, ◌+◌, ◌≤◌, ◌<◌, List, [], length, None, refl, sym, ap, ◌∙◌, subst, arith}
+use Rattle.std.proofs.Common.{◌≡◌, ℕ, ◌+◌, ◌≤◌, ◌<◌, All, List, [], ◌++◌, length, None, refl, sym, ap, ◌∙◌, subst, arith}
 use Rattle.std.specs.Prelude.{false, if◌then◌else◌}
 use Rattle.eng_value.specs.Arrangements.{arranged}
 use Rattle.eng_value.specs.Environments.{Environment, no_causes}
 use Rattle.gen_loop.specs.Loops.{at_row, each, from_cost, from_effect, gathered_steps, gathering, row_seen, sorted_steps}
-use Rattle.gen_loop.specs.Stretches.{AreSpread, ArePlaced, Nests, Stand, opened_all, places_of}
-use Rattle.gen_loop.proofs.Cursors.{IsAt, closed_again, cursors_opened, length-closed, length-opened, opened-cursors, opened-grows, opened-next, opens-loops, same-opened, shut-opened, st_closed, stand-opened, t_opens}
+use Rattle.gen_loop.specs.Needs.{NamesBelow, gathering_needs, plan_reads}
+use Rattle.gen_loop.specs.Stretches.{AreSpread, ArePlaced, Nests, Stand, opened_all}
+use Rattle.gen_loop.proofs.Cursors.{IsAt, closed_again, cursors_opened, length-closed, length-opened, opened-cursors, opened-grows, opened-next, same-opened, shut-opened, stand-opened, t_opens}
 use Rattle.gen_loop.proofs.Rules.{HasRoom, t_room}
 use Rattle.gen_loop.proofs.Spread.{placed-spread}
+use Rattle.gen_loop.proofs.Tables.{Tables, found-plan, names-nothing, opens-loops, st_closed}
 use Rattle.gen_loop.proofs.Turns.{t_nests}
 use Rattle.plan_tree.specs.Plans.{gathered, stands_before}
 use Rattle.plan_tree.specs.declared.access.JoinPlan.{JoinPlan}
 use Rattle.plan_tree.specs.declared.access.Loop.{Loop}
 use Rattle.vm_code.specs.declared.op.Op.TheVariants as op
+use Rattle.vm_code.specs.declared.open_cursor.Need.{Need}
 use Rattle.vm_code.specs.Draft.{Draft, with_op}
+use Rattle.vm_code.specs.Track.{Meets, OpenSet}
 use Rattle.vm_code.specs.Tracked.{Steady}
 use Rattle.vm_code.specs.Machine.{Cursor, Scene, Setting, closed_from, current, held, read, world_of}
-use Rattle.vm_code.specs.Frames.{Does, Done, Effect, Grows, Here, Shut, Sight, effect_at, environment_of, memory_of, no_calls, sight_of}
+use Rattle.vm_code.specs.Frames.{Does, Done, Effect, Grows, Here, Shut, Sight, effect_at, environment_of, memory_of, needing, sight_of}
 use Rattle.vm_code.specs.Claims.{Claim, Last, Triple}
 use Rattle.vm_code.proofs.Drafts.{g_op, grows_then}
 use Rattle.vm_code.proofs.Effects.{EndsDone, EndsFailed, does_of}
@@ -44,7 +48,7 @@ t_begins m e loops a =
     let all = t_opens m no_labels e loops a (λ h0. h0.scene.cursors) in
     record { extends = all.extends; runs = λ u at h h0 s room start pre. exits_by m at (length loops) (λ l. no_labels l h0) (e h0) s (length (opened_all a loops).code) (IsAt (λ h0. cursors_opened loops h0.scene.cursors) h0) (opened_now loops h0) (λ h is. (is, pre.1)) (all.runs u at h h0 s room start pre.0) }
 
-module _ (a y : Draft) (loops : List Loop) (lo : ℕ) (E : Effect) (nE : Environment → ℕ) (first : a.cursors ≡ 0) (spread : AreSpread loops) (nests : Nests loops (opened_all a loops) y lo 0 E nE) where
+module _ {inner : List Need} (a y : Draft) (loops : List Loop) (lo : ℕ) (E : Effect) (nE : Environment → ℕ) (first : a.cursors ≡ 0) (spread : AreSpread loops) (nests : Nests inner loops (opened_all a loops) y lo 0 E nE) (reads : List Need) (found : NamesBelow (length loops) reads → (ys : OpenSet) → Tables (length loops) ys → All (Meets ys) inner) where
   abbrev b : Draft
   b = opened_all a loops
 
@@ -60,9 +64,12 @@ module _ (a y : Draft) (loops : List Loop) (lo : ℕ) (E : Effect) (nE : Environ
   grows_code : Grows a code
   grows_code = grows_then (opened-grows loops a) (grows_then nests.grows (g_op y (op.CloseFrom 0)))
 
-  steady_code : Steady [] [] a code
+  pub loops-steady : NamesBelow (length loops) reads → Steady [] [] a code
+  loops-steady names = st_closed a b y first (opens-loops loops a spread) (λ met. found names) nests.steady
+
+  steady_code : Steady reads [] a code
   steady_code =
-      st_closed a b y (places_of loops) first (opens-loops loops a (subst (λ n. ArePlaced n loops) (opened-cursors loops a) placed)) nests.steady
+      st_closed a b y first (opens-loops loops a spread) (λ met. found (names-nothing (length loops) reads met)) nests.steady
 
   module _ (m : Setting) where
     abbrev last : Last
@@ -119,12 +126,19 @@ module _ (a y : Draft) (loops : List Loop) (lo : ℕ) (E : Effect) (nE : Environ
     whole =
         t_more (λ h0. length loops + 1 + nE (environment_of m h0)) (λ h0. omega arith) (t_seq (t_seq (t_begins m last loops a) rows) closes)
 
-  pub loops-do : Does no_calls a code lo 0 None E (λ sight causes x. length loops + 1 + nE sight.env)
+  pub loops-do : Does (needing reads) a code lo 0 None E (λ sight causes x. length loops + 1 + nE sight.env)
   loops-do =
       does_of lo 0 None E begun grows_code (nests.next ∙ opened-next loops a) steady_code (λ h shut. (refl, subst (λ n. Shut n h.scene.cursors) first shut)) (λ m called. whole m)
 
 -- a plan whose rows are not sorted
-module _ (a y : Draft) (p : JoinPlan) (lo : ℕ) (F : Effect) (most : ℕ) (unsorted : p.sort ≡ false) (first : a.cursors ≡ 0) (nests : Nests p.loops (opened_all a p.loops) y lo 0 (gathering p F) (gathered_steps p most)) where
-  pub plan-does : AreSpread p.loops → Does no_calls a (with_op y (op.CloseFrom 0)) lo 0 None (from_effect p F) (from_cost p most)
+module _ (a y : Draft) (p : JoinPlan) (body : List Need) (lo : ℕ) (F : Effect) (most : ℕ) (unsorted : p.sort ≡ false) (first : a.cursors ≡ 0) (nests : Nests (gathering_needs p body) p.loops (opened_all a p.loops) y lo 0 (gathering p F) (gathered_steps p most)) where
+  abbrev plan_needs : List Need
+  plan_needs = plan_reads p ++ body
+
+  pub plan-steady : AreSpread p.loops → NamesBelow (length p.loops) (plan_reads p ++ body) → Steady [] [] a (with_op y (op.CloseFrom 0))
+  plan-steady spread names =
+      loops-steady a y p.loops lo (gathering p F) (gathered_steps p most) first spread nests plan_needs (found-plan p body spread) names
+
+  pub plan-does : AreSpread p.loops → Does (needing (plan_reads p ++ body)) a (with_op y (op.CloseFrom 0)) lo 0 None (from_effect p F) (from_cost p most)
   plan-does spread =
-      subst (λ b. Does no_calls a (with_op y (op.CloseFrom 0)) lo 0 None (λ sight causes x. each (at_row F sight) (if b then arranged (stands_before (length p.loops)) (gathered sight.env p (row_seen sight no_causes)) else gathered sight.env p (row_seen sight no_causes)) x) (λ sight causes x. length p.loops + 1 + (if b then sorted_steps p most sight.env else gathered_steps p most sight.env))) (sym unsorted) (loops-do a y p.loops lo (gathering p F) (gathered_steps p most) first spread nests)
+      subst (λ b. Does (needing plan_needs) a (with_op y (op.CloseFrom 0)) lo 0 None (λ sight causes x. each (at_row F sight) (if b then arranged (stands_before (length p.loops)) (gathered sight.env p (row_seen sight no_causes)) else gathered sight.env p (row_seen sight no_causes)) x) (λ sight causes x. length p.loops + 1 + (if b then sorted_steps p most sight.env else gathered_steps p most sight.env))) (sym unsorted) (loops-do a y p.loops lo (gathering p F) (gathered_steps p most) first spread nests plan_needs (found-plan p body spread))

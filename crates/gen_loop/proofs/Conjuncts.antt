@@ -15,20 +15,24 @@ use Rattle.eng_value.specs.declared.truth.Truth.{Truth}
 use Rattle.eng_value.specs.declared.truth.Truth.TheVariants as truth
 use Rattle.eng_value.specs.declared.value.Value.{Value}
 use Rattle.eng_value.specs.declared.value.Value.TheVariants.{Null, Integer, Text, Blob}
+use Rattle.gen_expr.specs.Needs.{needs_of}
 use Rattle.gen_expr.specs.Steps.{steps_of}
 use Rattle.gen_loop.specs.Loops.{conjuncts_steps}
+use Rattle.gen_loop.specs.Needs.{conjuncts_read}
+use Rattle.gen_loop.proofs.Places.{front_met, last_met}
 use Rattle.sql_meaning.specs.Expression.{value_of}
 use Rattle.sql_meaning.specs.Products.{after_conjunct, if_some, sifted}
 use Rattle.bound_tree.specs.Exprs.{BoundExpr}
 use Rattle.vm_code.specs.declared.op.Op.TheVariants as op
+use Rattle.vm_code.specs.declared.open_cursor.Need.{Need}
 use Rattle.vm_code.specs.Draft.{Draft, with_op, taken, given_back}
 use Rattle.vm_code.specs.Tracked.{Steady}
 use Rattle.vm_code.specs.Machine.{Setting, read, is_false, is_rejected}
-use Rattle.vm_code.specs.Frames.{Grows, Here, environment_of, Leaves, Sifts, no_calls}
+use Rattle.vm_code.specs.Frames.{Grows, Here, environment_of, Leaves, Sifts, needing}
 use Rattle.vm_code.specs.Claims.{Claim, Labels, Triple}
 use Rattle.vm_code.proofs.Drafts.{grows_then, g_op, g_taken, g_given_back}
-use Rattle.vm_code.proofs.Tracks.{st_fork, st_given_back, st_inner, st_op, st_taken, st_then}
-use Rattle.vm_code.proofs.Sifting.{sifts_of, sifts_same, sifts_then}
+use Rattle.vm_code.proofs.Tracks.{st_fork, st_given_back, st_op, st_taken, st_then, st_within}
+use Rattle.vm_code.proofs.Sifting.{sifts_of, sifts_same, sifts_then, sifts_wider}
 use Rattle.vm_code.proofs.Triples.{no_labels, no_last, with_claim, t_seq, t_more, t_draft, t_test}
 use Rattle.vm_code.proofs.Effects.{t_put, t_leaves, But, but_none, but_regs, but_env}
 
@@ -76,13 +80,16 @@ rejected_truth (truth.Failed why) causes e = cc
 
 -- ---- one conjunct
 
-module _ (a c : Draft) (conjunct : BoundExpr) (value causes label : ℕ) (v_is : value ≡ a.next) (x : Leaves no_calls (taken a) c value (λ env. truth_of (value_of conjunct env)) (λ env. steps_of conjunct + 1)) (below : causes < a.next) where
+module _ (a c : Draft) (conjunct : BoundExpr) (value causes label : ℕ) (v_is : value ≡ a.next) (x : Leaves (needing (needs_of conjunct)) (taken a) c value (λ env. truth_of (value_of conjunct env)) (λ env. steps_of conjunct + 1)) (below : causes < a.next) where
   abbrev jumped : Draft
   jumped = with_op c (op.IfNot value label true)
 
   -- the causes are added to those that their register holds
   abbrev adding : Draft
   adding = with_op jumped (op.Merge value causes)
+
+  abbrev needs : List Need
+  needs = needs_of conjunct
 
   abbrev outside : List ℕ
   outside = label ∷ []
@@ -144,11 +151,11 @@ module _ (a c : Draft) (conjunct : BoundExpr) (value causes label : ℕ) (v_is :
   grows_test =
       grows_then (g_taken a) (grows_then x.grows (grows_then (g_op c (op.IfNot value label true)) (grows_then (g_op jumped (op.Merge value causes)) (g_given_back adding))))
 
-  steady_test : Steady [] outside a (given_back adding)
+  steady_test : Steady needs outside a (given_back adding)
   steady_test =
-      st_then (g_taken a) (st_taken [] outside a) (st_then x.grows (st_inner [] outside x.steady) (st_then (g_op c (op.IfNot value label true)) (st_fork [] outside c (op.IfNot value label true) label refl refl (inl refl)) (st_then (g_op jumped (op.Merge value causes)) (st_op [] outside jumped (op.Merge value causes) (refl, refl)) (st_given_back [] outside adding))))
+      st_then (g_taken a) (st_taken needs outside a) (st_then x.grows (st_within outside (λ xs met. met) x.steady) (st_then (g_op c (op.IfNot value label true)) (st_fork needs outside c (op.IfNot value label true) label refl refl (inl refl)) (st_then (g_op jumped (op.Merge value causes)) (st_op needs outside jumped (op.Merge value causes) (refl, refl)) (st_given_back needs outside adding))))
 
-  pub sifts_conjunct : Sifts no_calls a (given_back adding) causes label (λ env found. after_conjunct found (truth_in (truth_of (value_of conjunct env)))) (λ env. steps_of conjunct + 3)
+  pub sifts_conjunct : Sifts (needing (needs_of conjunct)) a (given_back adding) causes label (λ env found. after_conjunct found (truth_in (truth_of (value_of conjunct env)))) (λ env. steps_of conjunct + 3)
   sifts_conjunct =
       sifts_of causes label sifted_by started grows_test (omega (arith, x.next)) steady_test (λ h. (but_none a.next causes h, refl)) (λ m called. tests m)
 
@@ -184,6 +191,7 @@ steps_last : (cs : List BoundExpr) (c : BoundExpr) → conjuncts_steps cs + (ste
 steps_last cs c = sym (sum_by_push (λ d. steps_of d + 3) cs c)
 
 -- a conjunct more
-pub sifts_more : {a b z : Draft} (causes label : ℕ) (cs : List BoundExpr) (c : BoundExpr) → Sifts no_calls a b causes label (λ env. sifted cs env) (λ env. conjuncts_steps cs) → Sifts no_calls b z causes label (λ env found. after_conjunct found (truth_in (truth_of (value_of c env)))) (λ env. steps_of c + 3) → Sifts no_calls a z causes label (λ env. sifted (cs ++ c ∷ []) env) (λ env. conjuncts_steps (cs ++ c ∷ []))
+pub sifts_more : {a b z : Draft} (causes label : ℕ) (cs : List BoundExpr) (c : BoundExpr) → Sifts (needing (conjuncts_read cs)) a b causes label (λ env. sifted cs env) (λ env. conjuncts_steps cs) → Sifts (needing (needs_of c)) b z causes label (λ env found. after_conjunct found (truth_in (truth_of (value_of c env)))) (λ env. steps_of c + 3) → Sifts (needing (conjuncts_read (cs ++ c ∷ []))) a z causes label (λ env. sifted (cs ++ c ∷ []) env) (λ env. conjuncts_steps (cs ++ c ∷ []))
 sifts_more causes label cs c x y =
-    sifts_same causes label (λ env v. option_and_then (by_conjunct c env) (sifted cs env v)) (λ env. sifted (cs ++ c ∷ []) env) (λ env. conjuncts_steps (cs ++ c ∷ [])) (λ env v. and_then-if_some (sifted cs env v) (by_conjunct c env) ∙ sifted_last cs c env v) (λ env. steps_last cs c) (sifts_then causes label (λ env. sifted cs env) (λ env. by_conjunct c env) x y)
+    let all = conjuncts_read (cs ++ c ∷ []) in
+    sifts_same causes label (λ env v. option_and_then (by_conjunct c env) (sifted cs env v)) (λ env. sifted (cs ++ c ∷ []) env) (λ env. conjuncts_steps (cs ++ c ∷ [])) (λ env v. and_then-if_some (sifted cs env v) (by_conjunct c env) ∙ sifted_last cs c env v) (λ env. steps_last cs c) (sifts_then causes label (λ env. sifted cs env) (λ env. by_conjunct c env) (sifts_wider all (λ xs met. front_met xs needs_of cs c met) x) (sifts_wider all (λ xs met. last_met xs needs_of cs c met) y))

@@ -1,25 +1,19 @@
--- Cursors that are opened in the places of loops, and closed at once.
-use Rattle.std.proofs.Common.{◌≡◌, ℕ, zero, suc, ◌+◌, ◌≤◌, Contains, List, [], ◌∷◌, ◌++◌, cond, get_or, length, map, Some, None, refl, sym, ap, ◌∙◌, subst, arith, append_assoc, append-nil, ⊎_elim}
-use Rattle.std.specs.Prelude.{All, slice_get, slice_set}
+-- Cursors that are opened in the places of loops, and closed at once, in drafts and frames.
+use Rattle.std.proofs.Common.{◌≡◌, ℕ, zero, suc, ◌+◌, ◌≤◌, List, [], ◌∷◌, ◌++◌, get_or, length, map, None, refl, sym, ap, ◌∙◌, arith, ⊎_elim}
+use Rattle.std.specs.Prelude.{slice_set}
 use Rattle.std.proofs.Math.ListN.{get_or-map, length-set}
 use Rattle.std.proofs.Math.Seq.{map-set_same}
-use Rattle.std.proofs.lemmas.Bool.{le-ltb}
 use Rattle.std.proofs.lemmas.List.{get_or-set_other, get_or-set_same}
-use Rattle.std.proofs.lemmas.List.Elements.{All-cons, All-nil, Contains-append_left, Contains-push, Contains-push_cases}
 use Rattle.gen_loop.specs.Stretches.{Apart, ArePlaced, Stand, opened_all, opened_each, places_of, with_cursors}
 use Rattle.plan_tree.specs.declared.access.Loop.{Loop}
 use Rattle.vm_code.specs.declared.op.Op.TheVariants as op
-use Rattle.vm_code.specs.declared.way.Way.TheVariants as way
 use Rattle.vm_code.specs.Draft.{Draft, with_op}
-use Rattle.vm_code.specs.Track as track
-use Rattle.vm_code.specs.Track.{OpenSet, behind}
-use Rattle.vm_code.specs.Tracked.{Among, AreBelow, IsTracked, Steady}
+use Rattle.vm_code.specs.Tracked.{Among}
 use Rattle.vm_code.specs.Machine.{Cursor, Closed, Open, Setting, closed_from, cursor_at}
 use Rattle.vm_code.specs.Frames.{Grows, Here, Shut}
 use Rattle.vm_code.specs.Claims.{Claim, Labels, Last, Triple}
 use Rattle.vm_code.proofs.Drafts.{g_op, g_registers, grows_none, grows_then}
 use Rattle.vm_code.proofs.Loops.{moved}
-use Rattle.vm_code.proofs.Tracks.{tracked_op, tracked_registers, uses_none}
 use Rattle.vm_code.proofs.Triples.{t_draft, t_more, t_op, t_seq}
 
 -- ---- drafts
@@ -51,6 +45,9 @@ opened-most loops d = each-same (λ (d : Draft). d.most) (λ d place table. refl
 
 pub opened-labels : (loops : List Loop) (d : Draft) → (opened_all d loops).labels ≡ d.labels
 opened-labels loops d = each-same (λ (d : Draft). d.labels) (λ d place table. refl) loops (with_cursors d (length loops))
+
+pub opened-units : (loops : List Loop) (d : Draft) → (opened_all d loops).units ≡ d.units
+opened-units loops d = each-same (λ (d : Draft). d.units) (λ d place table. refl) loops (with_cursors d (length loops))
 
 -- one more behind the others
 pub opened-push : (loops : List Loop) (l : Loop) (d : Draft) → opened_each d (loops ++ l ∷ []) ≡ with_op (opened_each d loops) (op.OpenRead l.place l.table)
@@ -136,71 +133,3 @@ t_each m g e (l ∷ loops) d f =
 pub t_opens : (m : Setting) (g : Labels) (e : Last) (loops : List Loop) (d : Draft) (f : Here → List Cursor) → Triple m d (opened_all d loops) (λ h0. length loops) g e (IsAt f) (IsAt (λ h0. cursors_opened loops (f h0)))
 t_opens m g e loops d f =
     t_more (λ h0. length loops) (λ h0. omega arith) (t_seq (t_draft m g e (IsAt f) (g_cursors d (length loops)) refl) (t_each m g e loops (with_cursors d (length loops)) f))
-
--- ---- what is open
-
-each-tracked : (loops : List Loop) (d : Draft) (n : ℕ) (xs : OpenSet) → n ≤ d.cursors → ArePlaced n loops → d.track.now ≡ Some xs → IsTracked d → ((opened_each d loops).track.now ≡ Some (xs ++ places_of loops)) × IsTracked (opened_each d loops)
-each-tracked [] d n xs le placed is t = (is ∙ ap Some (sym (append-nil xs)), t)
-each-tracked (l ∷ loops) d n xs le placed is t =
-    let c = l.place in
-    let o = op.OpenRead c l.table in
-    let d1 = with_op d o in
-    let ys : OpenSet = xs ++ c ∷ [] in
-    let more : AreBelow d.cursors ys = λ k h. ⊎_elim (λ old. t.now xs is k old) (λ same. omega (arith, same, placed.0, le)) (Contains-push_cases xs c k h) in
-    let reads : IsTracked d1 = tracked_op d o xs t is (uses_none o xs refl) (λ k e. cc) (λ zs e. let same : Some ys ≡ Some zs = e in subst (AreBelow d.cursors) (cc) more) in
-    let rest = each-tracked loops d1 n ys le placed.3 (ap (behind (way.Opens c)) is) reads in
-    (rest.0 ∙ ap Some (append_assoc xs (c ∷ []) (places_of loops)), rest.1)
-
--- the cursors of loops are among those
-used-each : (loops : List Loop) (xs : OpenSet) → All (Contains (xs ++ places_of loops)) (places_of loops)
-used-each [] xs = All-nil (Contains (xs ++ []))
-used-each (l ∷ loops) xs =
-    let c = l.place in
-    let ys : OpenSet = xs ++ c ∷ [] in
-    let same = append_assoc xs (c ∷ []) (places_of loops) in
-    let first : Contains (ys ++ places_of loops) c = Contains-append_left ys (places_of loops) c (Contains-push xs c) in
-    let all = All-cons (Contains (ys ++ places_of loops)) c (places_of loops) first (used-each loops ys) in
-    subst (λ zs. All (Contains zs) (places_of (l ∷ loops))) same all
-
--- code opens cursors, whatever was open, and code that uses those may stand behind it
-pub record Opens (a z : Draft) (uses : List ℕ) : Type 0 where
-  pub labels : z.labels ≡ a.labels
-  pub opens : (xs : OpenSet) → a.track.now ≡ Some xs → IsTracked a → (ys : OpenSet) × (z.track.now ≡ Some ys) × All (Contains ys) uses × IsTracked z
-
-pub opens-loops : (loops : List Loop) (a : Draft) → ArePlaced (a.cursors + length loops) loops → Opens a (opened_all a loops) (places_of loops)
-opens-loops loops a placed = record {
-  labels = opened-labels loops a;
-  opens = λ xs is t.
-      let n = length loops in
-      let wide : IsTracked (with_cursors a n) = tracked_registers a a.next a.most (a.cursors + n) (omega arith) t in
-      let all = each-tracked loops (with_cursors a n) (a.cursors + n) xs (omega arith) placed is wide in
-      (xs ++ places_of loops, all.0, used-each loops xs, all.1);
-}
-
-none_below : (xs : OpenSet) → AreBelow 0 xs → xs ≡ []
-none_below [] below = refl
-none_below (x ∷ xs) below = absurd (let lt = below x (0, omega arith, refl) in omega (arith, lt))
-
-none_left : (xs : OpenSet) → track.closed_from 0 xs ≡ []
-none_left [] = refl
-none_left (x ∷ xs) = ap (λ b. cond b (x ∷ track.closed_from 0 xs) (track.closed_from 0 xs)) (le-ltb x 0 (omega arith)) ∙ none_left xs
-
--- code between the opening of cursors, which are the first ones, and the closing of all
-pub st_closed : (a z y : Draft) (uses : List ℕ) → a.cursors ≡ 0 → Opens a z uses → Steady uses [] z y → Steady [] [] a (with_op y (op.CloseFrom 0))
-st_closed a z y uses first opens body = record {
-  keeps = λ l is. body.keeps l (subst (λ ls. (place : ℕ) × (slice_get ls l ≡ Some (Some place))) (sym opens.labels) is);
-  made = λ l le lt. body.made l (omega (arith, le, ap length opens.labels)) lt;
-  stays = λ xs is used t marks.
-      let close = op.CloseFrom 0 in
-      let before = opens.opens xs is t in
-      let now = body.stays before.0 before.1 before.2 before.3 (λ l no. absurd no) in
-      let none = none_below xs (subst (λ n. AreBelow n xs) first (t.now xs is)) in
-      let back : track.closed_from 0 before.0 ≡ xs = none_left before.0 ∙ sym none in (
-        ap (behind (way.ClosesFrom 0)) now.0 ∙ ap Some back,
-        tracked_op y close before.0 now.1 now.0 (uses_none close before.0 refl) (λ l e. cc) (λ zs e k h.
-            let same : Some (track.closed_from 0 before.0) ≡ Some zs = e in
-            let is : track.closed_from 0 before.0 ≡ zs = cc in
-            let left : zs ≡ [] = sym is ∙ none_left before.0 in
-            absurd (let lt = (subst (λ (v : OpenSet). Contains v k) left h).1 in omega (arith, lt))),
-      );
-}

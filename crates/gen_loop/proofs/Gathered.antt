@@ -1,13 +1,13 @@
 -- The loops of a plan behind its checks.
-use Rattle.std.proofs.Common.{Contains, ◌≡◌, ℕ, ◌+◌, ◌≤◌, ◌<◌, List, [], ◌∷◌, length, Some, None, refl, sym, ap, ◌∙◌, subst, arith, inl}
+use Rattle.std.proofs.Common.{◌≡◌, ℕ, ◌+◌, ◌≤◌, ◌<◌, List, [], ◌∷◌, ◌++◌, length, Some, None, refl, sym, ap, ◌∙◌, subst, arith, inl}
 use Rattle.std.specs.Prelude.{slice_get, slice_set}
 use Rattle.std.proofs.Math.ListN.{length-set}
 use Rattle.std.proofs.lemmas.List.{get_or-set_other, get_or-set_same}
-use Rattle.std.proofs.lemmas.List.Elements.{All-nil}
 use Rattle.eng_value.specs.Environments.{no_causes}
 use Rattle.eng_value.specs.declared.out.Out.{Out}
 use Rattle.gen_loop.specs.Loops.{KeepsWritten, conjuncts_steps, gathered_steps, gathering, nested, nested_steps, passing}
-use Rattle.gen_loop.specs.Stretches.{ArePlaced, Nests, Stand, places_of}
+use Rattle.gen_loop.specs.Needs.{conjuncts_read}
+use Rattle.gen_loop.specs.Stretches.{ArePlaced, Nests, Stand}
 use Rattle.gen_loop.proofs.Ordered.{from-nested, nested-keeps, passing-none, passing-some}
 use Rattle.gen_loop.proofs.Places.{st_inside}
 use Rattle.gen_loop.proofs.Turns.{memory-same, nests_of, t_nests, t_tests}
@@ -15,13 +15,15 @@ use Rattle.plan_tree.specs.declared.access.JoinPlan.{JoinPlan}
 use Rattle.plan_tree.specs.declared.access.Loop.{Loop}
 use Rattle.sql_meaning.specs.Products.{sifted}
 use Rattle.vm_code.specs.declared.op.Op.TheVariants as op
+use Rattle.vm_code.specs.declared.open_cursor.Need.{Need}
 use Rattle.vm_code.specs.Draft.{Draft, bound, released, taken, with_label, with_op}
 use Rattle.vm_code.specs.Tracked.{Steady}
 use Rattle.vm_code.specs.Machine.{Scene, Setting, read}
-use Rattle.vm_code.specs.Frames.{Done, Effect, Fails, Grows, Here, Memory, Outcome, Shut, Sifts, Sight, effect_at, environment_of, memory_of, no_calls, sight_of, with_regs}
+use Rattle.vm_code.specs.Frames.{Done, Effect, Fails, Grows, Here, Memory, Outcome, Shut, Sifts, Sight, effect_at, environment_of, memory_of, needing, sight_of, with_regs}
 use Rattle.vm_code.specs.Claims.{Claim, Labels, Last, Triple}
 use Rattle.vm_code.proofs.Drafts.{g_bound, g_label, g_op, g_released, g_taken, grows_then, open_new}
 use Rattle.vm_code.proofs.Effects.{EndsDone, EndsFailed, Keeps}
+use Rattle.vm_code.proofs.Meeting.{met_left, met_right}
 use Rattle.vm_code.proofs.Tracks.{st_label, st_op, st_released, st_taken, st_then}
 use Rattle.vm_code.proofs.Triples.{no_labels, t_bind, t_draft, t_more, t_op, t_seq, t_use, with_claim}
 
@@ -29,7 +31,7 @@ use Rattle.vm_code.proofs.Triples.{no_labels, t_bind, t_draft, t_more, t_op, t_s
 abbrev pub checking : Draft → Draft
 checking a = with_op (taken (with_label a)) (op.Null a.next)
 
-module _ (a t y : Draft) (p : JoinPlan) (lo : ℕ) (F : Effect) (most : ℕ) (keeps : KeepsWritten F) (lo_le : lo ≤ a.next) (sifts : Sifts no_calls (checking a) t a.next (length a.labels) (sifted p.checks) (λ env. conjuncts_steps p.checks)) (wide : t.cursors ≡ a.cursors) (nests : Nests p.loops t y lo a.next (nested p.loops F) (nested_steps p.loops most)) where
+module _ {inner : List Need} (a t y : Draft) (p : JoinPlan) (lo : ℕ) (F : Effect) (most : ℕ) (keeps : KeepsWritten F) (lo_le : lo ≤ a.next) (sifts : Sifts (needing (conjuncts_read p.checks)) (checking a) t a.next (length a.labels) (sifted p.checks) (λ env. conjuncts_steps p.checks)) (wide : t.cursors ≡ a.cursors) (nests : Nests inner p.loops t y lo a.next (nested p.loops F) (nested_steps p.loops most)) where
   abbrev loops : List Loop
   loops = p.loops
 
@@ -72,18 +74,18 @@ module _ (a t y : Draft) (p : JoinPlan) (lo : ℕ) (F : Effect) (most : ℕ) (ke
   grows_code : Grows a code
   grows_code = grows_then a_e1 (g_released e1 causes)
 
-  abbrev uses : List ℕ
-  uses = places_of loops
+  abbrev needs : List Need
+  needs = conjuncts_read p.checks ++ inner
 
   abbrev inside : List ℕ
   inside = end ∷ []
 
-  between : Steady uses [] a e1
+  between : Steady needs [] a e1
   between =
-      st_label end refl b1_y (st_then (g_taken b1) (st_taken uses inside b1) (st_then (g_op b2 (op.Null causes)) (st_op uses inside b2 (op.Null causes) (refl, refl)) (st_then sifts.grows (st_inside uses inside [] inside (λ xs h. All-nil (Contains xs)) (λ k among. among) sifts.steady) (st_inside uses inside uses [] (λ xs h. h) (λ k no. absurd no) nests.steady))))
+      st_label end refl b1_y (st_then (g_taken b1) (st_taken needs inside b1) (st_then (g_op b2 (op.Null causes)) (st_op needs inside b2 (op.Null causes) (refl, refl)) (st_then sifts.grows (st_inside needs inside (λ xs met. met_left xs (conjuncts_read p.checks) inner met) (λ k among. among) sifts.steady) (st_inside needs inside (λ xs met. met_right xs (conjuncts_read p.checks) inner met) (λ k no. absurd no) nests.steady))))
 
-  steady_code : Steady uses [] a code
-  steady_code = st_then a_e1 between (st_released uses [] e1 causes)
+  steady_code : Steady needs [] a code
+  steady_code = st_then a_e1 between (st_released needs [] e1 causes)
 
   module _ (m : Setting) (placed : ArePlaced a.cursors loops) where
     abbrev last : Last
@@ -208,6 +210,6 @@ module _ (a t y : Draft) (p : JoinPlan) (lo : ℕ) (F : Effect) (most : ℕ) (ke
         let ends : Triple m e1 code (λ h0. 0) no_labels last finished done = t_use finished done (λ h0 h w. w) (λ h0 h w. (w.regs, w.scene, w.left)) (t_draft m no_labels last finished (g_released e1 causes) refl) in
         t_more (λ h0. gathered_steps p most (environment_of m h0)) (λ h0. omega arith) (t_seq (t_seq clears middle) ends)
 
-  pub gathered-nest : Nests p.loops a (released (bound y (length a.labels)) a.next) lo 0 (gathering p F) (gathered_steps p most)
+  pub gathered-nest : Nests (conjuncts_read p.checks ++ inner) p.loops a (released (bound y (length a.labels)) a.next) lo 0 (gathering p F) (gathered_steps p most)
   gathered-nest =
-      nests_of p.loops lo 0 (gathering p F) (λ h0 h. (h ≡ h0) × (Stand p.loops h0.scene.cursors × Shut a.cursors h0.scene.cursors)) grows_code refl steady_code (λ h stand shut. (refl, (stand, shut))) (λ m placed. whole m placed)
+      nests_of needs p.loops lo 0 (gathering p F) (λ h0 h. (h ≡ h0) × (Stand p.loops h0.scene.cursors × Shut a.cursors h0.scene.cursors)) grows_code refl steady_code (λ h stand shut. (refl, (stand, shut))) (λ m placed. whole m placed)

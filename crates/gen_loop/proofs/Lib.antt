@@ -13,6 +13,7 @@ pub mod Gathered
 pub mod Rules
 pub mod Spread
 pub mod Cursors
+pub mod Tables
 pub mod Around
 -- Rows that are put into a sorter, and walked in the order of the FROM with each cursor back on its row:
 pub mod Giving

@@ -1,15 +1,15 @@
 -- A loop in which each row that is visited makes a pair.
 use Rattle.std.proofs.Common.{◌≡◌, ◌≢◌, ℕ, ◌+◌, ◌≤◌, ◌<◌, Contains, List, [], ◌∷◌, length, map, sum_by, Some, None, refl, sym, ap, ◌∙◌, subst, arith, inl, inr, ⊎_elim}
 use Rattle.std.specs.Prelude.{slice_get, slice_set}
-use Rattle.std.proofs.lemmas.List.Elements.{All-nil}
 use Rattle.eng_value.specs.Environments.{Environment, ItemRow, table_row}
 use Rattle.eng_value.specs.StoredRows.{StoredRow}
 use Rattle.eng_value.specs.Written.{Written}
 use Rattle.eng_value.specs.declared.out.Out.{Out}
 use Rattle.gen_loop.specs.Loops.{KeepsWritten, alone_steps, conjuncts_steps, each, loop_steps, paired, passing, path_steps, turn_steps}
-use Rattle.gen_loop.specs.Stretches.{ArePlaced, Comes, Nests, Stand, places_of}
+use Rattle.gen_loop.specs.Needs.{conjuncts_read, loop_needs}
+use Rattle.gen_loop.specs.Stretches.{ArePlaced, Comes, Nests, Stand}
 use Rattle.gen_loop.proofs.Paths.{OnPath, first-cursors, first-grows, first-next, first-steady, on_path, sees_off, sees_row, t_path}
-use Rattle.gen_loop.proofs.Places.{inner_used, loop_uses, st_inside, sums-le}
+use Rattle.gen_loop.proofs.Places.{checks_met, inner_met, keys_met, loop_moves, st_inside, sums-le}
 use Rattle.gen_loop.proofs.Turns.{OwesPairs, at_pair, nests_of, outer_row, owes_moved, owes_none, owes_other, owes_regs, owes_start, pair_due, pair_done, t_pair}
 use Rattle.plan_tree.specs.Plans.{paired_with, visited_by}
 use Rattle.plan_tree.specs.Visits.{at_item, visited}
@@ -17,10 +17,12 @@ use Rattle.plan_tree.specs.declared.access.Loop.{Loop}
 use Rattle.plan_tree.specs.declared.access.Pairs.TheVariants.{Each}
 use Rattle.sql_meaning.specs.Products.{FromRow, sifted, with_item}
 use Rattle.vm_code.specs.declared.op.Op.TheVariants as op
+use Rattle.vm_code.specs.declared.open_cursor.Need.{Need}
+use Rattle.vm_code.specs.declared.open_cursor.Need.TheVariants as need
 use Rattle.vm_code.specs.Draft.{Draft, with_op, with_label, bound, taken, released}
 use Rattle.vm_code.specs.Tracked.{HasPlace, Steady}
 use Rattle.vm_code.specs.Machine.{Cursor, Open, Setting, read, rows_of, world_of}
-use Rattle.vm_code.specs.Frames.{Here, with_regs, environment_of, sight_of, Sight, memory_of, Effect, Grows, Shut, Sifts, no_calls}
+use Rattle.vm_code.specs.Frames.{Here, with_regs, environment_of, sight_of, Sight, memory_of, Effect, Grows, Shut, Sifts, needing}
 use Rattle.vm_code.specs.Claims.{Claim, Labels, Last, Triple}
 use Rattle.vm_code.proofs.Drafts.{g_bound, g_label, g_op, g_released, g_taken, grows_then, long_label, open_new, open_old, open_other}
 use Rattle.vm_code.proofs.Loops.{At}
@@ -56,7 +58,7 @@ pub top-open : (a first : Draft) (l : Loop) → Comes (opening a) first l.place 
 top-open a first l comes =
     (first-grows (opening a) l.place (end_of a) l.path first comes).open_labels (top_of a) (open_old (with_label (with_label a)) (top_of a) (open_new (with_label a)))
 
-module _ (a first t y : Draft) (l : Loop) (loops : List Loop) (lo causes : ℕ) (K : Effect) (keeps : KeepsWritten K) (nK : Environment → ℕ) (is_each : l.pairs ≡ Each) (lo_le : lo ≤ causes) (causes_lt : causes < a.next) (comes : Comes (opening a) first l.place (end_of a) l.path) (sifts : Sifts no_calls (at_turn first a (top_of a) causes a.next) t a.next (next_of a) (sifted l.checks) (λ env. conjuncts_steps l.checks)) (wide : t.cursors ≡ (at_turn first a (top_of a) causes a.next).cursors) (nests : Nests loops t y lo a.next K nK) where
+module _ {inner : List Need} (a first t y : Draft) (l : Loop) (loops : List Loop) (lo causes : ℕ) (K : Effect) (keeps : KeepsWritten K) (nK : Environment → ℕ) (is_each : l.pairs ≡ Each) (lo_le : lo ≤ causes) (causes_lt : causes < a.next) (comes : Comes (opening a) first l.place (end_of a) l.path) (sifts : Sifts (needing (conjuncts_read l.checks)) (at_turn first a (top_of a) causes a.next) t a.next (next_of a) (sifted l.checks) (λ env. conjuncts_steps l.checks)) (wide : t.cursors ≡ (at_turn first a (top_of a) causes a.next).cursors) (nests : Nests inner loops t y lo a.next K nK) where
   abbrev c : ℕ
   c = l.place
 
@@ -154,18 +156,18 @@ module _ (a first t y : Draft) (l : Loop) (loops : List Loop) (lo causes : ℕ) 
 
   -- ---- what is open
 
-  abbrev uses : List ℕ
-  uses = places_of (l ∷ loops)
+  abbrev needs : List Need
+  needs = loop_needs l inner
 
   abbrev inside : List ℕ
   inside = next ∷ top ∷ end ∷ []
 
-  among : Contains uses c
-  among = loop_uses l loops
+  own_needed : Contains needs (need.Table c)
+  own_needed = loop_moves l inner
 
-  turns : Steady uses inside z e3
+  turns : Steady needs inside z e3
   turns =
-      st_then z_first (first-steady z c end uses inside l.path first among (inr (inr (inl refl))) comes) (st_on (λ k xs m. m) (st_bind uses inside first top (inr (inl refl))) (st_then (g_op d6 (op.Copy causes mine)) (st_op uses inside d6 (op.Copy causes mine) (refl, refl)) (st_then sifts.grows (st_inside uses inside [] (next ∷ []) (λ xs h. All-nil (Contains xs)) (λ k among. ⊎_elim (λ same. inl same) (λ no. absurd no) among) sifts.steady) (st_then nests.grows (st_inside uses inside (places_of loops) [] (inner_used l loops) (λ k no. absurd no) nests.steady) (st_on (λ k xs m. m) (st_bind uses inside y next (inl refl)) (st_then (g_op e1 (op.Next c top)) (st_fork_use uses inside e1 (op.Next c top) top c refl refl among (inr (inl refl))) (st_bind uses inside e2 end (inr (inr (inl refl))))))))))
+      st_then z_first (first-steady z c end needs inside l.path first own_needed (keys_met l inner) (inr (inr (inl refl))) comes) (st_on (λ k xs m. m) (st_bind needs inside first top (inr (inl refl))) (st_then (g_op d6 (op.Copy causes mine)) (st_op needs inside d6 (op.Copy causes mine) (refl, refl)) (st_then sifts.grows (st_inside needs inside (checks_met l inner) (λ k among. ⊎_elim (λ same. inl same) (λ no. absurd no) among) sifts.steady) (st_then nests.grows (st_inside needs inside (inner_met l inner) (λ k no. absurd no) nests.steady) (st_on (λ k xs m. m) (st_bind needs inside y next (inl refl)) (st_then (g_op e1 (op.Next c top)) (st_fork_use needs inside e1 (op.Next c top) top (need.Table c) refl refl own_needed (inr (inl refl))) (st_bind needs inside e2 end (inr (inr (inl refl))))))))))
 
   abbrev b1 : Draft
   b1 = with_label a
@@ -183,9 +185,9 @@ module _ (a first t y : Draft) (l : Loop) (loops : List Loop) (lo causes : ℕ) 
   next_placed : HasPlace e3 next
   next_placed = has-bound e2 end next (place-bound y next next_y)
 
-  pub steady_code : Steady uses [] a code
+  pub steady_code : Steady needs [] a code
   steady_code =
-      st_then a_e3 (st_made end refl (place-bound e2 end end_e) (st_made top refl top_placed (st_made next refl next_placed (st_then (g_taken b3) (st_taken uses inside b3) turns)))) (st_released uses [] e3 mine)
+      st_then a_e3 (st_made end refl (place-bound e2 end end_e) (st_made top refl top_placed (st_made next refl next_placed (st_then (g_taken b3) (st_taken needs inside b3) turns)))) (st_released needs [] e3 mine)
 
   -- ---- what it does
 
@@ -273,6 +275,6 @@ module _ (a first t y : Draft) (l : Loop) (loops : List Loop) (lo causes : ℕ) 
     does : Triple m a code (λ h0. loop_steps l nK (environment_of m h0)) no_labels last started (EndsDone m (paired l G) lo causes a.next)
     does = t_more (λ h0. loop_steps l nK (environment_of m h0)) enough (t_seq loop ends)
 
-  pub pairs-nest : Nests (l ∷ loops) a code lo causes (paired l (passing l.checks K)) (loop_steps l nK)
+  pub pairs-nest : Nests (loop_needs l inner) (l ∷ loops) a code lo causes (paired l (passing l.checks K)) (loop_steps l nK)
   pairs-nest =
-      nests_of (l ∷ loops) lo causes (paired l (passing l.checks K)) (λ h0 h. (h ≡ h0) × (Stand (l ∷ loops) h0.scene.cursors × Shut a.cursors h0.scene.cursors)) grows_code refl steady_code (λ h stand shut. (refl, (stand, shut))) (λ m placed. does m placed)
+      nests_of needs (l ∷ loops) lo causes (paired l (passing l.checks K)) (λ h0 h. (h ≡ h0) × (Stand (l ∷ loops) h0.scene.cursors × Shut a.cursors h0.scene.cursors)) grows_code refl steady_code (λ h stand shut. (refl, (stand, shut))) (λ m placed. does m placed)

@@ -1,6 +1,6 @@
 -- A loop over the rows that a path visits, whatever is done with them.
 use Rattle.std.proofs.Common.{Contains, ◌≡◌, ℕ, ◌+◌, ◌<◌, List, [], ◌∷◌, length, sum_by, Some, None, refl, sym, ap, ◌∙◌, subst, arith}
-use Rattle.std.specs.Prelude.{true, slice_get, slice_set}
+use Rattle.std.specs.Prelude.{All, true, slice_get, slice_set}
 use Rattle.std.specs.List.{filter}
 use Rattle.std.proofs.lemmas.List.{set-set, set-get_or}
 use Rattle.eng_index.specs.Searching.{bound_count, range_of}
@@ -10,24 +10,28 @@ use Rattle.eng_value.specs.StoredRows.{StoredRow}
 use Rattle.eng_value.specs.Written.{Written}
 use Rattle.eng_value.specs.declared.out.Out.{Out}
 use Rattle.gen_loop.specs.Loops.{key_steps, path_steps}
+use Rattle.gen_loop.specs.Needs.{keys_read}
 use Rattle.gen_loop.specs.Stretches.{Comes}
-use Rattle.plan_tree.specs.Visits.{IsCounted, key_outs, range_at, visited}
+use Rattle.plan_tree.specs.Visits.{IsCounted, key_outs, keys_in, range_at, visited}
 use Rattle.plan_tree.specs.declared.access.Path.{Path}
 use Rattle.plan_tree.specs.declared.access.Path.TheVariants as path
 use Rattle.plan_tree.specs.declared.access.Search.{Search}
 use Rattle.vm_code.specs.declared.op.Op.{Op}
 use Rattle.vm_code.specs.declared.op.Op.TheVariants as op
+use Rattle.vm_code.specs.declared.open_cursor.Need.{Need}
+use Rattle.vm_code.specs.declared.open_cursor.Need.TheVariants as need
 use Rattle.vm_code.specs.Draft.{Draft, with_op, bound, released}
+use Rattle.vm_code.specs.Track.{Meets, OpenSet}
 use Rattle.vm_code.specs.Tracked.{Among, Steady}
 use Rattle.vm_code.specs.Machine.{Cursor, Closed, Open, Scene, Setting, World, current, cursor_at, held, outs_from, range_in, read, row_read, row_under, rows_of, world_of}
-use Rattle.vm_code.specs.Frames.{Here, with_regs, environment_of, sight_of, Fills, Grows, no_calls}
+use Rattle.vm_code.specs.Frames.{Here, with_regs, environment_of, sight_of, Fills, Grows, needing}
 use Rattle.vm_code.specs.Claims.{Claim, Labels, Last, Triple}
 use Rattle.vm_code.proofs.Drafts.{g_op, g_released, grows_then}
 use Rattle.vm_code.proofs.Fills.{t_fills}
 use Rattle.vm_code.proofs.Loops.{At, moved, t_loop}
 use Rattle.vm_code.proofs.NewRows.{sees_moved}
 use Rattle.vm_code.proofs.Searches.{OnChosen, chosen, t_search}
-use Rattle.vm_code.proofs.Tracks.{st_fork_use, st_inner, st_released, st_then}
+use Rattle.vm_code.proofs.Tracks.{st_fork_use, st_released, st_then, st_within}
 use Rattle.vm_code.proofs.Triples.{t_seq, t_more, t_draft, t_use}
 
 -- ---- cursors
@@ -123,7 +127,7 @@ module _ (m : Setting) (a z y : Draft) (k : Here → ℕ) (n : StoredRow → Her
       let all : Triple m a z k g e begins (At c off (λ h0 h. inv (rows h0) h0 h)) = t_use begins (At c off (λ h0 h. inv (rows h0) h0 h)) (λ h0 h pre. pre) (λ h0 h post. (post.0, subst (λ l. inv l h0 h) (all_kept (rows h0)) post.1)) before in
       t_more (λ h0. k h0 + path_steps path.Scan + turns path.Scan h0) (λ h0. omega (arith, ap (sum_by (λ r. n r h0 + 1)) (all_kept (rows h0)))) (t_loop c table end top rows inv top_open end_open wide moves still all body)
 
-  module _ (s : Search) (keyed : Draft) (keys : Fills no_calls z keyed (length s.keys) (λ env. key_outs env s.keys) (λ env. sum_by key_steps s.keys)) (counted : length s.keys ≡ bound_count s.bounds) (sees : (rs : List StoredRow) (h0 h : Here) → At c off (inv rs) h0 h → environment_of m h ≡ environment_of m h0) (refills : (rs : List StoredRow) (h0 h : Here) (regs : List Out) → ((j : ℕ) → j < z.next → read regs j ≡ read h.regs j) → length regs ≡ length h.regs → inv rs h0 h → inv rs h0 (with_regs h regs)) where
+  module _ (s : Search) (keyed : Draft) (keys : Fills (needing (keys_read s.keys)) z keyed (length s.keys) (λ env. key_outs env s.keys) (λ env. sum_by key_steps s.keys)) (counted : length s.keys ≡ bound_count s.bounds) (sees : (rs : List StoredRow) (h0 h : Here) → At c off (inv rs) h0 h → environment_of m h ≡ environment_of m h0) (refills : (rs : List StoredRow) (h0 h : Here) (regs : List Out) → ((j : ℕ) → j < z.next → read regs j ≡ read h.regs j) → length regs ≡ length h.regs → inv rs h0 h → inv rs h0 (with_regs h regs)) where
     abbrev p : Path
     p = path.Search s
 
@@ -167,12 +171,12 @@ module _ (z : Draft) (c end : ℕ) where
       let search = op.Search c s.terms s.bounds z.next end in
       subst (Grows z) (sym x.is) (grows_then x.fills.grows (grows_then (g_op x.keyed search) (g_released (with_op x.keyed search) z.next)))
 
-  pub first-steady : (uses labels : List ℕ) (p : Path) (first : Draft) → Contains uses c → Among labels end → Comes z first c end p → Steady uses labels z first
-  first-steady uses labels path.Scan first inside among is =
-      subst (Steady uses labels z) (sym is) (st_fork_use uses labels z (op.Rewind c end) end c refl refl inside among)
-  first-steady uses labels (path.Search s) first inside among x =
+  pub first-steady : (needs : List Need) (labels : List ℕ) (p : Path) (first : Draft) → Contains needs (need.Table c) → ((xs : OpenSet) → All (Meets xs) needs → All (Meets xs) (keys_read (keys_in p))) → Among labels end → Comes z first c end p → Steady needs labels z first
+  first-steady needs labels path.Scan first inside reads among is =
+      subst (Steady needs labels z) (sym is) (st_fork_use needs labels z (op.Rewind c end) end (need.Table c) refl refl inside among)
+  first-steady needs labels (path.Search s) first inside reads among x =
       let search = op.Search c s.terms s.bounds z.next end in
-      subst (Steady uses labels z) (sym x.is) (st_then x.fills.grows (st_inner uses labels x.fills.steady) (st_then (g_op x.keyed search) (st_fork_use uses labels x.keyed search end c refl refl inside among) (st_released uses labels (with_op x.keyed search) z.next)))
+      subst (Steady needs labels z) (sym x.is) (st_then x.fills.grows (st_within labels reads x.fills.steady) (st_then (g_op x.keyed search) (st_fork_use needs labels x.keyed search end (need.Table c) refl refl inside among) (st_released needs labels (with_op x.keyed search) z.next)))
 
   pub first-next : (p : Path) (first : Draft) → Comes z first c end p → first.next ≡ z.next
   first-next path.Scan first is = ap (λ (d : Draft). d.next) is
@@ -181,3 +185,7 @@ module _ (z : Draft) (c end : ℕ) where
   pub first-cursors : (p : Path) (first : Draft) → Comes z first c end p → first.cursors ≡ z.cursors
   first-cursors path.Scan first is = ap (λ (d : Draft). d.cursors) is
   first-cursors (path.Search s) first x = ap (λ (d : Draft). d.cursors) x.is ∙ x.cursors
+
+  pub first-units : (p : Path) (first : Draft) → Comes z first c end p → first.units ≡ z.units
+  first-units path.Scan first is = ap (λ (d : Draft). d.units) is
+  first-units (path.Search s) first x = ap (λ (d : Draft). d.units) x.is ∙ x.units

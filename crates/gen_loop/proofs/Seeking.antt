@@ -1,19 +1,23 @@
 -- Cursors that go back onto rows, and registers that are taken for a row.
-use Rattle.std.proofs.Common.{◌≡◌, ℕ, zero, suc, ◌+◌, ◌≤◌, ◌<◌, Contains, List, length, None, Some, refl, sym, ap, ◌∙◌, subst, arith}
+use Rattle.std.proofs.Common.{◌≡◌, ℕ, zero, suc, ◌+◌, ◌≤◌, ◌<◌, All, List, length, None, Some, refl, sym, ap, ◌∙◌, subst, arith}
 use Rattle.std.specs.Prelude.{slice_get, slice_set}
 use Rattle.std.proofs.Math.ListN.{length-set}
 use Rattle.gen_loop.specs.Sorting.{all_taken, at_row_found, at_row_sorted, position_terms, sought_all, walk_end, walk_top, with_row_taken}
 use Rattle.vm_code.specs.declared.op.Op.{Op}
 use Rattle.vm_code.specs.declared.op.Op.TheVariants as op
+use Rattle.vm_code.specs.declared.open_cursor.Need.{Need}
+use Rattle.vm_code.specs.declared.open_cursor.Need.TheVariants as need
 use Rattle.vm_code.specs.Draft.{Draft, taken, with_label, with_op}
+use Rattle.vm_code.specs.Track.{Meets, OpenSet}
 use Rattle.vm_code.specs.Tracked.{Steady}
+use Rattle.gen_loop.proofs.Tables.{Tables}
 use Rattle.vm_code.specs.Machine.{Cursor, IsSound, Reaches, Setting, State, act, skip, with_cursor, world_of}
 use Rattle.vm_code.specs.Frames.{Grows, Here, here, placed}
 use Rattle.vm_code.specs.Claims.{Claim, Labels, Last, on, Triple}
 use Rattle.vm_code.proofs.Drafts.{at_op, extends, g_op, g_taken, grows_none, grows_then, long_label, long_op, open_new, open_old, open_other}
 use Rattle.vm_code.proofs.Loops.{moved}
 use Rattle.vm_code.proofs.Runs.{reaches_op}
-use Rattle.vm_code.proofs.Tracks.{st_none, st_taken, st_then, st_use}
+use Rattle.vm_code.proofs.Tracks.{needs_one, st_none, st_reads, st_taken, st_then}
 use Rattle.vm_code.proofs.Triples.{t_draft, t_more, t_seq}
 
 -- ---- registers
@@ -22,9 +26,9 @@ pub all-grows : (n : ℕ) (d : Draft) → Grows d (all_taken d n)
 all-grows zero d = grows_none d
 all-grows (suc n) d = grows_then (all-grows n d) (g_taken (all_taken d n))
 
-pub all-steady : (uses labels : List ℕ) (n : ℕ) (d : Draft) → Steady uses labels d (all_taken d n)
-all-steady uses labels zero d = st_none uses labels d
-all-steady uses labels (suc n) d = st_then (all-grows n d) (all-steady uses labels n d) (st_taken uses labels (all_taken d n))
+pub all-steady : (needs : List Need) (labels : List ℕ) (n : ℕ) (d : Draft) → Steady needs labels d (all_taken d n)
+all-steady needs labels zero d = st_none needs labels d
+all-steady needs labels (suc n) d = st_then (all-grows n d) (all-steady needs labels n d) (st_taken needs labels (all_taken d n))
 
 pub all-next : (n : ℕ) (d : Draft) → (all_taken d n).next ≡ d.next + n
 all-next zero d = omega arith
@@ -41,10 +45,10 @@ pub sought-grows : (first n : ℕ) (d : Draft) → Grows d (sought_all d first n
 sought-grows first zero d = grows_none d
 sought-grows first (suc n) d = grows_then (sought-grows first n d) (g_op (sought_all d first n) (op.SeekRowid n (first + n)))
 
-pub sought-steady : (uses labels : List ℕ) (first n : ℕ) (d : Draft) → ((k : ℕ) → k < n → Contains uses k) → Steady uses labels d (sought_all d first n)
-sought-steady uses labels first zero d inside = st_none uses labels d
-sought-steady uses labels first (suc n) d inside =
-    st_then (sought-grows first n d) (sought-steady uses labels first n d (λ k lt. inside k (omega (arith, lt)))) (st_use uses labels (sought_all d first n) (op.SeekRowid n (first + n)) n refl refl (inside n (omega arith)))
+pub sought-steady : (needs : List Need) (labels : List ℕ) (first n : ℕ) (d : Draft) → ((xs : OpenSet) → All (Meets xs) needs → Tables n xs) → Steady needs labels d (sought_all d first n)
+sought-steady needs labels first zero d inside = st_none needs labels d
+sought-steady needs labels first (suc n) d inside =
+    st_then (sought-grows first n d) (sought-steady needs labels first n d (λ xs met k lt. inside xs met k (omega (arith, lt)))) (st_reads needs labels (sought_all d first n) (op.SeekRowid n (first + n)) refl (λ xs met. needs_one (op.SeekRowid n (first + n)) (need.Table n) xs refl (inside xs met n (omega arith))))
 
 -- what this leaves as it is
 pub sought-same : {A : Type 0} (f : Draft → A) → ((d : Draft) (o : Op) → f (with_op d o) ≡ f d) → (first n : ℕ) (d : Draft) → f (sought_all d first n) ≡ f d
@@ -118,3 +122,7 @@ module _ (a : Draft) (width : ℕ) where
   pub found-cursors : found.cursors ≡ a.cursors
   found-cursors =
       sought-same (λ (d : Draft). d.cursors) (λ d o. refl) a.next width loaded ∙ all-same (λ (d : Draft). d.cursors) (λ d. refl) width b2
+
+  pub found-units : found.units ≡ a.units
+  found-units =
+      sought-same (λ (d : Draft). d.units) (λ d o. refl) a.next width loaded ∙ all-same (λ (d : Draft). d.units) (λ d. refl) width b2

@@ -1,25 +1,24 @@
 -- The code of a plan whose rows are sorted: its loops put them into a sorter, which is opened behind the cursors of the items, and a walk over it follows.
-use Rattle.std.proofs.Common.{Contains, ◌≡◌, ℕ, zero, suc, ◌+◌, ◌≤◌, ◌<◌, List, [], ◌∷◌, ◌++◌, Some, None, length, map, refl, sym, ap, ◌∙◌, subst, arith, inr, ⊎_elim}
+use Rattle.std.proofs.Common.{All, ◌≡◌, ℕ, ◌+◌, ◌≤◌, ◌<◌, List, [], ◌∷◌, ◌++◌, None, length, map, refl, sym, ap, ◌∙◌, subst, arith}
 use Rattle.std.specs.Prelude.{true, if◌then◌else◌, slice_set}
 use Rattle.std.proofs.Math.ListN.{length-set}
-use Rattle.std.proofs.lemmas.Bool.{cases_lt}
 use Rattle.std.proofs.lemmas.List.{get_or-set_other, get_or-set_same, length-map, set-get_or}
-use Rattle.std.proofs.lemmas.List.Elements.{All-cons, All-tail, Contains-append_left, Contains-push, Contains-push_cases}
 use Rattle.eng_value.specs.Arrangements.{arranged}
 use Rattle.eng_value.specs.Environments.{no_causes, null_row}
 use Rattle.eng_value.specs.declared.out.Out.{Out}
 use Rattle.eng_value.proofs.Arranging.{arranged-shuffled}
 use Rattle.eng_value.proofs.Shuffling.{all-shuffled}
 use Rattle.gen_loop.specs.Loops.{KeepsWritten, at_row, each, from_cost, from_effect, gathered_steps, gathering, row_seen, sorted_steps}
+use Rattle.gen_loop.specs.Needs.{NamesBelow, gathering_needs, plan_reads, rowids_needs}
 use Rattle.gen_loop.specs.Sorting.{Walks, at_row_found, collect, sorted_row, walked}
-use Rattle.gen_loop.specs.Stretches.{Apart, AreSpread, ArePlaced, Nests, Stand, opened_all, places_of}
+use Rattle.gen_loop.specs.Stretches.{Apart, AreSpread, ArePlaced, Nests, Stand, opened_all}
 use Rattle.gen_loop.proofs.Around.{begun, opened_now, sees-opened, t_begins}
 use Rattle.gen_loop.proofs.Collecting.{collects}
-use Rattle.gen_loop.proofs.Cursors.{Opens, closed_again, cursors_opened, length-closed, length-opened, opened-cursors, opened-grows, opened-next, opens-loops, shut-opened, st_closed, stand-at, stand-opened}
+use Rattle.gen_loop.proofs.Cursors.{closed_again, cursors_opened, length-closed, length-opened, opened-cursors, opened-grows, opened-next, shut-opened, stand-at, stand-opened}
 use Rattle.gen_loop.proofs.Found.{IsFound, found-gathered, found-none}
-use Rattle.gen_loop.proofs.Places.{st_inside}
 use Rattle.gen_loop.proofs.Rules.{HasRoom, t_room}
 use Rattle.gen_loop.proofs.Spread.{among-spread, placed-spread}
+use Rattle.gen_loop.proofs.Tables.{AndSorter, Tables, met-named, met-plan, met-rowids, met-tables, names-nothing, opens-loops, opens-sorter, st_closed, tables-there, tables_needs, with_sorter}
 use Rattle.gen_loop.proofs.Turns.{memory-same, t_nests}
 use Rattle.gen_loop.proofs.Walking as walk
 use Rattle.gen_loop.proofs.Walking.{walk-grows, walk-steady}
@@ -28,47 +27,25 @@ use Rattle.plan_tree.specs.declared.access.JoinPlan.{JoinPlan}
 use Rattle.plan_tree.specs.declared.access.Loop.{Loop}
 use Rattle.sql_meaning.specs.Products.{FromRow}
 use Rattle.vm_code.specs.declared.op.Op.TheVariants as op
-use Rattle.vm_code.specs.declared.way.Way.TheVariants as way
+use Rattle.vm_code.specs.declared.open_cursor.Need.{Need}
+use Rattle.vm_code.specs.declared.open_cursor.Need.TheVariants as need
 use Rattle.vm_code.specs.Draft.{Draft, with_cursor, with_op}
-use Rattle.vm_code.specs.Track.{OpenSet, behind}
-use Rattle.vm_code.specs.Tracked.{Among, AreBelow, IsTracked, Steady}
+use Rattle.vm_code.specs.Track.{Meets, OpenSet}
+use Rattle.vm_code.specs.Tracked.{Steady}
 use Rattle.vm_code.specs.Machine.{Cursor, Closed, Sorted, Setting, Shared, Store, closed_from, current, cursor_at, held, last_list, read, world_of}
-use Rattle.vm_code.specs.Frames.{Does, Done, Effect, Fails, Grows, Here, Memory, Shut, Sight, effect_at, environment_of, memory_of, no_calls, sight_of}
+use Rattle.vm_code.specs.Frames.{Does, Done, Effect, Fails, Grows, Here, Memory, Shut, Sight, effect_at, environment_of, memory_of, needing, sight_of}
 use Rattle.vm_code.specs.Claims.{Claim, Last, Triple}
 use Rattle.vm_code.proofs.Drafts.{g_cursor, g_op, grows_then}
 use Rattle.vm_code.proofs.Effects.{EndsDone, EndsFailed, does_of}
 use Rattle.vm_code.proofs.Loops.{At, moved, put_aside}
+use Rattle.vm_code.proofs.Meeting.{met_both, met_head, met_left, met_more, met_right, met_tail}
 use Rattle.vm_code.proofs.NewRows.{sees_moved}
 use Rattle.vm_code.proofs.Registers.{row_now}
-use Rattle.vm_code.proofs.Rows.{All-by}
 use Rattle.vm_code.proofs.Sorters.{t_sorter_open, with_sorters, without_last}
-use Rattle.vm_code.proofs.Tracks.{st_then, tracked_op, tracked_registers, uses_none}
+use Rattle.vm_code.proofs.Tracks.{st_then, st_wider}
 use Rattle.vm_code.proofs.Triples.{no_labels, t_draft, t_more, t_op, t_seq}
 
--- ---- what is open
-
--- with a sorter's cursor behind the others
-abbrev pub with_sorter : Draft → ℕ → Draft
-with_sorter b c = with_op (with_cursor b) (op.SorterOpen c)
-
-opens-sorter : (a b : Draft) (c : ℕ) (uses : List ℕ) → c ≡ b.cursors → Opens a b uses → Opens a (with_sorter b c) (c ∷ uses)
-opens-sorter a b c uses c_is opens = record {
-  labels = opens.labels;
-  opens = λ xs is t.
-      let o = op.SorterOpen c in
-      let before = opens.opens xs is t in
-      let ys = before.0 in
-      let more : OpenSet = ys ++ c ∷ [] in
-      let below : AreBelow (b.cursors + 1) more = λ k h. ⊎_elim (λ old. let lt = before.3.now ys before.1 k old in omega (arith, lt)) (λ same. omega (arith, same, c_is)) (Contains-push_cases ys c k h) in
-      let wider : IsTracked (with_cursor b) = tracked_registers b b.next b.most (b.cursors + 1) (omega arith) before.3 in
-      let now : IsTracked (with_sorter b c) = tracked_op (with_cursor b) o ys wider before.1 (uses_none o ys refl) (λ k e. cc) (λ zs e. let same : Some more ≡ Some zs = e in subst (AreBelow (b.cursors + 1)) (cc) below) in
-      (more, ap (behind (way.Opens c)) before.1, All-cons (Contains more) c uses (Contains-push ys c) (All-by (Contains ys) (Contains more) (λ k h. Contains-append_left ys (c ∷ []) k h) uses before.2), now);
-}
-
-among-contains : (xs : List ℕ) (k : ℕ) → Among xs k → Contains xs k
-among-contains [] k none = absurd none
-among-contains (x ∷ xs) k h =
-    ⊎_elim (λ same. (zero, omega arith, same)) (λ more. let rest = among-contains xs k more in (suc rest.0, omega (arith, rest.1), rest.2)) h
+-- ---- cursors
 
 stand-apart : (loops : List Loop) (c : ℕ) (x : Cursor) (cursors : List Cursor) → Apart c loops → Stand loops cursors → Stand loops (slice_set cursors c x)
 stand-apart [] c x cursors apart stand = tt
@@ -79,7 +56,7 @@ placed-apart : (loops : List Loop) (n : ℕ) → ArePlaced n loops → Apart n l
 placed-apart [] n placed = tt
 placed-apart (l ∷ loops) n placed = ((λ same. absurd (omega (arith, same, placed.0))), placed-apart loops n placed.3)
 
-module _ (a r : Draft) (p : JoinPlan) (lo : ℕ) (F : Effect) (most : ℕ) (lo_le : lo ≤ a.next) (first : a.cursors ≡ 0) (spread : AreSpread p.loops) (nests : Nests p.loops (with_sorter (opened_all a p.loops) (length p.loops)) r 0 0 (gathering p (collect (length p.loops))) (gathered_steps p (length p.loops + 2))) (r_wide : r.cursors ≡ (with_sorter (opened_all a p.loops) (length p.loops)).cursors) (turn : Draft) (does : Does no_calls (at_row_found r (length p.loops)) turn lo (r.next + length p.loops) None F (λ sight causes x. most)) (keeps : KeepsWritten F) (wide : turn.cursors ≡ (at_row_found r (length p.loops)).cursors) where
+module _ {body : List Need} (a r : Draft) (p : JoinPlan) (lo : ℕ) (F : Effect) (most : ℕ) (lo_le : lo ≤ a.next) (first : a.cursors ≡ 0) (spread : AreSpread p.loops) (nests : Nests (gathering_needs p (rowids_needs (length p.loops))) p.loops (with_sorter (opened_all a p.loops) (length p.loops)) r 0 0 (gathering p (collect (length p.loops))) (gathered_steps p (length p.loops + 2))) (r_wide : r.cursors ≡ (with_sorter (opened_all a p.loops) (length p.loops)).cursors) (turn : Draft) (does : Does (needing body) (at_row_found r (length p.loops)) turn lo (r.next + length p.loops) None F (λ sight causes x. most)) (keeps : KeepsWritten F) (wide : turn.cursors ≡ (at_row_found r (length p.loops)).cursors) where
   abbrev loops : List Loop
   loops = p.loops
 
@@ -129,23 +106,63 @@ module _ (a r : Draft) (p : JoinPlan) (lo : ℕ) (F : Effect) (most : ℕ) (lo_l
   grows_code =
       grows_then (opened-grows loops a) (grows_then (g_cursor b) (grows_then (g_op (with_cursor b) (op.SorterOpen width)) (grows_then nests.grows (grows_then walk_grows (g_op w (op.CloseFrom 0))))))
 
-  abbrev uses : List ℕ
-  uses = width ∷ places_of loops
+  -- ---- what is open
 
-  inside : (k : ℕ) → k < width + 1 → Contains uses k
-  inside k lt = ⊎_elim below (λ le. (zero, omega arith, is_width le)) (cases_lt k width)
-    where
-      below : k < width → Contains uses k
-      below less = among-contains uses k (inr (among-spread loops k spread less))
+  abbrev collector_needs : List Need
+  collector_needs = gathering_needs p (rowids_needs width)
 
-      is_width : width ≤ k → width ≡ k
-      is_width le = omega (arith, le, lt)
+  abbrev behind_tables : List Need
+  behind_tables = body ++ collector_needs
 
-  steady_code : Steady [] [] a code
-  steady_code =
-      let opens = opens-sorter a b width (places_of loops) (sym b_cursors) (opens-loops loops a (placed-spread loops (a.cursors + width) spread (omega arith))) in
-      let loops_in = st_inside uses [] (places_of loops) [] (λ xs h. All-tail (Contains xs) width (places_of loops) h) (λ k no. no) nests.steady in
-      st_closed a s w uses first opens (st_then nests.grows loops_in (walk-steady r turn width lo F most (omega (arith, lo_le, r_next)) r_cursors does keeps wide uses inside))
+  abbrev behind_sorter : List Need
+  behind_sorter = tables_needs width ++ behind_tables
+
+  -- of the loops and of the walk
+  abbrev needs : List Need
+  needs = need.Sorter width ∷ behind_sorter
+
+  abbrev reads : List Need
+  reads = plan_reads p ++ body
+
+  finds : NamesBelow width reads → (ys : OpenSet) → AndSorter width ys → All (Meets ys) needs
+  finds names ys there =
+      let all = met-named width ys reads there.0 names in
+      let turns = met_right ys (plan_reads p) body all in
+      let collects = met-plan p (rowids_needs width) ys spread there.0 (met_left ys (plan_reads p) body all) (met-rowids width ys there.0) in
+      met_more ys (need.Sorter width) behind_sorter there.1 (met_both ys (tables_needs width) behind_tables (met-tables width ys there.0) (met_both ys body collector_needs turns collects))
+
+  module _ (xs : OpenSet) (met : All (Meets xs) needs) where
+    sorter_met : Meets xs (need.Sorter width)
+    sorter_met = met_head xs (need.Sorter width) behind_sorter met
+
+    rest_met : All (Meets xs) behind_sorter
+    rest_met = met_tail xs (need.Sorter width) behind_sorter met
+
+    tables_met : Tables width xs
+    tables_met = tables-there width xs (met_left xs (tables_needs width) behind_tables rest_met)
+
+    bodies_met : All (Meets xs) behind_tables
+    bodies_met = met_right xs (tables_needs width) behind_tables rest_met
+
+    body_met : All (Meets xs) body
+    body_met = met_left xs body collector_needs bodies_met
+
+    collector_met : All (Meets xs) collector_needs
+    collector_met = met_right xs body collector_needs bodies_met
+
+  between : Steady needs [] s w
+  between =
+      st_then nests.grows (st_wider collector_met nests.steady) (walk-steady r turn width lo F most (omega (arith, lo_le, r_next)) r_cursors does keeps wide needs sorter_met tables_met body_met)
+
+  steady_by : {more : List Need} → (All (Meets []) more → NamesBelow width reads) → Steady more [] a code
+  steady_by names =
+      st_closed a s w first (opens-sorter a b width (sym b_cursors) (opens-loops loops a spread)) (λ met. finds (names met)) between
+
+  pub rows-steady : NamesBelow (length p.loops) (plan_reads p ++ body) → Steady [] [] a (with_op (walked r turn (length p.loops)) (op.CloseFrom 0))
+  rows-steady names = steady_by (λ met. names)
+
+  steady_code : Steady reads [] a code
+  steady_code = steady_by (λ met. names-nothing width reads met)
 
   -- ---- what it does
 
@@ -287,13 +304,21 @@ module _ (a r : Draft) (p : JoinPlan) (lo : ℕ) (F : Effect) (most : ℕ) (lo_l
         let walks = walk.t_walk r turn width lo F most (omega (arith, lo_le, r_next)) r_cursors does keeps wide m loops given E in
         t_more (λ h0. length loops + 1 + sorted_steps p most (environment_of m h0)) (λ h0. omega arith) (t_seq (t_seq (t_seq (t_seq (t_begins m last loops a) opens_sorter) gathers) walks) closes)
 
-  pub rows-do : Does no_calls a code lo 0 None E (λ sight causes x. length loops + 1 + sorted_steps p most sight.env)
+  pub rows-do : Does (needing (plan_reads p ++ body)) a code lo 0 None E (λ sight causes x. length loops + 1 + sorted_steps p most sight.env)
   rows-do =
       does_of lo 0 None E begun grows_code r_next steady_code (λ h shut. (refl, subst (λ n. Shut n h.scene.cursors) first shut)) (λ m called. whole m)
 
 -- a plan whose rows are sorted
-pub sorted-does : (a r w : Draft) (p : JoinPlan) (lo : ℕ) (F : Effect) (most : ℕ) → lo ≤ a.next → a.cursors ≡ 0 → p.sort ≡ true → Nests p.loops (with_sorter (opened_all a p.loops) (length p.loops)) r 0 0 (gathering p (collect (length p.loops))) (gathered_steps p (length p.loops + 2)) → r.cursors ≡ (with_sorter (opened_all a p.loops) (length p.loops)).cursors → Walks r w (length p.loops) lo F most → AreSpread p.loops → Does no_calls a (with_op w (op.CloseFrom 0)) lo 0 None (from_effect p F) (from_cost p most)
-sorted-does a r w p lo F most lo_le first sorted nests wide walks spread =
-    let all = rows-do a r p lo F most lo_le first spread nests wide walks.turn walks.does walks.keeps walks.cursors in
-    let ordered = subst (λ b. Does no_calls a (with_op (walked r walks.turn (length p.loops)) (op.CloseFrom 0)) lo 0 None (λ sight causes x. each (at_row F sight) (if b then arranged (stands_before (length p.loops)) (gathered sight.env p (row_seen sight no_causes)) else gathered sight.env p (row_seen sight no_causes)) x) (λ sight causes x. length p.loops + 1 + (if b then sorted_steps p most sight.env else gathered_steps p most sight.env))) (sym sorted) all in
-    subst (λ d. Does no_calls a (with_op d (op.CloseFrom 0)) lo 0 None (from_effect p F) (from_cost p most)) (sym walks.is) ordered
+module _ (a r w : Draft) (p : JoinPlan) (body : List Need) (lo : ℕ) (F : Effect) (most : ℕ) (lo_le : lo ≤ a.next) (first : a.cursors ≡ 0) (sorted : p.sort ≡ true) (nests : Nests (gathering_needs p (rowids_needs (length p.loops))) p.loops (with_sorter (opened_all a p.loops) (length p.loops)) r 0 0 (gathering p (collect (length p.loops))) (gathered_steps p (length p.loops + 2))) (wide : r.cursors ≡ (with_sorter (opened_all a p.loops) (length p.loops)).cursors) (walks : Walks body r w (length p.loops) lo F most) (spread : AreSpread p.loops) where
+  abbrev given_needs : List Need
+  given_needs = plan_reads p ++ body
+
+  pub sorted-steady : NamesBelow (length p.loops) (plan_reads p ++ body) → Steady [] [] a (with_op w (op.CloseFrom 0))
+  sorted-steady names =
+      subst (λ d. Steady [] [] a (with_op d (op.CloseFrom 0))) (sym walks.is) (rows-steady a r p lo F most lo_le first spread nests wide walks.turn walks.does walks.keeps walks.cursors names)
+
+  pub sorted-does : Does (needing (plan_reads p ++ body)) a (with_op w (op.CloseFrom 0)) lo 0 None (from_effect p F) (from_cost p most)
+  sorted-does =
+      let all = rows-do a r p lo F most lo_le first spread nests wide walks.turn walks.does walks.keeps walks.cursors in
+      let ordered = subst (λ b. Does (needing given_needs) a (with_op (walked r walks.turn (length p.loops)) (op.CloseFrom 0)) lo 0 None (λ sight causes x. each (at_row F sight) (if b then arranged (stands_before (length p.loops)) (gathered sight.env p (row_seen sight no_causes)) else gathered sight.env p (row_seen sight no_causes)) x) (λ sight causes x. length p.loops + 1 + (if b then sorted_steps p most sight.env else gathered_steps p most sight.env))) (sym sorted) all in
+      subst (λ d. Does (needing given_needs) a (with_op d (op.CloseFrom 0)) lo 0 None (from_effect p F) (from_cost p most)) (sym walks.is) ordered

@@ -7,15 +7,16 @@ use Rattle.eng_value.specs.Causes.{CauseSet}
 use Rattle.eng_value.specs.Environments.{Environment, ItemRow}
 use Rattle.eng_value.specs.declared.out.Out.{Out}
 use Rattle.gen_loop.specs.Loops.{KeepsWritten, at_row, conjuncts_steps, each, paired, passing, row_seen}
-use Rattle.gen_loop.specs.Stretches.{Apart, ArePlaced, Nests, Stand, places_of}
+use Rattle.gen_loop.specs.Stretches.{Apart, ArePlaced, Nests, Stand}
 use Rattle.gen_loop.proofs.Ordered.{passing-none, passing-some}
 use Rattle.gen_loop.proofs.Paths.{OnlyMoved, moved_there}
 use Rattle.plan_tree.specs.declared.access.Loop.{Loop}
 use Rattle.sql_meaning.specs.Products.{FromRow, sifted}
+use Rattle.vm_code.specs.declared.open_cursor.Need.{Need}
 use Rattle.vm_code.specs.Draft.{Draft}
 use Rattle.vm_code.specs.Tracked.{Steady}
 use Rattle.vm_code.specs.Machine.{Cursor, Closed, Open, Scene, Setting, State, GivesUp, Leads, Reaches, cursor_at, leads_to, read}
-use Rattle.vm_code.specs.Frames.{Here, here, there, with_regs, environment_of, sight_of, Sight, Memory, memory_of, Outcome, Done, Fails, Quit, Did, Does, Effect, effect_at, Grows, Shut, Sifted, Sifts, and_then, no_calls}
+use Rattle.vm_code.specs.Frames.{Here, here, there, with_regs, environment_of, sight_of, Sight, Memory, memory_of, Outcome, Done, Fails, Quit, Did, Does, Effect, effect_at, Grows, Shut, Sifted, Sifts, and_then, needing}
 use Rattle.vm_code.specs.Claims.{Claim, Labels, Last, Exits, on, off, ends, Triple}
 use Rattle.vm_code.proofs.Runs.{leads_more}
 use Rattle.vm_code.proofs.Drafts.{extends}
@@ -55,8 +56,8 @@ shut_still n c x before now e lt shut k le =
 -- ---- stretches inside others
 
 -- tests whose cost is known
-pub t_tests : (m : Setting) {a b : Draft} {causes label n : ℕ} {f : Environment → Out → Option Out} (g : Labels) (e : Last) (p q : Claim) → Sifts no_calls a b causes label f (λ env. n) → ((h0 h : Here) (regs : List Out) (v : Out) → p h0 h → f (environment_of m h) (read h.regs causes) ≡ Some v → length regs ≡ length h.regs → read regs causes ≡ v → ((k : ℕ) → k < a.next → k ≢ causes → read regs k ≡ read h.regs k) → q h0 (with_regs h regs)) → ((h0 h : Here) (regs : List Out) → p h0 h → f (environment_of m h) (read h.regs causes) ≡ None → length regs ≡ length h.regs → ((k : ℕ) → k < a.next → k ≢ causes → read regs k ≡ read h.regs k) → g label h0 (with_regs h regs)) → Triple m a b (λ h0. n) g e p q
-t_tests m {a} {b} {causes} {label} {n} {f} g e p q x keeps drops = record {
+pub t_tests : (m : Setting) {a b : Draft} {causes label n : ℕ} {needs : List Need} {f : Environment → Out → Option Out} (g : Labels) (e : Last) (p q : Claim) → Sifts (needing needs) a b causes label f (λ env. n) → ((h0 h : Here) (regs : List Out) (v : Out) → p h0 h → f (environment_of m h) (read h.regs causes) ≡ Some v → length regs ≡ length h.regs → read regs causes ≡ v → ((k : ℕ) → k < a.next → k ≢ causes → read regs k ≡ read h.regs k) → q h0 (with_regs h regs)) → ((h0 h : Here) (regs : List Out) → p h0 h → f (environment_of m h) (read h.regs causes) ≡ None → length regs ≡ length h.regs → ((k : ℕ) → k < a.next → k ≢ causes → read regs k ≡ read h.regs k) → g label h0 (with_regs h regs)) → Triple m a b (λ h0. n) g e p q
+t_tests m {a} {b} {causes} {label} {n} {needs} {f} g e p q x keeps drops = record {
   extends = extends x.grows;
   runs = λ u at h h0 s room start pre.
       by at h0 s pre (f (environment_of m (here s)) (read s.regs causes)) refl (x.sifts m tt u at h s room start);
@@ -85,8 +86,8 @@ t_tests m {a} {b} {causes} {label} {n} {f} g e p q x keeps drops = record {
     })
 
 -- loops inside a stretch
-pub t_nests : (m : Setting) {loops : List Loop} {a b : Draft} {lo causes : ℕ} {f : Effect} {n : Environment → ℕ} (k : Here → ℕ) (g : Labels) (e : Last) (p q : Claim) → Nests loops a b lo causes f n → ArePlaced a.cursors loops → ((h0 h : Here) → p h0 h → n (environment_of m h) ≤ k h0) → ((h0 h : Here) → p h0 h → Stand loops h.scene.cursors) → ((h0 h : Here) → p h0 h → Shut a.cursors h.scene.cursors) → ((h0 h : Here) (regs : List Out) (x : Memory) → p h0 h → effect_at m f lo causes h ≡ Done x → length regs ≡ length h.regs → take lo regs ≡ x.own → Keeps lo a.next h.regs regs → q h0 (record h { regs = regs; store = x.store; shared = x.shared })) → ((h0 h : Here) (c : CauseSet) (x : Memory) → p h0 h → effect_at m f lo causes h ≡ Fails c x → e h0 (GivesUp c) x.shared) → Triple m a b k g e p q
-t_nests m {loops} {a} {b} {lo} {causes} {f} {n} k g e p q d placed within stand shut done fails = record {
+pub t_nests : (m : Setting) {needs : List Need} {loops : List Loop} {a b : Draft} {lo causes : ℕ} {f : Effect} {n : Environment → ℕ} (k : Here → ℕ) (g : Labels) (e : Last) (p q : Claim) → Nests needs loops a b lo causes f n → ArePlaced a.cursors loops → ((h0 h : Here) → p h0 h → n (environment_of m h) ≤ k h0) → ((h0 h : Here) → p h0 h → Stand loops h.scene.cursors) → ((h0 h : Here) → p h0 h → Shut a.cursors h.scene.cursors) → ((h0 h : Here) (regs : List Out) (x : Memory) → p h0 h → effect_at m f lo causes h ≡ Done x → length regs ≡ length h.regs → take lo regs ≡ x.own → Keeps lo a.next h.regs regs → q h0 (record h { regs = regs; store = x.store; shared = x.shared })) → ((h0 h : Here) (c : CauseSet) (x : Memory) → p h0 h → effect_at m f lo causes h ≡ Fails c x → e h0 (GivesUp c) x.shared) → Triple m a b k g e p q
+t_nests m {needs} {loops} {a} {b} {lo} {causes} {f} {n} k g e p q d placed within stand shut done fails = record {
   extends = extends d.grows;
   runs = λ u at h h0 s room start pre.
       by at h0 s pre (effect_at m f lo causes (here s)) refl (d.does m placed u at h s room start (stand h0 (here s) pre) (shut h0 (here s) pre));
@@ -107,8 +108,8 @@ t_nests m {loops} {a} {b} {lo} {causes} {f} {n} k g e p q d placed within stand 
     by at h0 s pre (Fails c x) is d = ends (GivesUp c) x.shared (leads_more m (k h0) (within h0 (here s) pre) d) (fails h0 (here s) c x pre is)
 
 -- a stretch as loops
-pub nests_of : {a b : Draft} {n : Environment → ℕ} (loops : List Loop) (lo causes : ℕ) (f : Effect) (p : Claim) → Grows a b → b.next ≡ a.next → Steady (places_of loops) [] a b → ((h : Here) → Stand loops h.scene.cursors → Shut a.cursors h.scene.cursors → p h h) → ((m : Setting) → ArePlaced a.cursors loops → Triple m a b (λ h0. n (environment_of m h0)) no_labels (EndsFailed m f lo causes) p (EndsDone m f lo causes a.next)) → Nests loops a b lo causes f n
-nests_of {a} {b} {n} loops lo causes f p grows next steady start x = record {
+pub nests_of : {a b : Draft} {n : Environment → ℕ} (needs : List Need) (loops : List Loop) (lo causes : ℕ) (f : Effect) (p : Claim) → Grows a b → b.next ≡ a.next → Steady needs [] a b → ((h : Here) → Stand loops h.scene.cursors → Shut a.cursors h.scene.cursors → p h h) → ((m : Setting) → ArePlaced a.cursors loops → Triple m a b (λ h0. n (environment_of m h0)) no_labels (EndsFailed m f lo causes) p (EndsDone m f lo causes a.next)) → Nests needs loops a b lo causes f n
+nests_of {a} {b} {n} needs loops lo causes f p grows next steady start x = record {
   grows = grows;
   next = next;
   steady = steady;
@@ -131,8 +132,8 @@ nests_of {a} {b} {n} loops lo causes f p grows next steady start x = record {
         subst (Did m (cost m s) s (length b.code) None lo a.next a.cursors) (sym ok.2) (subst (λ y. Leads m (cost m s) s (leads_to (GivesUp ok.0) s.stack y)) (sym ok.4) (subst (λ v. Leads m (cost m s) s (leads_to v s.stack shared)) ok.3 z))
 
 -- the same effect and cost
-pub nests_same : {loops : List Loop} {a b : Draft} {lo causes : ℕ} {f : Effect} {n : Environment → ℕ} (g : Effect) → ((sight : Sight) (v : Out) (x : Memory) → f sight v x ≡ g sight v x) → Nests loops a b lo causes f n → Nests loops a b lo causes g n
-nests_same {loops} {a} {b} {lo} {causes} {f} {n} g e d = record {
+pub nests_same : {needs : List Need} {loops : List Loop} {a b : Draft} {lo causes : ℕ} {f : Effect} {n : Environment → ℕ} (g : Effect) → ((sight : Sight) (v : Out) (x : Memory) → f sight v x ≡ g sight v x) → Nests needs loops a b lo causes f n → Nests needs loops a b lo causes g n
+nests_same {needs} {loops} {a} {b} {lo} {causes} {f} {n} g e d = record {
   grows = d.grows;
   next = d.next;
   steady = d.steady;
@@ -141,7 +142,7 @@ nests_same {loops} {a} {b} {lo} {causes} {f} {n} g e d = record {
 }
 
 -- a body that no loop is around
-pub nests_body : {a b : Draft} {lo causes most : ℕ} {f : Effect} → Does no_calls a b lo causes None f (λ sight held x. most) → Nests [] a b lo causes f (λ env. most)
+pub nests_body : {needs : List Need} {a b : Draft} {lo causes most : ℕ} {f : Effect} → Does (needing needs) a b lo causes None f (λ sight held x. most) → Nests needs [] a b lo causes f (λ env. most)
 nests_body d = record {
   grows = d.grows;
   next = d.next;
@@ -257,7 +258,7 @@ module _ (m : Setting) (a : Draft) (l : Loop) (loops : List Loop) (lo causes : �
     body_due h0 h =
         At l.place x (λ h0 h. (sight_of m h ≡ seen_at h0 (rows h0)) × O (λ y. and_then (K (seen_at h0 (rows h0)) (read h.regs mine) y) (each (pair_at h0) (rest h0))) h0 h × Z h.regs) h0 h
 
-    module _ {d t y : Draft} {next : ℕ} {nK : Environment → ℕ} (g : Labels) (mine_lt : mine < d.next) (depth : t.cursors ≡ a.cursors) (sifts : Sifts no_calls d t mine next (sifted l.checks) (λ env. conjuncts_steps l.checks)) (nests : Nests loops t y lo mine K nK) (placed : ArePlaced a.cursors (l ∷ loops)) (N : Here → ℕ) (within : (h0 : Here) → nK (record (environment_of m h0) { rows = rows h0 }) ≤ N h0) (rejected : (h0 h : Here) → pair_done x rest h0 h → g next h0 h) where
+    module _ {d t y : Draft} {next : ℕ} {check_needs inner : List Need} {nK : Environment → ℕ} (g : Labels) (mine_lt : mine < d.next) (depth : t.cursors ≡ a.cursors) (sifts : Sifts (needing check_needs) d t mine next (sifted l.checks) (λ env. conjuncts_steps l.checks)) (nests : Nests inner loops t y lo mine K nK) (placed : ArePlaced a.cursors (l ∷ loops)) (N : Here → ℕ) (within : (h0 : Here) → nK (record (environment_of m h0) { rows = rows h0 }) ≤ N h0) (rejected : (h0 h : Here) → pair_done x rest h0 h → g next h0 h) where
       abbrev last : Last
       last = EndsFailed m (paired l G) lo causes
 

@@ -1,5 +1,5 @@
 -- A walk over a sorter: a body at each row of a FROM, with the cursors of its items back on their rows.
-use Rattle.std.proofs.Common.{Contains, ◌≡◌, ℕ, zero, suc, add-one, ◌+◌, ◌*◌, ◌≤◌, ◌<◌, Bool, List, [], ◌∷◌, ◌++◌, Option, Some, None, ℤ, get_or, length, map, sum_by, refl, sym, ap, ◌∙◌, subst, arith, inl, inr, ◌⊎◌, ⊎_elim}
+use Rattle.std.proofs.Common.{All, ◌≡◌, ℕ, zero, suc, add-one, ◌+◌, ◌*◌, ◌≤◌, ◌<◌, Bool, List, [], ◌∷◌, ◌++◌, Option, Some, None, ℤ, get_or, length, map, sum_by, refl, sym, ap, ◌∙◌, subst, arith, inl, inr, ◌⊎◌, ⊎_elim}
 use Rattle.std.specs.Prelude.{⊤, slice_get, slice_set}
 use Rattle.std.specs.List.{AllByRecursion}
 use Rattle.std.proofs.Math.ListN.{get_or-map, length-set}
@@ -21,16 +21,20 @@ use Rattle.gen_loop.proofs.Cursors.{cursors_opened, length-opened}
 use Rattle.gen_loop.proofs.Found.{IsFound, item_row}
 use Rattle.gen_loop.proofs.Positions.{arranged-sorted, column-causes, column-rowid, long-outs}
 use Rattle.gen_loop.proofs.Seeking.{all-grows, all-next, all-same, all-steady, end-open, found-cursors, found-next, sought-grows, sought-same, sought-steady, t_moves, t_seeks, top-open}
+use Rattle.gen_loop.proofs.Tables.{Tables}
 use Rattle.gen_loop.proofs.Turns.{memory-same}
 use Rattle.plan_tree.specs.Plans.{stands_before}
 use Rattle.plan_tree.specs.declared.access.Loop.{Loop}
 use Rattle.sql_meaning.specs.Products.{FromRow, in_row}
 use Rattle.vm_code.specs.declared.op.Op.{Op}
 use Rattle.vm_code.specs.declared.op.Op.TheVariants as op
+use Rattle.vm_code.specs.declared.open_cursor.Need.{Need}
+use Rattle.vm_code.specs.declared.open_cursor.Need.TheVariants as need
 use Rattle.vm_code.specs.Draft.{Draft, bound, with_label, with_op}
+use Rattle.vm_code.specs.Track.{Meets, OpenSet, needs_of}
 use Rattle.vm_code.specs.Tracked.{HasPlace, Steady}
 use Rattle.vm_code.specs.Machine.{Cursor, Closed, Open, Sorted, IsSound, Setting, State, act, columns_from, comes_before, current, cursor_at, dropped, first_sorted, held, last_list, other_lists, outs_from, put_all, read, row_read, sorted_to, with_lists, world_of, World}
-use Rattle.vm_code.specs.Frames.{Does, Done, Effect, Fails, Grows, Here, Memory, Outcome, Shut, Sight, and_then, effect_at, environment_of, here, memory_of, no_calls, placed, sight_of, with_regs}
+use Rattle.vm_code.specs.Frames.{Does, Done, Effect, Fails, Grows, Here, Memory, Outcome, Shut, Sight, and_then, effect_at, environment_of, here, memory_of, needing, placed, sight_of, with_regs}
 use Rattle.vm_code.specs.Claims.{Claim, Last, Triple}
 use Rattle.vm_code.proofs.Calls.{length-put_all, put_all-in_front, put_all-outs}
 use Rattle.vm_code.proofs.Drafts.{extends, g_bound, g_label, g_op, g_released, g_taken, grows_then, long_label}
@@ -39,7 +43,7 @@ use Rattle.vm_code.proofs.Loops.{At, comes_onto, goes_onto, moved, put_aside, t_
 use Rattle.vm_code.proofs.Registers.{row_now}
 use Rattle.vm_code.proofs.Seeks.{IsRowOf, place_for, reads_sought, rowid_out, seeks}
 use Rattle.vm_code.proofs.Sorters.{columns-outs, length-columns, t_sorter_data, without_last}
-use Rattle.vm_code.proofs.Tracks.{has-bound, place-bound, st_bind, st_fork_use, st_inner, st_made, st_on, st_released, st_taken, st_then, st_use}
+use Rattle.vm_code.proofs.Tracks.{has-bound, needs_one, place-bound, st_bind, st_fork_reads, st_made, st_on, st_reads, st_released, st_taken, st_then, st_within}
 use Rattle.vm_code.proofs.Triples.{no_labels, t_draft, t_more, t_seq}
 
 -- ---- registers and cursors
@@ -74,7 +78,7 @@ sum-same n (x ∷ xs) =
 long-arranged : (before : FromRow → FromRow → Bool) (rows : List FromRow) → length (arranged before rows) ≡ length rows
 long-arranged before rows = sym (length-shuffled rows (arranged before rows) (arranged-shuffled before rows))
 
-module _ (a turn : Draft) (width lo : ℕ) (F : Effect) (most : ℕ) (lo_le : lo ≤ a.next) (cursors_is : a.cursors ≡ width + 1) (does : Does no_calls (at_row_found a width) turn lo (a.next + width) None F (λ sight causes x. most)) (keeps : KeepsWritten F) (wide : turn.cursors ≡ (at_row_found a width).cursors) where
+module _ {body_needs : List Need} (a turn : Draft) (width lo : ℕ) (F : Effect) (most : ℕ) (lo_le : lo ≤ a.next) (cursors_is : a.cursors ≡ width + 1) (does : Does (needing body_needs) (at_row_found a width) turn lo (a.next + width) None F (λ sight causes x. most)) (keeps : KeepsWritten F) (wide : turn.cursors ≡ (at_row_found a width).cursors) where
   abbrev first : ℕ
   first = a.next
 
@@ -165,21 +169,25 @@ module _ (a turn : Draft) (width lo : ℕ) (F : Effect) (most : ℕ) (lo_le : lo
 
   -- ---- what is open
 
-  module _ (uses : List ℕ) (inside : (k : ℕ) → k < width + 1 → Contains uses k) where
+  module _ (needs : List Need) (sorter_met : (xs : OpenSet) → All (Meets xs) needs → Meets xs (need.Sorter width)) (tables_met : (xs : OpenSet) → All (Meets xs) needs → Tables width xs) (body_met : (xs : OpenSet) → All (Meets xs) needs → All (Meets xs) body_needs) where
+    -- an instruction on the sorter's cursor
+    own_met : (o : Op) → needs_of o ≡ need.Sorter width ∷ [] → (xs : OpenSet) → All (Meets xs) needs → All (Meets xs) (needs_of o)
+    own_met o is xs met = needs_one o (need.Sorter width) xs is (sorter_met xs met)
+
     abbrev labels : List ℕ
     labels = top ∷ end ∷ []
 
-    turns : Steady uses labels b2 e2
+    turns : Steady needs labels b2 e2
     turns =
-        st_then (all-grows width b2) (all-steady uses labels width b2) (st_then (g_taken (all_taken b2 width)) (st_taken uses labels (all_taken b2 width)) (st_then (g_op b3 sort) (st_fork_use uses labels b3 sort end width refl refl (inside width (omega arith)) (inr (inl refl))) (st_on (λ k xs m. m) (st_bind uses labels b4 top (inl refl)) (st_then (g_op b5 load) (st_use uses labels b5 load width refl refl (inside width (omega arith))) (st_then (sought-grows first width b6) (sought-steady uses labels first width b6 (λ k lt. inside k (omega (arith, lt)))) (st_then does.grows (st_inner uses labels does.steady) (st_then (g_op turn (op.SorterNext width top)) (st_fork_use uses labels turn (op.SorterNext width top) top width refl refl (inside width (omega arith)) (inl refl)) (st_bind uses labels e1 end (inr (inl refl))))))))))
+        st_then (all-grows width b2) (all-steady needs labels width b2) (st_then (g_taken (all_taken b2 width)) (st_taken needs labels (all_taken b2 width)) (st_then (g_op b3 sort) (st_fork_reads needs labels b3 sort end refl (own_met sort refl) (inr (inl refl))) (st_on (λ k xs m. m) (st_bind needs labels b4 top (inl refl)) (st_then (g_op b5 load) (st_reads needs labels b5 load refl (own_met load refl)) (st_then (sought-grows first width b6) (sought-steady needs labels first width b6 tables_met) (st_then does.grows (st_within labels body_met does.steady) (st_then (g_op turn (op.SorterNext width top)) (st_fork_reads needs labels turn (op.SorterNext width top) top refl (own_met (op.SorterNext width top) refl) (inl refl)) (st_bind needs labels e1 end (inr (inl refl))))))))))
 
     top_placed : HasPlace e2 top
     top_placed =
-        has-bound e1 end top (does.steady.keeps top ((sought-steady uses labels first width b6 (λ k lt. inside k (omega (arith, lt)))).keeps top (place-bound b4 top top_b4)))
+        has-bound e1 end top (does.steady.keeps top ((sought-steady needs labels first width b6 tables_met).keeps top (place-bound b4 top top_b4)))
 
-    pub walk-steady : Steady uses [] a code
+    pub walk-steady : Steady needs [] a code
     walk-steady =
-        st_then a_e2 (st_made end refl (place-bound e1 end end_turn) (st_made top refl top_placed turns)) (st_released uses [] e2 first)
+        st_then a_e2 (st_made end refl (place-bound e1 end end_turn) (st_made top refl top_placed turns)) (st_released needs [] e2 first)
 
   -- ---- what it does
 

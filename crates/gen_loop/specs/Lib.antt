@@ -1,3 +1,4 @@
 pub mod Loops
+pub mod Needs
 pub mod Stretches
 pub mod Sorting

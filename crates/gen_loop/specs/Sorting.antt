@@ -9,8 +9,9 @@ use Rattle.eng_value.specs.declared.out.Out.{Out}
 use Rattle.gen_loop.specs.Loops.{KeepsWritten, row_seen}
 use Rattle.sql_meaning.specs.Products.{FromRow}
 use Rattle.vm_code.specs.declared.op.Op.TheVariants as op
+use Rattle.vm_code.specs.declared.open_cursor.Need.{Need}
 use Rattle.vm_code.specs.Draft.{Draft, bound, released, taken, with_label, with_op}
-use Rattle.vm_code.specs.Frames.{Does, Done, Effect, no_calls}
+use Rattle.vm_code.specs.Frames.{Does, Done, Effect, needing}
 use Rattle.vm_code.specs.Machine.{added, row_of_outs}
 
 -- ---- rows in a sorter
@@ -73,9 +74,10 @@ abbrev pub walked : Draft → Draft → ℕ → Draft
 walked a turn width = released (bound (with_op turn (op.SorterNext width (walk_top a))) (walk_end a)) a.next
 
 -- a body at each row of a sorter, in the order of a FROM of so many items; the sorter's cursor has their number
-pub record Walks (a b : Draft) (width lo : ℕ) (f : Effect) (most : ℕ) : Type 0 where
+pub record Walks (needs : List Need) (a b : Draft) (width lo : ℕ) (f : Effect) (most : ℕ) : Type 0 where
   pub turn : Draft
-  pub does : Does no_calls (at_row_found a width) turn lo (a.next + width) None f (λ sight causes x. most)
+  pub does : Does (needing needs) (at_row_found a width) turn lo (a.next + width) None f (λ sight causes x. most)
   pub keeps : KeepsWritten f
   pub cursors : turn.cursors ≡ (at_row_found a width).cursors
+  pub units : turn.units ≡ (at_row_found a width).units
   pub is : b ≡ walked a turn width

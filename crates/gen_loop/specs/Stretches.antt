@@ -4,15 +4,17 @@ use Rattle.std.specs.List.{AllByRecursion, range_with_len}
 use Rattle.eng_value.specs.Arrangements.{Shuffled}
 use Rattle.eng_value.specs.Environments.{Environment}
 use Rattle.gen_loop.specs.Loops.{key_steps}
+use Rattle.gen_loop.specs.Needs.{keys_read}
 use Rattle.plan_tree.specs.Visits.{IsCounted, key_outs}
 use Rattle.plan_tree.specs.declared.access.Loop.{Loop}
 use Rattle.plan_tree.specs.declared.access.Path.{Path}
 use Rattle.plan_tree.specs.declared.access.Path.TheVariants as path
 use Rattle.plan_tree.specs.declared.access.Search.{Search}
 use Rattle.vm_code.specs.declared.op.Op.TheVariants as op
+use Rattle.vm_code.specs.declared.open_cursor.Need.{Need}
 use Rattle.vm_code.specs.Draft.{Draft, released, with_op}
 use Rattle.vm_code.specs.Tracked.{Steady}
-use Rattle.vm_code.specs.Frames.{Did, Effect, Fills, Grows, Holds, Ready, Shut, effect_at, environment_of, here, no_calls}
+use Rattle.vm_code.specs.Frames.{Did, Effect, Fills, Grows, Holds, Ready, Shut, effect_at, environment_of, here, needing}
 use Rattle.vm_code.specs.Machine.{Cursor, Open, Setting, State, cursor_at}
 
 -- ---- onto the first row
@@ -20,8 +22,9 @@ use Rattle.vm_code.specs.Machine.{Cursor, Open, Setting, State, cursor_at}
 -- the keys of a search in registers that they take, and the search by them; behind it these are free
 pub record Seeks (a b : Draft) (cursor end : ℕ) (s : Search) : Type 0 where
   pub keyed : Draft
-  pub fills : Fills no_calls a keyed (length s.keys) (λ env. key_outs env s.keys) (λ env. sum_by key_steps s.keys)
+  pub fills : Fills (needing (keys_read s.keys)) a keyed (length s.keys) (λ env. key_outs env s.keys) (λ env. sum_by key_steps s.keys)
   pub cursors : keyed.cursors ≡ a.cursors
+  pub units : keyed.units ≡ a.units
   pub is : b ≡ released (with_op keyed (op.Search cursor s.terms s.bounds a.next end)) a.next
 
 -- a cursor that is open comes onto the first of the rows that a path visits, or code goes on at a label where there is none
@@ -70,9 +73,9 @@ pub record AreSpread (loops : List Loop) : Type 0 where
   pub counted : AllByRecursion (λ (l : Loop). IsCounted l.path) loops
 
 -- code with an effect, which finds the cursors of these loops open and on no row, and those from its own on closed, and leaves all so
-pub record Nests (loops : List Loop) (a b : Draft) (lo causes : ℕ) (f : Effect) (cost : Environment → ℕ) : Type 0 where
+pub record Nests (needs : List Need) (loops : List Loop) (a b : Draft) (lo causes : ℕ) (f : Effect) (cost : Environment → ℕ) : Type 0 where
   pub grows : Grows a b
   pub next : b.next ≡ a.next
-  pub steady : Steady (places_of loops) [] a b
+  pub steady : Steady needs [] a b
   pub does : (m : Setting) → ArePlaced a.cursors loops → (u : ℕ) (at : ℕ → ℕ) → Holds b m.prog u at → (s : State) → Ready b u s → s.pc ≡ length a.code → Stand loops s.scene.cursors → Shut a.cursors s.scene.cursors
       → Did m (cost (environment_of m (here s))) s (length b.code) None lo a.next a.cursors (effect_at m f lo causes (here s))

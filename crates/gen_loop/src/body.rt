@@ -1,7 +1,8 @@
 // What is done with rows.
-ghost use Rattle.std.specs.Prelude.{◌≡◌, ◌<◌, ◌≤◌, ℕ, None, OnOk};
+ghost use Rattle.std.specs.Prelude.{◌≡◌, ◌<◌, ◌≤◌, ℕ, List, None, OnOk};
 ghost use Rattle.gen_loop.specs.Loops.{KeepsWritten};
-ghost use Rattle.vm_code.specs.Frames.{Does, Effect, no_calls};
+ghost use Rattle.vm_code.specs.declared.open_cursor.Need.{Need};
+ghost use Rattle.vm_code.specs.Frames.{Does, Effect, needing};
 
 use std::alloc::AllocError;
 use vm_code::Builder;
@@ -16,12 +17,16 @@ pub trait LoopBody {
     /// The registers below this number are the body's own.
     ghost own: { Self → ℕ };
 
+    /// What its code needs of cursors.
+    ghost needs: { Self → List Need };
+
     /// Writes the body's code, where the register `causes` holds the causes of the row. It is written once, and writes no table.
     fn emit(&mut self, b: &mut Builder, causes: u32) -> Result<(), AllocError>
         requires taken { causes < b.old.next }
         requires owned { own self.old ≤ causes }
         requires counted { b.old.next ≤ b.old.most }
-        ensures does { OnOk result (Does no_calls b.old b.new (own self.old) causes None (effect self.old) (λ _ _ _. cost self.old)) }
+        ensures does { OnOk result (Does (needing (needs self.old)) b.old b.new (own self.old) causes None (effect self.old) (λ _ _ _. cost self.old)) }
         ensures keeps { OnOk result (KeepsWritten (effect self.old)) }
-        ensures cursors { OnOk result (b.new.cursors ≡ b.old.cursors) };
+        ensures cursors { OnOk result (b.new.cursors ≡ b.old.cursors) }
+        ensures units { OnOk result (b.new.units ≡ b.old.units) };
 }

@@ -1,6 +1,7 @@
 // The rows that the loops of a plan give.
 ghost use Rattle.std.specs.Prelude.{◌≡◌, ◌≤◌, OnOk};
 ghost use Rattle.gen_loop.specs.Loops.{KeepsWritten, gathered_steps, gathering};
+ghost use Rattle.gen_loop.specs.Needs.{gathering_needs};
 ghost use Rattle.gen_loop.specs.Stretches.{Nests};
 
 use crate::body::LoopBody;
@@ -20,8 +21,9 @@ pub(crate) fn emit_gathering<B: LoopBody>(
 ) -> Result<(), AllocError>
     requires owned { B.own body.old ≤ b.old.next }
     requires counted { b.old.next ≤ b.old.most }
-    ensures nests { OnOk result (Nests plan.now.loops b.old b.new (B.own body.old) 0 (gathering plan.now (B.effect body.old)) (gathered_steps plan.now (B.cost body.old))) }
+    ensures nests { OnOk result (Nests (gathering_needs plan.now (B.needs body.old)) plan.now.loops b.old b.new (B.own body.old) 0 (gathering plan.now (B.effect body.old)) (gathered_steps plan.now (B.cost body.old))) }
     ensures cursors { OnOk result (b.new.cursors ≡ b.old.cursors) }
+    ensures units { OnOk result (b.new.units ≡ b.old.units) }
 {
     let end = b.label()?;
     let causes = b.take()?;

@@ -8,6 +8,8 @@
 //! expressions read the item's row by it, and NULLs where it is on no row: that is what a LEFT JOIN leaves where a row stays alone.
 //! Where the loops stand in another order than the items of the FROM, they put each row into a sorter, as the rowids of its items and its
 //! causes, and the body runs in a walk over the sorter (`Walks`), with each item's cursor back on its row.
+//! What loops need of cursors says specs/Needs.antt. `emit` opens its own, so it needs nothing of those in front of it, and it leaves what
+//! it finds (`Steady`), where the plan and the body name rows of the plan's items alone (`NamesBelow`).
 //! Begin with `LoopBody`, then `emit`.
 #![tactic(auto)]
 

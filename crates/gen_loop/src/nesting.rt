@@ -1,6 +1,7 @@
 // Loops, one in the other.
 ghost use Rattle.std.specs.Prelude.{◌≡◌, ◌+◌, ◌<◌, ◌≤◌, ◌∷◌, length, IfOk, OnOk};
 ghost use Rattle.gen_loop.specs.Loops.{KeepsWritten, nested, nested_steps};
+ghost use Rattle.gen_loop.specs.Needs.{loops_needs};
 ghost use Rattle.gen_loop.specs.Stretches.{Nests};
 ghost use Rattle.plan_tree.specs.declared.access.Pairs.TheVariants.{Each, OrAlone};
 ghost use Rattle.vm_code.specs.Draft.{taken, with_label};
@@ -25,9 +26,10 @@ pub(crate) fn emit_nest<B: LoopBody>(
     requires taken { causes < b.old.next }
     requires owned { B.own body.old ≤ causes }
     requires counted { b.old.next ≤ b.old.most }
-    ensures nests { OnOk result (Nests loops.now b.old b.new (B.own body.old) causes (nested loops.now (B.effect body.old)) (nested_steps loops.now (B.cost body.old))) }
+    ensures nests { OnOk result (Nests (loops_needs loops.now (B.needs body.old)) loops.now b.old b.new (B.own body.old) causes (nested loops.now (B.effect body.old)) (nested_steps loops.now (B.cost body.old))) }
     ensures keeps { OnOk result (KeepsWritten (B.effect body.old)) }
     ensures cursors { OnOk result (b.new.cursors ≡ b.old.cursors) }
+    ensures units { OnOk result (b.new.units ≡ b.old.units) }
 {
     match loops.split_first() {
         None => body.emit(b, causes)?,
@@ -55,9 +57,10 @@ fn emit_each<B: LoopBody>(
     requires taken { causes < b.old.next }
     requires owned { B.own body.old ≤ causes }
     requires counted { b.old.next ≤ b.old.most }
-    ensures nests { OnOk result (Nests (outer.now ∷ inner.now) b.old b.new (B.own body.old) causes (nested (outer.now ∷ inner.now) (B.effect body.old)) (nested_steps (outer.now ∷ inner.now) (B.cost body.old))) }
+    ensures nests { OnOk result (Nests (loops_needs (outer.now ∷ inner.now) (B.needs body.old)) (outer.now ∷ inner.now) b.old b.new (B.own body.old) causes (nested (outer.now ∷ inner.now) (B.effect body.old)) (nested_steps (outer.now ∷ inner.now) (B.cost body.old))) }
     ensures keeps { OnOk result (KeepsWritten (B.effect body.old)) }
     ensures cursors { OnOk result (b.new.cursors ≡ b.old.cursors) }
+    ensures units { OnOk result (b.new.units ≡ b.old.units) }
 {
     let Places {
         end,
@@ -99,9 +102,10 @@ fn emit_or_alone<B: LoopBody>(
     requires taken { causes < b.old.next }
     requires owned { B.own body.old ≤ causes }
     requires counted { b.old.next ≤ b.old.most }
-    ensures nests { OnOk result (Nests (outer.now ∷ inner.now) b.old b.new (B.own body.old) causes (nested (outer.now ∷ inner.now) (B.effect body.old)) (nested_steps (outer.now ∷ inner.now) (B.cost body.old))) }
+    ensures nests { OnOk result (Nests (loops_needs (outer.now ∷ inner.now) (B.needs body.old)) (outer.now ∷ inner.now) b.old b.new (B.own body.old) causes (nested (outer.now ∷ inner.now) (B.effect body.old)) (nested_steps (outer.now ∷ inner.now) (B.cost body.old))) }
     ensures keeps { OnOk result (KeepsWritten (B.effect body.old)) }
     ensures cursors { OnOk result (b.new.cursors ≡ b.old.cursors) }
+    ensures units { OnOk result (b.new.units ≡ b.old.units) }
 {
     let pair = b.label()?;
     let done = b.label()?;

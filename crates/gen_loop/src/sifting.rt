@@ -2,11 +2,13 @@
 ghost use Rattle.std.specs.Prelude.{◌≡◌, ◌+◌, ◌<◌, ◌≤◌, true, OnOk};
 ghost use Rattle.eng_value.specs.Truths.{truth_in, truth_of};
 ghost use Rattle.gen_expr.specs.Steps.{steps_of};
+ghost use Rattle.gen_expr.specs.Needs.{needs_of};
 ghost use Rattle.gen_loop.specs.Loops.{conjuncts_steps};
+ghost use Rattle.gen_loop.specs.Needs.{conjuncts_read};
 ghost use Rattle.sql_meaning.specs.Expression.{value_of};
 ghost use Rattle.sql_meaning.specs.Products.{after_conjunct, sifted};
 ghost use Rattle.vm_code.specs.Draft.{given_back, with_op};
-ghost use Rattle.vm_code.specs.Frames.{Leaves, Sifts, no_calls};
+ghost use Rattle.vm_code.specs.Frames.{Leaves, Sifts, needing};
 ghost use Rattle.vm_code.specs.declared.op.Op.TheVariants as op;
 
 use gen_expr::{emit_comparison, emit_truth};
@@ -25,8 +27,9 @@ pub(crate) fn emit_conjuncts(
 ) -> Result<(), AllocError>
     requires taken { causes < b.old.next }
     requires counted { b.old.next ≤ b.old.most }
-    ensures sifts { OnOk result (Sifts no_calls b.old b.new causes next (sifted conjuncts.now) (λ _. conjuncts_steps conjuncts.now)) }
+    ensures sifts { OnOk result (Sifts (needing (conjuncts_read conjuncts.now)) b.old b.new causes next (sifted conjuncts.now) (λ _. conjuncts_steps conjuncts.now)) }
     ensures cursors { OnOk result (b.new.cursors ≡ b.old.cursors) }
+    ensures units { OnOk result (b.new.units ≡ b.old.units) }
 {
     for conjunct in conjuncts {
         emit_conjunct(alloc, b, conjunct, causes, next)?;
@@ -44,8 +47,9 @@ fn emit_conjunct(
 ) -> Result<(), AllocError>
     requires taken { causes < b.old.next }
     requires counted { b.old.next ≤ b.old.most }
-    ensures sifts { OnOk result (Sifts no_calls b.old b.new causes next (λ env found. after_conjunct found (truth_in (truth_of (value_of conjunct.now env)))) (λ _. steps_of conjunct.now + 3)) }
+    ensures sifts { OnOk result (Sifts (needing (needs_of conjunct.now)) b.old b.new causes next (λ env found. after_conjunct found (truth_in (truth_of (value_of conjunct.now env)))) (λ _. steps_of conjunct.now + 3)) }
     ensures cursors { OnOk result (b.new.cursors ≡ b.old.cursors) }
+    ensures units { OnOk result (b.new.units ≡ b.old.units) }
 {
     let value = b.take()?;
     emit_test(alloc, b, conjunct, value)?;
@@ -82,8 +86,9 @@ fn add_causes(b: &mut Builder, truth: u32, causes: u32) -> Result<(), AllocError
 fn emit_test(alloc: Global, b: &mut Builder, conjunct: &Conjunct, to: u32) -> Result<(), AllocError>
     requires taken { to < b.old.next }
     requires counted { b.old.next ≤ b.old.most }
-    ensures leaves { OnOk result (Leaves no_calls b.old b.new to (λ env. truth_of (value_of conjunct.now env)) (λ _. steps_of conjunct.now + 1)) }
+    ensures leaves { OnOk result (Leaves (needing (needs_of conjunct.now)) b.old b.new to (λ env. truth_of (value_of conjunct.now env)) (λ _. steps_of conjunct.now + 1)) }
     ensures cursors { OnOk result (b.new.cursors ≡ b.old.cursors) }
+    ensures units { OnOk result (b.new.units ≡ b.old.units) }
 {
     match conjunct.form() {
         Form::Whole(expression) => emit_truth(alloc, b, expression, to)?,

@@ -1,9 +1,11 @@
 // Plans whose rows are put in the order of the FROM behind their loops.
-ghost use Rattle.std.specs.Prelude.{◌≡◌, ◌+◌, ◌-◌, ◌≤◌, None, true, length, IfOk, OnOk};
+ghost use Rattle.std.specs.Prelude.{◌≡◌, ◌+◌, ◌-◌, ◌≤◌, ◌++◌, [], None, true, length, IfOk, OnOk};
 ghost use Rattle.gen_loop.specs.Loops.{from_cost, from_effect};
+ghost use Rattle.gen_loop.specs.Needs.{NamesBelow, plan_reads, rowids_needs};
 ghost use Rattle.gen_loop.specs.Sorting.{Walks, all_taken, collect, position_terms, rowids_of, sought_all, walk_end, walk_top, with_row_taken};
 ghost use Rattle.gen_loop.specs.Stretches.{AreSpread};
-ghost use Rattle.vm_code.specs.Frames.{Does, Fills, no_calls};
+ghost use Rattle.vm_code.specs.Frames.{Does, Fills, needing};
+ghost use Rattle.vm_code.specs.Tracked.{Steady};
 
 use crate::body::LoopBody;
 use crate::gathering::emit_gathering;
@@ -28,8 +30,10 @@ pub(crate) fn emit_sorted<B: LoopBody>(
     requires first { b.old.cursors ≡ 0 }
     requires owned { B.own body.old ≤ b.old.next }
     requires counted { b.old.next ≤ b.old.most }
-    ensures does { OnOk result (AreSpread plan.now.loops → Does no_calls b.old b.new (B.own body.old) 0 None (from_effect plan.now (B.effect body.old)) (from_cost plan.now (B.cost body.old))) }
+    ensures does { OnOk result (AreSpread plan.now.loops → Does (needing (plan_reads plan.now ++ B.needs body.old)) b.old b.new (B.own body.old) 0 None (from_effect plan.now (B.effect body.old)) (from_cost plan.now (B.cost body.old))) }
+    ensures steady { OnOk result (AreSpread plan.now.loops → NamesBelow (length plan.now.loops) (plan_reads plan.now ++ B.needs body.old) → Steady [] [] b.old b.new) }
     ensures cursors { OnOk result (b.new.cursors ≡ length plan.now.loops + 1) }
+    ensures units { OnOk result (b.new.units ≡ b.old.units) }
 {
     open_cursors(b, plan.loops.as_slice())?;
     let sorter = b.cursor()?;
@@ -53,6 +57,8 @@ impl LoopBody for Collector {
 
     ghost own = { λ c. 0 };
 
+    ghost needs = { λ c. rowids_needs c.width };
+
     fn emit(&mut self, b: &mut Builder, causes: u32) -> Result<(), AllocError> {
         let first = b.next_register();
         emit_rowids(b, self.width)?;
@@ -71,8 +77,9 @@ impl LoopBody for Collector {
 /// Writes code that leaves the rowids of the rows of the first items in registers that it takes, one after another.
 fn emit_rowids(b: &mut Builder, width: u32) -> Result<(), AllocError>
     requires counted { b.old.next ≤ b.old.most }
-    ensures fills { OnOk result (Fills no_calls b.old b.new width (λ env. rowids_of width env.rows) (λ _. width)) }
+    ensures fills { OnOk result (Fills (needing (rowids_needs width)) b.old b.new width (λ env. rowids_of width env.rows) (λ _. width)) }
     ensures cursors { OnOk result (b.new.cursors ≡ b.old.cursors) }
+    ensures units { OnOk result (b.new.units ≡ b.old.units) }
 {
     for place in 0..width {
         let to = b.take()?;
@@ -91,7 +98,7 @@ fn emit_walk<B: LoopBody>(
 ) -> Result<(), AllocError>
     requires owned { B.own body.old ≤ b.old.next }
     requires counted { b.old.next ≤ b.old.most }
-    ensures { OnOk result (Walks b.old b.new sorter (B.own body.old) (B.effect body.old) (B.cost body.old)) }
+    ensures { OnOk result (Walks (B.needs body.old) b.old b.new sorter (B.own body.old) (B.effect body.old) (B.cost body.old)) }
 {
     let Turns {
         end,

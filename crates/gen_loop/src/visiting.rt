@@ -1,9 +1,10 @@
 // The rows that a path visits.
 ghost use Rattle.std.specs.Prelude.{◌≡◌, ◌+◌, ◌<◌, ◌≤◌, length, sum_by, OnOk};
 ghost use Rattle.gen_loop.specs.Loops.{key_steps};
+ghost use Rattle.gen_loop.specs.Needs.{key_read, keys_read};
 ghost use Rattle.gen_loop.specs.Stretches.{Comes, Seeks};
 ghost use Rattle.plan_tree.specs.Visits.{key_out, key_outs};
-ghost use Rattle.vm_code.specs.Frames.{Fills, Leaves, no_calls};
+ghost use Rattle.vm_code.specs.Frames.{Fills, Leaves, needing};
 
 use gen_expr::emit_tree;
 use plan_tree::{Key, Path, Search};
@@ -60,8 +61,9 @@ fn emit_search(
 /// Writes code that leaves keys in registers that it takes, one after another.
 fn emit_keys(alloc: Global, b: &mut Builder, keys: &[Key]) -> Result<(), AllocError>
     requires counted { b.old.next ≤ b.old.most }
-    ensures fills { OnOk result (Fills no_calls b.old b.new (length keys.now) (λ env. key_outs env keys.now) (λ _. sum_by key_steps keys.now)) }
+    ensures fills { OnOk result (Fills (needing (keys_read keys.now)) b.old b.new (length keys.now) (λ env. key_outs env keys.now) (λ _. sum_by key_steps keys.now)) }
     ensures cursors { OnOk result (b.new.cursors ≡ b.old.cursors) }
+    ensures units { OnOk result (b.new.units ≡ b.old.units) }
 {
     for key in keys {
         let to = b.take()?;
@@ -74,8 +76,9 @@ fn emit_keys(alloc: Global, b: &mut Builder, keys: &[Key]) -> Result<(), AllocEr
 fn emit_key(alloc: Global, b: &mut Builder, key: &Key, to: u32) -> Result<(), AllocError>
     requires taken { to < b.old.next }
     requires counted { b.old.next ≤ b.old.most }
-    ensures leaves { OnOk result (Leaves no_calls b.old b.new to (λ env. key_out key.now env) (λ _. key_steps key.now)) }
+    ensures leaves { OnOk result (Leaves (needing (key_read key.now)) b.old b.new to (λ env. key_out key.now env) (λ _. key_steps key.now)) }
     ensures cursors { OnOk result (b.new.cursors ≡ b.old.cursors) }
+    ensures units { OnOk result (b.new.units ≡ b.old.units) }
 {
     emit_tree(alloc, b, key.value, to)?;
     b.op(Op::Beside {

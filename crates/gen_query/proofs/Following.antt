@@ -3,22 +3,23 @@ use Rattle.std.proofs.Common.{◌≡◌, List, [], ◌∷◌, ◌++◌, map, Non
 use Rattle.std.proofs.lemmas.List.{map-append}
 use Rattle.std.proofs.lemmas.List.Sums.{sum_by_push}
 use Rattle.eng_value.specs.Environments.{no_causes}
-use Rattle.gen_query.specs.Queries.{by_world, gives, row_steps, rows_in_turn_steps, value_effect, values_effect}
+use Rattle.gen_loop.proofs.Places.{front_met, last_met}
+use Rattle.gen_query.specs.Queries.{by_world, gives, results_read, row_steps, rows_in_turn_steps, rows_read, value_effect, values_effect}
 use Rattle.gen_query.proofs.Listing.{gives_done, gives_quit, gives-more, gives-no_more, with_given-nil}
 use Rattle.sql_meaning.specs.Statement.{Item, shown}
 use Rattle.bound_tree.specs.Exprs.{BoundExpr}
 use Rattle.vm_code.specs.Draft.{Draft}
 use Rattle.vm_code.specs.Machine.{Scene, Setting, cursor_at, read}
-use Rattle.vm_code.specs.Frames.{Here, environment_of, Memory, memory_of, Effect, effect_at, Done, Does, Shut, no_calls}
+use Rattle.vm_code.specs.Frames.{Here, environment_of, Memory, memory_of, Effect, effect_at, Done, Does, Shut, needing}
 use Rattle.vm_code.specs.Claims.{Claim, Last, Triple}
 use Rattle.vm_code.proofs.Drafts.{grows_none, grows_then}
-use Rattle.vm_code.proofs.Tracks.{st_none, st_then}
+use Rattle.vm_code.proofs.Tracks.{st_none, st_then, st_wider}
 use Rattle.vm_code.proofs.Triples.{no_labels, t_seq, t_more, t_draft, t_use}
 use Rattle.vm_code.proofs.Effects.{t_does, does_of, Keeps, EndsDone, EndsFailed}
 
 -- ---- no row
 
-pub values_none : (a : Draft) → Does no_calls a a 0 0 None (values_effect []) (by_world (λ w. rows_in_turn_steps []))
+pub values_none : (a : Draft) → Does (needing []) a a 0 0 None (values_effect []) (by_world (λ w. rows_in_turn_steps []))
 values_none a =
     does_of 0 0 None (values_effect []) (λ h0 h. h ≡ h0) (grows_none a) refl (st_none [] [] a) (λ h shut. refl) (λ m called.
     let begun : Claim = λ h0 h. h ≡ h0 in
@@ -32,7 +33,7 @@ values_none a =
 
 -- ---- a row more
 
-module _ (a b c : Draft) (rows : List (List BoundExpr)) (row : List BoundExpr) (x : Does no_calls a b 0 0 None (values_effect rows) (by_world (λ w. rows_in_turn_steps rows))) (y : Does no_calls b c 0 0 None (value_effect row) (λ sight held x. row_steps row)) where
+module _ (a b c : Draft) (rows : List (List BoundExpr)) (row : List BoundExpr) (x : Does (needing (rows_read rows)) a b 0 0 None (values_effect rows) (by_world (λ w. rows_in_turn_steps rows))) (y : Does (needing (results_read row)) b c 0 0 None (value_effect row) (λ sight held x. row_steps row)) where
   abbrev all : List (List BoundExpr)
   all = rows ++ row ∷ []
 
@@ -107,6 +108,6 @@ module _ (a b c : Draft) (rows : List (List BoundExpr)) (row : List BoundExpr) (
     whole : Triple m a c (λ h0. rows_in_turn_steps all) no_labels last started done
     whole = t_more (λ h0. rows_in_turn_steps all) (λ h0. omega (arith, sum_by_push (row_steps) rows row)) (t_seq in_front behind)
 
-  pub values_more : Does no_calls a c 0 0 None (values_effect (rows ++ row ∷ [])) (by_world (λ w. rows_in_turn_steps (rows ++ row ∷ [])))
+  pub values_more : Does (needing (rows_read (rows ++ row ∷ []))) a c 0 0 None (values_effect (rows ++ row ∷ [])) (by_world (λ w. rows_in_turn_steps (rows ++ row ∷ [])))
   values_more =
-      does_of 0 0 None effect started (grows_then x.grows y.grows) (y.next ∙ x.next) (st_then x.grows x.steady y.steady) (λ h shut. (refl, shut)) (λ m called. whole m)
+      does_of 0 0 None effect started (grows_then x.grows y.grows) (y.next ∙ x.next) (st_then x.grows (st_wider (λ xs met. front_met xs results_read rows row met) x.steady) (st_wider (λ xs met. last_met xs results_read rows row met) y.steady)) (λ h shut. (refl, shut)) (λ m called. whole m)

@@ -5,6 +5,7 @@ mod Following
 mod Alike
 mod Widening
 mod Fitting
+mod Naming
 mod Performing
 mod Counting
 pub mod Sizing

@@ -16,17 +16,18 @@ use Rattle.sql_meaning.specs.Statement.{Item, given_of}
 use Rattle.bound_tree.specs.Exprs.{BoundExpr}
 use Rattle.sql_meaning.specs.declared.bound.BoundSelect.{BoundSelect}
 use Rattle.vm_code.specs.declared.op.Op.TheVariants as op
+use Rattle.vm_code.specs.declared.open_cursor.Need.{Need}
 use Rattle.vm_code.specs.declared.program.Program.{Program}
 use Rattle.vm_code.specs.Draft.{Draft, begun, with_op}
 use Rattle.vm_code.specs.Tracked.{Steady}
 use Rattle.vm_code.specs.Machine.{World, Cursor, Ends, Setting, Shared, Finished, Performs, PerformsWith, Run, current, ending_by, read, setting, start, world_of}
-use Rattle.vm_code.specs.Frames.{Cost, Here, environment_of, sight_of, surroundings_of, Memory, memory_of, Effect, effect_at, cost_at, Does, IsProgramOf, Shut, no_calls}
-use Rattle.vm_code.specs.Balanced.{IsBalanced}
+use Rattle.vm_code.specs.Frames.{Cost, Here, environment_of, sight_of, surroundings_of, Memory, memory_of, Effect, effect_at, cost_at, Does, IsProgramOf, Shut, needing}
+use Rattle.vm_code.specs.Accepted.{IsAccepted}
 use Rattle.vm_code.specs.Claims.{Claim, Last, Triple}
 use Rattle.vm_code.proofs.Runs.{leads_more}
 use Rattle.vm_code.proofs.Triples.{no_labels, t_seq, t_halt}
 use Rattle.vm_code.proofs.Effects.{t_does}
-use Rattle.vm_code.proofs.Balancing.{balanced_of}
+use Rattle.vm_code.proofs.Accepting.{accepted_of}
 use Rattle.vm_code.proofs.Whole.{Begins, EndsAs, performs_of}
 
 -- ---- what is seen at the start
@@ -65,7 +66,7 @@ gives_values m rows h b =
 -- ---- the run
 
 -- code that gives items by what surrounds it, and the end of the program
-module _ (z : Draft) (f : Effect) (items_by : Surroundings → List Item) (n : Cost) (most : Surroundings → ℕ) (x : Does no_calls (begun []) z 0 0 None f n) (gives_them : (m : Setting) (h : Here) → Begins z.cursors h → effect_at m f 0 0 h ≡ gives (items_by (surroundings_of m h.shared)) (memory_of 0 h)) (costs : (m : Setting) (h : Here) → Begins z.cursors h → cost_at m n 0 0 h ≡ most (surroundings_of m h.shared)) where
+module _ {needs : List Need} (z : Draft) (f : Effect) (items_by : Surroundings → List Item) (n : Cost) (most : Surroundings → ℕ) (x : Does (needing needs) (begun []) z 0 0 None f n) (gives_them : (m : Setting) (h : Here) → Begins z.cursors h → effect_at m f 0 0 h ≡ gives (items_by (surroundings_of m h.shared)) (memory_of 0 h)) (costs : (m : Setting) (h : Here) → Begins z.cursors h → cost_at m n 0 0 h ≡ most (surroundings_of m h.shared)) where
   abbrev pub whole : Draft
   whole = with_op z op.Halt
 
@@ -113,12 +114,12 @@ module _ (z : Draft) (f : Effect) (items_by : Surroundings → List Item) (n : C
   items-performed p is = performs_of [] whole p run (λ around. most around + 1) is ends
 
 -- a program whose main unit is that code and the end
-pub ended-balanced : (z : Draft) → Steady [] [] (begun []) z → (p : Program) → IsProgramOf (with_op z op.Halt) p → IsBalanced p.main
-ended-balanced z steady p is = balanced_of [] z op.Halt p steady refl refl is
+pub ended-accepted : (z : Draft) → Steady [] [] (begun []) z → z.units ≡ [] → (p : Program) → IsProgramOf (with_op z op.Halt) p → IsAccepted p
+ended-accepted z steady alone p is = accepted_of [] z op.Halt p steady alone refl refl is
 
 -- ---- a query
 
-module _ (z : Draft) (q : BoundSelect) (p : JoinPlan) (x : AreSpread p.loops → Does no_calls (begun []) z 0 0 None (from_effect p (row_effect q.results)) (from_cost p (row_steps q.results))) (wide : z.cursors ≡ cursors_of p) (program : Program) (is : IsProgramOf (with_op z op.Halt) program) where
+module _ {needs : List Need} (z : Draft) (q : BoundSelect) (p : JoinPlan) (x : AreSpread p.loops → Does (needing needs) (begun []) z 0 0 None (from_effect p (row_effect q.results)) (from_cost p (row_steps q.results))) (wide : z.cursors ≡ cursors_of p) (program : Program) (is : IsProgramOf (with_op z op.Halt) program) where
   -- at the start, where no item has a row
   abbrev steps_planned : Surroundings → ℕ
   steps_planned around = plan_steps p (row_steps q.results) (environment around [] [] (no_rows (cursors_of p)).rows)
@@ -146,7 +147,7 @@ module _ (z : Draft) (q : BoundSelect) (p : JoinPlan) (x : AreSpread p.loops →
 
 -- ---- VALUES
 
-module _ (z : Draft) (rows : List (List BoundExpr)) (x : Does no_calls (begun []) z 0 0 None (values_effect rows) (by_world (λ w. rows_in_turn_steps rows))) (wide : z.cursors ≡ 0) (p : Program) (is : IsProgramOf (with_op z op.Halt) p) where
+module _ {needs : List Need} (z : Draft) (rows : List (List BoundExpr)) (x : Does (needing needs) (begun []) z 0 0 None (values_effect rows) (by_world (λ w. rows_in_turn_steps rows))) (wide : z.cursors ≡ 0) (p : Program) (is : IsProgramOf (with_op z op.Halt) p) where
   pub values-performed : Performs p (values_run rows) (values_steps rows)
   values-performed =
       items-performed z (values_effect rows) (values_items rows) (by_world (λ w. rows_in_turn_steps rows)) (λ around. rows_in_turn_steps rows) x (λ m h b. gives_values m rows h (subst (λ n. Begins n h) wide b)) (λ m h b. refl) p is

@@ -8,7 +8,7 @@ use Rattle.eng_value.specs.declared.out.Out.{Out}
 use Rattle.eng_value.specs.declared.out.Out.TheVariants.{Good, Bad}
 use Rattle.gen_expr.specs.Steps.{steps_of}
 use Rattle.gen_loop.specs.Loops.{KeepsWritten}
-use Rattle.gen_query.specs.Queries.{gives, row_effect, row_steps, shown_effect, value_effect, with_given}
+use Rattle.gen_query.specs.Queries.{gives, results_read, row_effect, row_steps, shown_effect, value_effect, with_given}
 use Rattle.gen_query.specs.Stretches.{Gathers, Shows, with_row_given}
 use Rattle.gen_query.proofs.Gathering.{t_gathers, values_in}
 use Rattle.gen_query.proofs.Listing.{gives_done, good_or_null-same, with_given-nil}
@@ -17,13 +17,14 @@ use Rattle.sql_meaning.specs.Statement.{item_by, shown}
 use Rattle.bound_tree.specs.Exprs.{BoundExpr}
 use Rattle.vm_code.specs.declared.op.Op.{Op}
 use Rattle.vm_code.specs.declared.op.Op.TheVariants as op
+use Rattle.vm_code.specs.declared.open_cursor.Need.{Need}
 use Rattle.vm_code.specs.Draft.{Draft, with_op, with_label, bound, taken, released}
 use Rattle.vm_code.specs.Tracked.{GoesOn, Steady}
 use Rattle.vm_code.specs.Machine.{Row, Setting, State, act, is_bad, leaving_of, outs_from, put, read, values_from}
-use Rattle.vm_code.specs.Frames.{Here, environment_of, Memory, memory_of, Effect, Done, Fails, Does, Fills, Grows, no_calls, placed}
+use Rattle.vm_code.specs.Frames.{Here, environment_of, Memory, memory_of, Effect, Done, Fails, Does, Fills, Grows, needing, placed}
 use Rattle.vm_code.specs.Claims.{Claim, Labels, Last, Triple}
 use Rattle.vm_code.proofs.Drafts.{g_bound, g_label, g_op, g_released, g_taken, grows_then, open_new, open_old, open_other}
-use Rattle.vm_code.proofs.Tracks.{has-bound, place-bound, st_fork, st_goto, st_inner, st_leave, st_made, st_on, st_op, st_released, st_taken, st_then}
+use Rattle.vm_code.proofs.Tracks.{has-bound, place-bound, st_fork, st_goto, st_inner, st_leave, st_made, st_on, st_op, st_released, st_taken, st_then, st_within}
 use Rattle.vm_code.proofs.Registers.{outs_same, values_outs}
 use Rattle.vm_code.proofs.Triples.{no_labels, with_claim, t_seq, t_more, t_draft, t_op, t_test, t_goto, t_bind, t_halt_bad}
 use Rattle.vm_code.proofs.Effects.{does_of, t_put, But, but_none, but_regs, but_env, EndsDone, EndsFailed}
@@ -47,7 +48,7 @@ but_memory {mark} {to} {h0} {h} x =
 
 -- ---- the code of a row
 
-module _ (a y z : Draft) (results : List BoundExpr) (counted : a.next ≤ a.most) (outer : ℕ) (start : Out → Out) (o : Op) (goes_on : GoesOn o) (law : (m : Setting) (at : ℕ → ℕ) (s : State) → act m (Some (placed at o)) s ≡ put s a.next (start (read s.regs outer))) (same_start : (r q : List Out) → ((k : ℕ) → k < a.next → read q k ≡ read r k) → start (read q outer) ≡ start (read r outer)) (fy : Fills no_calls (with_op (taken (with_label a)) o) y (length results) (λ env. values_in results env) (λ env. sum_by steps_of results)) (gz : Gathers y z (a.next + 1) (y.next - (a.next + 1)) a.next) where
+module _ (a y z : Draft) (results : List BoundExpr) (counted : a.next ≤ a.most) (outer : ℕ) (start : Out → Out) (o : Op) (goes_on : GoesOn o) (law : (m : Setting) (at : ℕ → ℕ) (s : State) → act m (Some (placed at o)) s ≡ put s a.next (start (read s.regs outer))) (same_start : (r q : List Out) → ((k : ℕ) → k < a.next → read q k ≡ read r k) → start (read q outer) ≡ start (read r outer)) (fy : Fills (needing (results_read results)) (with_op (taken (with_label a)) o) y (length results) (λ env. values_in results env) (λ env. sum_by steps_of results)) (gz : Gathers y z (a.next + 1) (y.next - (a.next + 1)) a.next) where
   -- the register of the causes
   abbrev causes : ℕ
   causes = a.next
@@ -104,6 +105,9 @@ module _ (a y z : Draft) (results : List BoundExpr) (counted : a.next ≤ a.most
   grows_row =
       grows_then (g_bound halting next (grows_then (g_bound leaving fail grows_leaving (omega (arith, next_below)) (open_new z)) (g_op (bound leaving fail) (op.HaltBad causes))) (omega arith) next_there) (g_released (bound halting next) causes)
 
+  abbrev needs : List Need
+  needs = results_read results
+
   -- the label behind the row alone, and beside it that of a bad one
   abbrev outside : List ℕ
   outside = next ∷ []
@@ -111,13 +115,13 @@ module _ (a y z : Draft) (results : List BoundExpr) (counted : a.next ≤ a.most
   abbrev inside : List ℕ
   inside = fail ∷ next ∷ []
 
-  steady_giving : Steady [] outside z (bound halting next)
+  steady_giving : Steady needs outside z (bound halting next)
   steady_giving =
-      st_made fail refl (has-bound halting next fail (place-bound leaving fail (open_new z))) (st_then (g_op (with_label z) (op.IsBad causes fail)) (st_fork [] inside (with_label z) (op.IsBad causes fail) fail refl refl (inl refl)) (st_then (g_op testing (op.ResultRow (a.next + 1) count)) (st_op [] inside testing (op.ResultRow (a.next + 1) count) (refl, refl)) (st_on (λ l xs m. m) (st_goto [] inside giving next fail (inr (inl refl)) (inl refl)) (st_leave [] inside (bound leaving fail) (op.HaltBad causes) next refl refl (inr (inl refl))))))
+      st_made fail refl (has-bound halting next fail (place-bound leaving fail (open_new z))) (st_then (g_op (with_label z) (op.IsBad causes fail)) (st_fork needs inside (with_label z) (op.IsBad causes fail) fail refl refl (inl refl)) (st_then (g_op testing (op.ResultRow (a.next + 1) count)) (st_op needs inside testing (op.ResultRow (a.next + 1) count) (refl, refl)) (st_on (λ l xs m. m) (st_goto needs inside giving next fail (inr (inl refl)) (inl refl)) (st_leave needs inside (bound leaving fail) (op.HaltBad causes) next refl refl (inr (inl refl))))))
 
-  steady_row : Steady [] [] a row_code
+  steady_row : Steady needs [] a row_code
   steady_row =
-      st_made next refl (place-bound halting next next_there) (st_then (g_taken (with_label a)) (st_taken [] outside (with_label a)) (st_then (g_op ready o) (st_op [] outside ready o goes_on) (st_then fy.grows (st_inner [] outside fy.steady) (st_then gz.grows (st_inner [] outside gz.steady) (st_on (g_label z).marks steady_giving (st_released [] outside (bound halting next) causes))))))
+      st_made next refl (place-bound halting next next_there) (st_then (g_taken (with_label a)) (st_taken needs outside (with_label a)) (st_then (g_op ready o) (st_op needs outside ready o goes_on) (st_then fy.grows (st_within outside (λ xs met. met) fy.steady) (st_then gz.grows (st_inner needs outside gz.steady) (st_on (g_label z).marks steady_giving (st_released needs outside (bound halting next) causes))))))
 
   abbrev started : Claim
   started = But causes causes
@@ -221,7 +225,7 @@ module _ (a y z : Draft) (results : List BoundExpr) (counted : a.next ≤ a.most
         let back = t_draft m outer_labels last done (g_released (bound halting next) causes) refl in
         t_more (λ h0. row_steps results) (λ h0. omega (arith, count_is)) (t_seq all back)
 
-  pub row-does : Does no_calls a row_code 0 outer None (shown_effect results start) (λ sight held y. row_steps results)
+  pub row-does : Does (needing (results_read results)) a row_code 0 outer None (shown_effect results start) (λ sight held y. row_steps results)
   row-does = does_of 0 outer None effect started grows_row refl steady_row (λ h shut. but_none causes causes h) (λ m called. whole m)
 
 -- ---- by what was written
@@ -234,15 +238,18 @@ module _ (a b : Draft) (results : List BoundExpr) (counted : a.next ≤ a.most) 
   pub shows-cursors : (o : Op) → Shows (with_first o) b results a.next (length a.labels) → b.cursors ≡ a.cursors
   shows-cursors o x = ap (λ (d : Draft). d.cursors) x.is ∙ x.cursors
 
+  pub shows-units : (o : Op) → Shows (with_first o) b results a.next (length a.labels) → b.units ≡ a.units
+  shows-units o x = ap (λ (d : Draft). d.units) x.is ∙ x.units
+
   -- a row of a FROM, whose causes a register holds
-  pub given-does : (causes : ℕ) → causes < a.next → Shows (with_first (op.Copy causes a.next)) b results a.next (length a.labels) → Does no_calls a (released b a.next) 0 causes None (row_effect results) (λ sight held y. row_steps results)
+  pub given-does : (causes : ℕ) → causes < a.next → Shows (with_first (op.Copy causes a.next)) b results a.next (length a.labels) → Does (needing (results_read results)) a (released b a.next) 0 causes None (row_effect results) (λ sight held y. row_steps results)
   given-does causes lt x =
-      subst (λ d. Does no_calls a (released d a.next) 0 causes None (row_effect results) (λ sight held y. row_steps results)) (sym x.is) (row-does a x.filled x.gathered results counted causes (λ v. v) (op.Copy causes a.next) (refl, refl) (λ m at s. refl) (λ r q same. same causes lt) x.fills x.gathers)
+      subst (λ d. Does (needing (results_read results)) a (released d a.next) 0 causes None (row_effect results) (λ sight held y. row_steps results)) (sym x.is) (row-does a x.filled x.gathered results counted causes (λ v. v) (op.Copy causes a.next) (refl, refl) (λ m at s. refl) (λ r q same. same causes lt) x.fills x.gathers)
 
   -- a row of VALUES
-  pub valued-does : Shows (with_first (op.Null a.next)) b results a.next (length a.labels) → Does no_calls a (released b a.next) 0 0 None (value_effect results) (λ sight held y. row_steps results)
+  pub valued-does : Shows (with_first (op.Null a.next)) b results a.next (length a.labels) → Does (needing (results_read results)) a (released b a.next) 0 0 None (value_effect results) (λ sight held y. row_steps results)
   valued-does x =
-      subst (λ d. Does no_calls a (released d a.next) 0 0 None (value_effect results) (λ sight held y. row_steps results)) (sym x.is) (row-does a x.filled x.gathered results counted 0 (λ v. no_causes) (op.Null a.next) (refl, refl) (λ m at s. refl) (λ r q same. refl) x.fills x.gathers)
+      subst (λ d. Does (needing (results_read results)) a (released d a.next) 0 0 None (value_effect results) (λ sight held y. row_steps results)) (sym x.is) (row-does a x.filled x.gathered results counted 0 (λ v. no_causes) (op.Null a.next) (refl, refl) (λ m at s. refl) (λ r q same. refl) x.fills x.gathers)
 
   -- the registers and the label of what was written
   pub shows-next : (o : Op) → Shows (with_first o) b results a.next (length a.labels) → a.next ≤ b.next

@@ -9,8 +9,10 @@ use Rattle.eng_value.specs.Environments.{Surroundings, environment, no_causes}
 use Rattle.eng_value.specs.Written.{unwritten}
 use Rattle.eng_value.specs.declared.out.Out.{Out}
 use Rattle.eng_value.specs.declared.value.Value.{Value}
+use Rattle.gen_expr.specs.Needs.{needs_of}
 use Rattle.gen_expr.specs.Steps.{steps_of}
 use Rattle.gen_loop.specs.Loops.{conjuncts_steps}
+use Rattle.gen_loop.specs.Needs.{NamesBelow, conjuncts_read}
 use Rattle.plan_tree.specs.Plans.{all_conjuncts, rows_of_from}
 use Rattle.sql_meaning.specs.Products.{FromRow, in_row}
 use Rattle.sql_meaning.specs.Searches.{rows_counted}
@@ -20,6 +22,7 @@ use Rattle.sql_meaning.specs.declared.bound.BoundSelect.{BoundSelect}
 use Rattle.sql_meaning.specs.declared.bound.FromTable.{FromTable}
 use Rattle.sql_meaning.specs.declared.bound.Join.{Join}
 use Rattle.sql_meaning.specs.declared.bound.Join.TheVariants.{Inner, Left}
+use Rattle.vm_code.specs.declared.open_cursor.Need.{Need}
 use Rattle.vm_code.specs.Frames.{Cost, Effect, Memory, Outcome, Done, Fails}
 use Rattle.vm_code.specs.Machine.{World, Run, ending_by, world_of}
 
@@ -52,6 +55,27 @@ values_items rows x = map (λ row. shown row (environment x [] [] []) no_causes)
 
 abbrev pub values_run : List (List BoundExpr) → Surroundings → ℤ → Run
 values_run rows x last_rowid = run_by x.world last_rowid (values_items rows x)
+
+-- ---- what is read of rows
+
+abbrev pub results_read : List BoundExpr → List Need
+results_read results = flat_map needs_of results
+
+-- by what a query tests and by its results
+abbrev pub query_reads : BoundSelect → List Need
+query_reads q = conjuncts_read (all_conjuncts q.from (conjuncts_of q)) ++ results_read q.results
+
+-- those are rows of the items of its FROM
+abbrev pub NamesItsItems : BoundSelect → Type 0
+NamesItsItems q = NamesBelow (length q.from) (query_reads q)
+
+-- by rows of VALUES
+abbrev pub rows_read : List (List BoundExpr) → List Need
+rows_read rows = flat_map results_read rows
+
+-- there are no items that they could name
+abbrev pub NamesNoItem : List (List BoundExpr) → Type 0
+NamesNoItem rows = NamesBelow 0 (rows_read rows)
 
 -- ---- a stretch of its code
 

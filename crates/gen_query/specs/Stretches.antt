@@ -3,11 +3,12 @@ use Rattle.std.specs.Prelude.{◌≡◌, ◌-◌, ℕ, [], List, length, fold, m
 use Rattle.bound_tree.specs.Exprs.{BoundExpr}
 use Rattle.eng_value.specs.Environments.{with_causes}
 use Rattle.gen_expr.specs.Steps.{steps_of}
+use Rattle.gen_query.specs.Queries.{results_read}
 use Rattle.sql_meaning.specs.Expression.{value_of}
 use Rattle.vm_code.specs.declared.op.Op.TheVariants as op
 use Rattle.vm_code.specs.Draft.{Draft, bound, with_label, with_op}
 use Rattle.vm_code.specs.Tracked.{Steady}
-use Rattle.vm_code.specs.Frames.{Fills, Grows, Holds, Left, Ready, no_calls}
+use Rattle.vm_code.specs.Frames.{Fills, Grows, Holds, Left, Ready, needing}
 use Rattle.vm_code.specs.Machine.{Setting, State, outs_from, read}
 
 -- code that adds the causes of so many registers to those of another, which is none of them
@@ -27,7 +28,8 @@ with_row_given d first count causes next =
 pub record Shows (a b : Draft) (results : List BoundExpr) (causes next : ℕ) : Type 0 where
   pub filled : Draft
   pub gathered : Draft
-  pub fills : Fills no_calls a filled (length results) (λ env. map (λ e. value_of e env) results) (λ env. sum_by steps_of results)
+  pub fills : Fills (needing (results_read results)) a filled (length results) (λ env. map (λ e. value_of e env) results) (λ env. sum_by steps_of results)
   pub gathers : Gathers filled gathered a.next (filled.next - a.next) causes
   pub cursors : gathered.cursors ≡ a.cursors
+  pub units : gathered.units ≡ a.units
   pub is : b ≡ with_row_given gathered a.next (filled.next - a.next) causes next

@@ -1,10 +1,10 @@
 // The rows of a query.
 ghost use Rattle.std.specs.Prelude.{◌≡◌, ◌+◌, ◌-◌, ◌<◌, ◌≤◌, ℕ, length, map, sum_by, slice_get, OnOk, None, Some};
 ghost use Rattle.gen_expr.specs.Steps.{steps_of};
-ghost use Rattle.gen_query.specs.Queries.{row_effect, row_steps, value_effect};
+ghost use Rattle.gen_query.specs.Queries.{results_read, row_effect, row_steps, value_effect};
 ghost use Rattle.gen_query.specs.Stretches.{Gathers, Shows, with_row_given};
 ghost use Rattle.sql_meaning.specs.Expression.{value_of};
-ghost use Rattle.vm_code.specs.Frames.{Does, Fills, no_calls};
+ghost use Rattle.vm_code.specs.Frames.{Does, Fills, needing};
 
 use bound_tree::BoundExpr;
 use gen_expr::emit;
@@ -26,6 +26,8 @@ impl<'a> LoopBody for Giver<'a> {
 
     ghost own = { λ g. 0 };
 
+    ghost needs = { λ g. results_read g.results.now };
+
     fn emit(&mut self, b: &mut Builder, causes: u32) -> Result<(), AllocError> {
         let next = b.label()?;
         let mine = b.take()?;
@@ -46,8 +48,9 @@ pub(crate) fn emit_value_row(
     results: &[BoundExpr],
 ) -> Result<(), AllocError>
     requires counted { b.old.next ≤ b.old.most }
-    ensures does { OnOk result (Does no_calls b.old b.new 0 0 None (value_effect results.now) (λ _ _ _. row_steps results.now)) }
+    ensures does { OnOk result (Does (needing (results_read results.now)) b.old b.new 0 0 None (value_effect results.now) (λ _ _ _. row_steps results.now)) }
     ensures cursors { OnOk result (b.new.cursors ≡ b.old.cursors) }
+    ensures units { OnOk result (b.new.units ≡ b.old.units) }
 {
     let next = b.label()?;
     let mine = b.take()?;
@@ -81,8 +84,9 @@ fn emit_shown(
 /// Writes code that leaves the results in registers that it takes, one after another.
 fn emit_results(alloc: Global, b: &mut Builder, results: &[BoundExpr]) -> Result<(), AllocError>
     requires counted { b.old.next ≤ b.old.most }
-    ensures fills { OnOk result (Fills no_calls b.old b.new (length results.now) (λ env. map (λ e. value_of e env) results.now) (λ _. sum_by steps_of results.now)) }
+    ensures fills { OnOk result (Fills (needing (results_read results.now)) b.old b.new (length results.now) (λ env. map (λ e. value_of e env) results.now) (λ _. sum_by steps_of results.now)) }
     ensures cursors { OnOk result (b.new.cursors ≡ b.old.cursors) }
+    ensures units { OnOk result (b.new.units ≡ b.old.units) }
 {
     for result in results {
         let to = b.take()?;
@@ -99,6 +103,7 @@ fn gather(b: &mut Builder, first: u32, end: u32, causes: u32) -> Result<(), Allo
     requires counted { b.old.next ≤ b.old.most }
     ensures gathers { OnOk result (Gathers b.old b.new first (end - first) causes) }
     ensures cursors { OnOk result (b.new.cursors ≡ b.old.cursors) }
+    ensures units { OnOk result (b.new.units ≡ b.old.units) }
 {
     for from in first..end {
         b.op(Op::Merge { from, to: causes })?;

@@ -5,7 +5,8 @@
 //! (sql_meaning's `items_at`, row by row; specs/Queries.antt) up to the first bad one, for whose causes it fails, and that it writes
 //! nothing, in at most so many instructions. Neither names the plan. What is done with a row is the body of the loops, `Giver`: its
 //! results (`Fills`), whose causes are added to those of the row (`Gathers`), are given. `compile_values` does the same for VALUES, with
-//! the code of one row behind that of another. Begin with `compile`, then `Giver`.
+//! the code of one row behind that of another. Both programs keep vm_code's rules (`IsAccepted`) where their expressions name no items but
+//! those of the FROM (`NamesItsItems`, `NamesNoItem`). Begin with `compile`, then `Giver`.
 #![tactic(auto)]
 
 mod compiling;

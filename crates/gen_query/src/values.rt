@@ -1,7 +1,7 @@
 // The rows of VALUES.
 ghost use Rattle.std.specs.Prelude.{◌≡◌, ◌≤◌, OnOk, None};
-ghost use Rattle.gen_query.specs.Queries.{by_world, rows_in_turn_steps, values_effect};
-ghost use Rattle.vm_code.specs.Frames.{Does, no_calls};
+ghost use Rattle.gen_query.specs.Queries.{by_world, rows_in_turn_steps, rows_read, values_effect};
+ghost use Rattle.vm_code.specs.Frames.{Does, needing};
 
 use crate::giving::emit_value_row;
 use bound_tree::BoundExpr;
@@ -16,8 +16,9 @@ pub(crate) fn emit_values(
     rows: &[Items<BoundExpr>],
 ) -> Result<(), AllocError>
     requires counted { b.old.next ≤ b.old.most }
-    ensures does { OnOk result (Does no_calls b.old b.new 0 0 None (values_effect rows.now) (by_world (λ _. rows_in_turn_steps rows.now))) }
+    ensures does { OnOk result (Does (needing (rows_read rows.now)) b.old b.new 0 0 None (values_effect rows.now) (by_world (λ _. rows_in_turn_steps rows.now))) }
     ensures cursors { OnOk result (b.new.cursors ≡ b.old.cursors) }
+    ensures units { OnOk result (b.new.units ≡ b.old.units) }
 {
     for row in rows {
         emit_value_row(alloc, b, row.as_slice())?;

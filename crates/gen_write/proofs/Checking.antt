@@ -1,5 +1,5 @@
 -- The CHECKs of a row.
-use Rattle.std.proofs.Common.{◌≡◌, ℕ, ◌+◌, ◌≤◌, ◌<◌, Bool, true, false, List, [], ◌∷◌, ◌++◌, length, sum_by, take, get_or, Option, Some, None, cond, refl, sym, ap, ◌∙◌, subst, arith, inl, inr}
+use Rattle.std.proofs.Common.{All, ◌≡◌, ℕ, ◌+◌, ◌≤◌, ◌<◌, Bool, true, false, List, [], ◌∷◌, ◌++◌, length, sum_by, take, get_or, Option, Some, None, cond, refl, sym, ap, ◌∙◌, subst, arith, inl, inr}
 use Rattle.std.specs.Prelude.{slice_get, not, pos}
 use Rattle.std.specs.Ordering.{int_eq}
 use Rattle.std.proofs.lemmas.List.{take_more}
@@ -27,13 +27,15 @@ use Rattle.sql_meaning.specs.Rows.{checked, passed}
 use Rattle.sql_meaning.specs.Steps.{Effect, Fails, ◌then◌, done}
 use Rattle.vm_code.specs.declared.op.Op.TheVariants as op
 use Rattle.vm_code.specs.Draft.{Draft, bound, given_back, taken, with_label, with_op}
+use Rattle.vm_code.specs.declared.open_cursor.Need.{Need}
+use Rattle.vm_code.specs.Track.{Meets, OpenSet}
 use Rattle.vm_code.specs.Tracked.{Steady}
 use Rattle.vm_code.specs.Machine.{GivesUp, Leads, Reaches, Setting, State, is_accepted, is_bad, is_true, leads_to, leaving_of, read}
-use Rattle.vm_code.specs.Frames.{Calls, Grows, Here, Leaves, environment_of, here, with_regs}
+use Rattle.vm_code.specs.Frames.{Given, Grows, Here, Leaves, environment_of, here, with_regs}
 use Rattle.vm_code.specs.Claims.{Claim, Exits, Labels, Last, Triple, ends, off, on}
 use Rattle.vm_code.proofs.Runs.{leads_more, leads_then, reaches_none}
 use Rattle.vm_code.proofs.Drafts.{extends, g_bound, g_given_back, g_label, g_op, g_taken, grows_none, grows_then, long_label, open_new, open_old, open_other}
-use Rattle.vm_code.proofs.Tracks.{has-bound, place-bound, st_bind, st_fork, st_given_back, st_inner, st_leave, st_made, st_none, st_on, st_op, st_taken, st_then}
+use Rattle.vm_code.proofs.Tracks.{has-bound, place-bound, st_bind, st_fork, st_given_back, st_leave, st_made, st_none, st_on, st_op, st_taken, st_then, st_wider, st_within}
 use Rattle.vm_code.proofs.Effects.{But, but_none, but_regs, left_as, t_leaves_at, t_put}
 use Rattle.vm_code.proofs.Triples.{no_labels, ready_less, t_bind, t_draft, t_halt_bad, t_more, t_seq, t_test, with_claim}
 
@@ -127,11 +129,11 @@ checked-is table (c ∷ checks) env x = by (truth_in (truth_of (value_of c env))
 
 -- ---- their code
 
-pub checks_none : (calls : Calls) (a : Draft) (table : List ℕ) → Checks calls a a table []
-checks_none calls a table = record {
+pub checks_none : (given : Given) (a : Draft) (table : List ℕ) → Checks given a a table []
+checks_none given a table = record {
   grows = grows_none a;
   next = refl;
-  steady = st_none [] [] a;
+  steady = st_none given.needs [] a;
   passes = λ m called u at h s room start. record {
     regs = s.regs;
     way = leads_more m (sum_by check_steps []) (omega arith) (subst (λ p. Reaches m 0 s (record s { pc = p })) start (reaches_none m s));
@@ -140,8 +142,8 @@ checks_none calls a table = record {
   };
 }
 
-pub checks_then : {calls : Calls} {a b d : Draft} (table : List ℕ) (xs ys : List BoundExpr) → Checks calls a b table xs → Checks calls b d table ys → Checks calls a d table (xs ++ ys)
-checks_then {calls} {a} {b} {d} table xs ys x y = record {
+pub checks_then : {given : Given} {a b d : Draft} (table : List ℕ) (xs ys : List BoundExpr) → Checks given a b table xs → Checks given b d table ys → Checks given a d table (xs ++ ys)
+checks_then {given} {a} {b} {d} table xs ys x y = record {
   grows = grows_then x.grows y.grows;
   next = y.next ∙ x.next;
   steady = st_then x.grows x.steady y.steady;
@@ -169,9 +171,13 @@ checks_then {calls} {a} {b} {d} table xs ys x y = record {
     by m i n s (Some why) p z next = leads_more m (i + n) (omega arith) z
 
 -- one CHECK more of a list
-pub checks_next : {calls : Calls} {a b d : Draft} (table : List ℕ) (all : List BoundExpr) (i : ℕ) (default : BoundExpr) → i < length all → Checks calls a b table (take i all) → Checks calls b d table (get_or all i default ∷ []) → Checks calls a d table (take (i + 1) all)
-checks_next {calls} {a} {b} {d} table all i default lt x y =
-    subst (Checks calls a d table) (sym (take_more all i default lt)) (checks_then table (take i all) (get_or all i default ∷ []) x y)
+pub checks_next : {given : Given} {a b d : Draft} (table : List ℕ) (all : List BoundExpr) (i : ℕ) (default : BoundExpr) → i < length all → Checks given a b table (take i all) → Checks given b d table (get_or all i default ∷ []) → Checks given a d table (take (i + 1) all)
+checks_next {given} {a} {b} {d} table all i default lt x y =
+    subst (Checks given a d table) (sym (take_more all i default lt)) (checks_then table (take i all) (get_or all i default ∷ []) x y)
+
+-- where more is so of cursors
+pub checks_wider : {given : Given} {a b : Draft} {table : List ℕ} {checks : List BoundExpr} (more : List Need) → ((xs : OpenSet) → All (Meets xs) more → All (Meets xs) given.needs) → Checks given a b table checks → Checks (record given { needs = more }) a b table checks
+checks_wider more wider x = record { grows = x.grows; next = x.next; steady = st_wider wider x.steady; passes = x.passes }
 
 -- ---- one of them
 
@@ -186,7 +192,7 @@ record HasPassed (f : Here → Option CauseSet) (mark : ℕ) (h0 h : Here) : Typ
 abbrev IsBroken : (Here → Option CauseSet) → Last
 IsBroken f h0 o x = (why : CauseSet) × (o ≡ GivesUp why) × (f h0 ≡ Some why) × (x ≡ h0.shared)
 
-module _ {calls : Calls} (d z : Draft) (table : List ℕ) (c : BoundExpr) (x : Leaves calls (taken (with_label (with_label d))) z d.next (λ env. truth_of (value_of c env)) (λ env. steps_of c + 1)) where
+module _ {given : Given} (d z : Draft) (table : List ℕ) (c : BoundExpr) (x : Leaves given (taken (with_label (with_label d))) z d.next (λ env. truth_of (value_of c env)) (λ env. steps_of c + 1)) where
   abbrev truth_at : ℕ
   truth_at = d.next
 
@@ -244,9 +250,9 @@ module _ {calls : Calls} (d z : Draft) (table : List ℕ) (c : BoundExpr) (x : L
   abbrev inside : List ℕ
   inside = bad ∷ let_on ∷ []
 
-  steady_bound : Steady [] [] d (bound halting let_on)
+  steady_bound : Steady given.needs [] d (bound halting let_on)
   steady_bound =
-      st_made let_on refl (place-bound halting let_on passed_open) (st_made bad refl (has-bound halting let_on bad (place-bound breaking bad bad_open)) (st_then (g_taken two) (st_taken [] inside two) (st_then x.grows (st_inner [] inside x.steady) (st_then (g_op z (op.If truth_at let_on true)) (st_fork [] inside z (op.If truth_at let_on true) let_on refl refl (inr (inl refl))) (st_then (g_op deciding (op.IsBad truth_at bad)) (st_fork [] inside deciding (op.IsBad truth_at bad) bad refl refl (inl refl)) (st_then (g_op testing (op.Bad (Constraint constraint.Check table) truth_at)) (st_op [] inside testing (op.Bad (Constraint constraint.Check table) truth_at) (refl, refl)) (st_on (λ l xs m. m) (st_bind [] inside breaking bad (inl refl)) (st_leave [] inside (bound breaking bad) (op.HaltBad truth_at) let_on refl refl (inr (inl refl))))))))))
+      st_made let_on refl (place-bound halting let_on passed_open) (st_made bad refl (has-bound halting let_on bad (place-bound breaking bad bad_open)) (st_then (g_taken two) (st_taken given.needs inside two) (st_then x.grows (st_within inside (λ xs met. met) x.steady) (st_then (g_op z (op.If truth_at let_on true)) (st_fork given.needs inside z (op.If truth_at let_on true) let_on refl refl (inr (inl refl))) (st_then (g_op deciding (op.IsBad truth_at bad)) (st_fork given.needs inside deciding (op.IsBad truth_at bad) bad refl refl (inl refl)) (st_then (g_op testing (op.Bad (Constraint constraint.Check table) truth_at)) (st_op given.needs inside testing (op.Bad (Constraint constraint.Check table) truth_at) (refl, refl)) (st_on (λ l xs m. m) (st_bind given.needs inside breaking bad (inl refl)) (st_leave given.needs inside (bound breaking bad) (op.HaltBad truth_at) let_on refl refl (inr (inl refl))))))))))
 
   module _ (m : Setting) where
     abbrev why_of : Here → Option CauseSet
@@ -285,7 +291,7 @@ module _ {calls : Calls} (d z : Draft) (table : List ℕ) (c : BoundExpr) (x : L
         ∙ ap (is_accepted true) (sym pre.1)
         ∙ is
 
-    checks : calls m → Triple m d check_code (λ h0. steps_of c + 5) no_labels last starts has_passed
+    checks : given.calls m → Triple m d check_code (λ h0. steps_of c + 5) no_labels last starts has_passed
     checks called =
         let inner : Labels = with_claim let_on has_passed no_labels in
         let innermost : Labels = with_claim bad bad_now inner in
@@ -315,11 +321,11 @@ module _ {calls : Calls} (d z : Draft) (table : List ℕ) (c : BoundExpr) (x : L
     keeps = h.holds.regs;
   })
 
-  pub checks_one : Checks calls d check_code table (c ∷ [])
+  pub checks_one : Checks given d check_code table (c ∷ [])
   checks_one = record {
     grows = grows_then grows_bound (g_given_back (bound halting let_on));
     next = omega (arith, x.next);
-    steady = st_then grows_bound steady_bound (st_given_back [] [] (bound halting let_on));
+    steady = st_then grows_bound steady_bound (st_given_back given.needs [] (bound halting let_on));
     passes = λ m called u at h s room start.
         let run = (checks m called).runs u at h (here s) s room start refl in
         let all = checks_by m at s (λ k. first_broken table (c ∷ []) (environment_of m k)) (steps_of c + 5) run in
@@ -332,8 +338,8 @@ module _ {calls : Calls} (d z : Draft) (table : List ℕ) (c : BoundExpr) (x : L
 
 -- ---- inside another stretch
 
-pub t_passes : (m : Setting) {calls : Calls} {a b : Draft} {table : List ℕ} {checks : List BoundExpr} (called : calls m) (g : Labels) (e : Last) (p q : Claim) → Checks calls a b table checks → ((h0 h : Here) (regs : List Out) → p h0 h → first_broken table checks (environment_of m h) ≡ None → ((k : ℕ) → k < a.next → read regs k ≡ read h.regs k) → q h0 (with_regs h regs)) → ((h0 h : Here) (why : CauseSet) → p h0 h → first_broken table checks (environment_of m h) ≡ Some why → e h0 (GivesUp why) h.shared) → Triple m a b (λ h0. sum_by check_steps checks) g e p q
-t_passes m {calls} {a} {b} {table} {checks} called g e p q x goes fails = record {
+pub t_passes : (m : Setting) {given : Given} {a b : Draft} {table : List ℕ} {checks : List BoundExpr} (called : given.calls m) (g : Labels) (e : Last) (p q : Claim) → Checks given a b table checks → ((h0 h : Here) (regs : List Out) → p h0 h → first_broken table checks (environment_of m h) ≡ None → ((k : ℕ) → k < a.next → read regs k ≡ read h.regs k) → q h0 (with_regs h regs)) → ((h0 h : Here) (why : CauseSet) → p h0 h → first_broken table checks (environment_of m h) ≡ Some why → e h0 (GivesUp why) h.shared) → Triple m a b (λ h0. sum_by check_steps checks) g e p q
+t_passes m {given} {a} {b} {table} {checks} called g e p q x goes fails = record {
   extends = extends x.grows;
   runs = λ u at h h0 s room start pre.
       by at h0 s pre (first_broken table checks (environment_of m (here s))) refl (x.passes m called u at h s room start);
@@ -346,14 +352,14 @@ t_passes m {calls} {a} {b} {table} {checks} called g e p q x goes fails = record
 
 -- ---- all of them, where there are some
 
-pub checks_row_none : (calls : Calls) (a : Draft) (table : List ℕ) (checks : List BoundExpr) (rowid first count : ℕ) → length checks ≡ 0 → ChecksRow calls a a table checks rowid first count
-checks_row_none calls a table [] rowid first count e = refl
-checks_row_none calls a table (k ∷ ks) rowid first count e = absurd (omega (arith, e))
+pub checks_row_none : (given : Given) (a : Draft) (table : List ℕ) (checks : List BoundExpr) (rowid first count : ℕ) → length checks ≡ 0 → ChecksRow given a a table checks rowid first count
+checks_row_none given a table [] rowid first count e = refl
+checks_row_none given a table (k ∷ ks) rowid first count e = absurd (omega (arith, e))
 
-pub checks_row_some : (calls : Calls) (a z b : Draft) (table : List ℕ) (checks : List BoundExpr) (rowid first count : ℕ) → 0 < length checks → Checks calls (with_op a (op.RowOf 0 rowid first count)) z table checks → b ≡ with_op z (op.Close 0) → ChecksRow calls a b table checks rowid first count
-checks_row_some calls a z b table [] rowid first count lt x e = absurd (omega (arith, lt))
-checks_row_some calls a z b table (k ∷ ks) rowid first count lt x e = record { last = z; checked = x; is = e }
+pub checks_row_some : (given : Given) (a z b : Draft) (table : List ℕ) (checks : List BoundExpr) (rowid first count : ℕ) → 0 < length checks → Checks given (with_op a (op.RowOf 0 rowid first count)) z table checks → b ≡ with_op z (op.Close 0) → ChecksRow given a b table checks rowid first count
+checks_row_some given a z b table [] rowid first count lt x e = absurd (omega (arith, lt))
+checks_row_some given a z b table (k ∷ ks) rowid first count lt x e = record { last = z; checked = x; is = e }
 
-pub checks_row_next : (calls : Calls) (a b : Draft) (table : List ℕ) (checks : List BoundExpr) (rowid first count : ℕ) → ChecksRow calls a b table checks rowid first count → b.next ≡ a.next
-checks_row_next calls a b table [] rowid first count e = ap (λ (d : Draft). d.next) e
-checks_row_next calls a b table (k ∷ ks) rowid first count x = ap (λ (d : Draft). d.next) x.is ∙ x.checked.next
+pub checks_row_next : (given : Given) (a b : Draft) (table : List ℕ) (checks : List BoundExpr) (rowid first count : ℕ) → ChecksRow given a b table checks rowid first count → b.next ≡ a.next
+checks_row_next given a b table [] rowid first count e = ap (λ (d : Draft). d.next) e
+checks_row_next given a b table (k ∷ ks) rowid first count x = ap (λ (d : Draft). d.next) x.is ∙ x.checked.next

@@ -1,5 +1,5 @@
 -- What columns store, in registers one after another, and their causes in one register.
-use Rattle.std.proofs.Common.{◌≡◌, ◌≢◌, ℕ, zero, suc, ◌+◌, ◌≤◌, ◌<◌, List, [], ◌∷◌, ◌++◌, length, map, fold, get_or, take, true, sum_by, Some, None, refl, sym, ap, ◌∙◌, subst, arith, length-append}
+use Rattle.std.proofs.Common.{All, ◌≡◌, ◌≢◌, ℕ, zero, suc, ◌+◌, ◌≤◌, ◌<◌, List, [], ◌∷◌, ◌++◌, length, map, fold, get_or, take, true, sum_by, Some, None, refl, sym, ap, ◌∙◌, subst, arith, length-append}
 use Rattle.std.specs.Prelude.{slice_get, slice_index_or, slice_set}
 use Rattle.std.specs.declared.option.Option.{Option}
 use Rattle.std.proofs.Math.ListN.{length-set}
@@ -29,13 +29,15 @@ use Rattle.sql_meaning.specs.declared.bound.PutColumn.{PutColumn}
 use Rattle.vm_code.specs.declared.op.Op.{Op}
 use Rattle.vm_code.specs.declared.op.Op.TheVariants as op
 use Rattle.vm_code.specs.Draft.{Draft, with_op, taken}
+use Rattle.vm_code.specs.declared.open_cursor.Need.{Need}
+use Rattle.vm_code.specs.Track.{Meets, OpenSet}
 use Rattle.vm_code.specs.Tracked.{GoesOn, Steady}
 use Rattle.vm_code.specs.Machine.{On, Setting, State, act, outs_from, put, read, Reaches}
-use Rattle.vm_code.specs.Frames.{placed, Grows, Here, Holds, Left, Ready, environment_of, here, with_regs, Calls, Leaves}
+use Rattle.vm_code.specs.Frames.{placed, Grows, Here, Holds, Left, Ready, environment_of, here, with_regs, Given, Leaves}
 use Rattle.vm_code.specs.Claims.{Claim, Labels, Last, on, Triple}
 use Rattle.vm_code.proofs.Runs.{leads_more, leads_then, reaches_none, reaches_op}
 use Rattle.vm_code.proofs.Drafts.{at_op, extends, g_op, g_taken, grows_none, grows_then, long_op}
-use Rattle.vm_code.proofs.Tracks.{st_none, st_op, st_taken, st_then}
+use Rattle.vm_code.proofs.Tracks.{st_none, st_op, st_taken, st_then, st_wider}
 use Rattle.vm_code.proofs.Registers.{outs_same}
 use Rattle.vm_code.proofs.Triples.{ready_less}
 
@@ -54,11 +56,11 @@ loaded_is env row values q (Some place) e = by row values place e
     by (x ∷ row) (v ∷ values) (suc k) e = by row values k (cc)
 
 -- by one instruction
-pub loads_op : (calls : Calls) (d : Draft) (o : Op) (to : ℕ) (k : Option Kept) → GoesOn o → to < d.next → d.next ≤ d.most → ((m : Setting) (at : ℕ → ℕ) (s : State) → act m (Some (placed at o)) s ≡ put s to (out_loaded s.regs k)) → Loads calls d (with_op d o) to k
-loads_op calls d o to k plain lt counted law = record {
+pub loads_op : (given : Given) (d : Draft) (o : Op) (to : ℕ) (k : Option Kept) → GoesOn o → to < d.next → d.next ≤ d.most → ((m : Setting) (at : ℕ → ℕ) (s : State) → act m (Some (placed at o)) s ≡ put s to (out_loaded s.regs k)) → Loads given d (with_op d o) to k
+loads_op given d o to k plain lt counted law = record {
   grows = g_op d o;
   next = refl;
-  steady = st_op [] [] d o plain;
+  steady = st_op given.needs [] d o plain;
   loads = λ m called u at h s room start.
       let v = out_loaded s.regs k in
       let last : State = record s { pc = length d.code + 1; regs = slice_set s.regs to v } in
@@ -72,15 +74,15 @@ loads_op calls d o to k plain lt counted law = record {
       };
 }
 
-pub loads_null : (calls : Calls) (d : Draft) (to : ℕ) → to < d.next → d.next ≤ d.most → Loads calls d (with_op d (op.Null to)) to None
-loads_null calls d to lt counted = loads_op calls d (op.Null to) to None (refl, refl) lt counted (λ m at s. refl)
+pub loads_null : (given : Given) (d : Draft) (to : ℕ) → to < d.next → d.next ≤ d.most → Loads given d (with_op d (op.Null to)) to None
+loads_null given d to lt counted = loads_op given d (op.Null to) to None (refl, refl) lt counted (λ m at s. refl)
 
-pub loads_register : (calls : Calls) (d : Draft) (r to : ℕ) → to < d.next → d.next ≤ d.most → Loads calls d (with_op d (op.Copy r to)) to (Some (kept.Register r))
-loads_register calls d r to lt counted =
-    loads_op calls d (op.Copy r to) to (Some (kept.Register r)) (refl, refl) lt counted (λ m at s. refl)
+pub loads_register : (given : Given) (d : Draft) (r to : ℕ) → to < d.next → d.next ≤ d.most → Loads given d (with_op d (op.Copy r to)) to (Some (kept.Register r))
+loads_register given d r to lt counted =
+    loads_op given d (op.Copy r to) to (Some (kept.Register r)) (refl, refl) lt counted (λ m at s. refl)
 
 -- by the code of a literal
-pub loads_literal : {calls : Calls} {a b : Draft} (to : ℕ) (k : Kept) (l : Literal) → ((regs : List Out) → kept_out regs k ≡ literal_out l) → Leaves calls a b to (λ env. literal_out l) (λ env. 1) → Loads calls a b to (Some k)
+pub loads_literal : {given : Given} {a b : Draft} (to : ℕ) (k : Kept) (l : Literal) → ((regs : List Out) → kept_out regs k ≡ literal_out l) → Leaves given a b to (λ env. literal_out l) (λ env. 1) → Loads given a b to (Some k)
 loads_literal to k l is x = record {
   grows = x.grows;
   next = x.next;
@@ -98,12 +100,12 @@ loads_literal to k l is x = record {
 
 -- ---- columns
 
-pub stores_none : (calls : Calls) (a : Draft) (causes : ℕ) (row : List Kept) → a.next ≤ a.most → Stores calls a a causes row []
-stores_none calls a causes row counted = record {
+pub stores_none : (given : Given) (a : Draft) (causes : ℕ) (row : List Kept) → a.next ≤ a.most → Stores given a a causes row []
+stores_none given a causes row counted = record {
   grows = grows_none a;
   next = omega arith;
   counted = counted;
-  steady = st_none [] [] a;
+  steady = st_none given.needs [] a;
   stores = λ m called u at h s room start values kept_now. record {
     regs = s.regs;
     way = subst (λ p. Reaches m 0 s (record s { pc = p })) start (reaches_none m s);
@@ -142,8 +144,8 @@ pub stored-append : (env : Environment) (xs ys : List PutColumn) (values : List 
 stored-append env xs ys values = map-append (λ (c : PutColumn). turned (store_as c.affinity) (value_for env values c.place c.default)) xs ys
 
 -- some columns and then others
-pub stores_then : {calls : Calls} {a b c : Draft} (causes : ℕ) (row : List Kept) (xs ys : List PutColumn) → causes < a.next → Stores calls a b causes row xs → Stores calls b c causes row ys → Stores calls a c causes row (xs ++ ys)
-stores_then {calls} {a} {b} {c} causes row xs ys below x y = record {
+pub stores_then : {given : Given} {a b c : Draft} (causes : ℕ) (row : List Kept) (xs ys : List PutColumn) → causes < a.next → Stores given a b causes row xs → Stores given b c causes row ys → Stores given a c causes row (xs ++ ys)
+stores_then {given} {a} {b} {c} causes row xs ys below x y = record {
   grows = grows_then x.grows y.grows;
   next = omega (arith, x.next, y.next, length-append xs ys);
   counted = y.counted;
@@ -171,15 +173,25 @@ stores_then {calls} {a} {b} {c} causes row xs ys below x y = record {
       };
 }
 
+-- where more is so of cursors
+pub stores_wider : {given : Given} {a b : Draft} {causes : ℕ} {row : List Kept} {columns : List PutColumn} (more : List Need) → ((xs : OpenSet) → All (Meets xs) more → All (Meets xs) given.needs) → Stores given a b causes row columns → Stores (record given { needs = more }) a b causes row columns
+stores_wider more wider x = record {
+  grows = x.grows;
+  next = x.next;
+  counted = x.counted;
+  steady = st_wider wider x.steady;
+  stores = x.stores;
+}
+
 -- ---- one column
 
 -- code that leaves in a register what is to be stored
-abbrev pub LeavesFor : Calls → Draft → Draft → ℕ → ℕ → List Kept → (Environment → List Value → Out) → ℕ → Type 0
-LeavesFor calls a z to causes row f most =
-    (m : Setting) → calls m → (u : ℕ) (at : ℕ → ℕ) → Holds z m.prog u at → (s : State) → Ready z u s → s.pc ≡ length a.code → (values : List Value) → AreKept causes a.next row values s.regs
+abbrev pub LeavesFor : Given → Draft → Draft → ℕ → ℕ → List Kept → (Environment → List Value → Out) → ℕ → Type 0
+LeavesFor given a z to causes row f most =
+    (m : Setting) → given.calls m → (u : ℕ) (at : ℕ → ℕ) → Holds z m.prog u at → (s : State) → Ready z u s → s.pc ≡ length a.code → (values : List Value) → AreKept causes a.next row values s.regs
     → Left m most s (length z.code) (a.next + 1) to (f (environment_of m (here s)) values)
 
-pub loads_for : {calls : Calls} (a : Draft) {z : Draft} (to causes : ℕ) (row : List Kept) (place : Option ℕ) → Loads calls (taken a) z to (kept_at row place) → LeavesFor calls a z to causes row (λ env values. value_for env values place None) 1
+pub loads_for : {given : Given} (a : Draft) {z : Draft} (to causes : ℕ) (row : List Kept) (place : Option ℕ) → Loads given (taken a) z to (kept_at row place) → LeavesFor given a z to causes row (λ env values. value_for env values place None) 1
 loads_for a to causes row place x m called u at h s room start values kept_now =
     let l = x.loads m called u at h s room start in
     record {
@@ -190,11 +202,11 @@ loads_for a to causes row place x m called u at h s room start values kept_now =
       keeps = l.keeps;
     }
 
-pub default_for : {calls : Calls} (a : Draft) {z : Draft} (to causes : ℕ) (row : List Kept) (x : BoundExpr) → Leaves calls (taken a) z to (λ env. value_of x env) (λ env. steps_of x) → LeavesFor calls a z to causes row (λ env values. value_for env values None (Some x)) (steps_of x)
+pub default_for : {given : Given} (a : Draft) {z : Draft} (to causes : ℕ) (row : List Kept) (x : BoundExpr) → Leaves given (taken a) z to (λ env. value_of x env) (λ env. steps_of x) → LeavesFor given a z to causes row (λ env values. value_for env values None (Some x)) (steps_of x)
 default_for a to causes row e x m called u at h s room start values kept_now = x.leaves m called u at h s room start
 
-pub stores_column : {calls : Calls} {a z : Draft} (c : PutColumn) (row : List Kept) (to causes most : ℕ) → to ≡ a.next → causes < a.next → a.next ≤ a.most → most + 2 ≤ column_steps c → Grows (taken a) z → z.next ≡ a.next + 1 → Steady [] [] (taken a) z → LeavesFor calls a z to causes row (λ env values. value_for env values c.place c.default) most → Stores calls a (with_stored z c.affinity to causes) causes row (c ∷ [])
-stores_column {calls} {a} {z} c row to causes most to_is below counted few grows next steady x =
+pub stores_column : {given : Given} {a z : Draft} (c : PutColumn) (row : List Kept) (to causes most : ℕ) → to ≡ a.next → causes < a.next → a.next ≤ a.most → most + 2 ≤ column_steps c → Grows (taken a) z → z.next ≡ a.next + 1 → Steady given.needs [] (taken a) z → LeavesFor given a z to causes row (λ env values. value_for env values c.place c.default) most → Stores given a (with_stored z c.affinity to causes) causes row (c ∷ [])
+stores_column {given} {a} {z} c row to causes most to_is below counted few grows next steady x =
     let affinity = op.Affinity to c.affinity in
     let merge = op.Merge to causes in
     let b = with_op z affinity in
@@ -202,7 +214,7 @@ stores_column {calls} {a} {z} c row to causes most to_is below counted few grows
       grows = grows_then (g_taken a) (grows_then grows (grows_then (g_op z affinity) (g_op b merge)));
       next = omega (arith, next);
       counted = omega (arith, next, grows.most);
-      steady = st_then (g_taken a) (st_taken [] [] a) (st_then grows steady (st_then (g_op z affinity) (st_op [] [] z affinity (refl, refl)) (st_op [] [] b merge (refl, refl))));
+      steady = st_then (g_taken a) (st_taken given.needs [] a) (st_then grows steady (st_then (g_op z affinity) (st_op given.needs [] z affinity (refl, refl)) (st_op given.needs [] b merge (refl, refl))));
       stores = λ m called u at h s room start values kept_now.
           let out = turned (store_as c.affinity) (value_for (environment_of m (here s)) values c.place c.default) in
           let hb = (g_op b merge).holds m.prog u at h in
@@ -234,8 +246,8 @@ stores_column {calls} {a} {z} c row to causes most to_is below counted few grows
     }
 
 -- the same of a column that takes the same value
-pub stores_as : {calls : Calls} {a b : Draft} (causes : ℕ) (row : List Kept) (c d : PutColumn) → ((env : Environment) (values : List Value) → stored_for env (c ∷ []) values ≡ stored_for env (d ∷ []) values) → column_steps c ≤ column_steps d → Stores calls a b causes row (c ∷ []) → Stores calls a b causes row (d ∷ [])
-stores_as {calls} {a} {b} causes row c d same few x = record {
+pub stores_as : {given : Given} {a b : Draft} (causes : ℕ) (row : List Kept) (c d : PutColumn) → ((env : Environment) (values : List Value) → stored_for env (c ∷ []) values ≡ stored_for env (d ∷ []) values) → column_steps c ≤ column_steps d → Stores given a b causes row (c ∷ []) → Stores given a b causes row (d ∷ [])
+stores_as {given} {a} {b} causes row c d same few x = record {
   grows = x.grows;
   next = x.next;
   counted = x.counted;
@@ -290,14 +302,14 @@ held_one a place row h q values env same =
     let known = held_place a (kept_at row place) (value_for env values place None) q h (loaded_is env row values q place same) in
     ap (λ o. with_causes no_causes o) (known.2 ∙ known.1)
 
-pub stores_held : {calls : Calls} {a z : Draft} (affinity : Affinity) (place : Option ℕ) (row : List Kept) (to causes : ℕ) → to ≡ a.next → causes < a.next → a.next ≤ a.most → HoldsKept affinity (kept_at row place) → Loads calls (taken a) z to (kept_at row place) → Stores calls a z causes row (column_with affinity place None ∷ [])
-stores_held {calls} {a} {z} affinity place row to causes to_is below counted held x =
+pub stores_held : {given : Given} {a z : Draft} (affinity : Affinity) (place : Option ℕ) (row : List Kept) (to causes : ℕ) → to ≡ a.next → causes < a.next → a.next ≤ a.most → HoldsKept affinity (kept_at row place) → Loads given (taken a) z to (kept_at row place) → Stores given a z causes row (column_with affinity place None ∷ [])
+stores_held {given} {a} {z} affinity place row to causes to_is below counted held x =
     let few : 1 ≤ column_steps (column_with affinity place None) = one_within place in
     record {
       grows = grows_then (g_taken a) x.grows;
       next = omega (arith, x.next);
       counted = omega (arith, x.next, x.grows.most);
-      steady = st_then (g_taken a) (st_taken [] [] a) x.steady;
+      steady = st_then (g_taken a) (st_taken given.needs [] a) x.steady;
       stores = λ m called u at h s room start values kept_now.
           let env = environment_of m (here s) in
           let same = kept_now s.regs (λ k lt ne. refl) in
@@ -337,7 +349,7 @@ pub held_next : (row : List Kept) (all : List PutColumn) (i : ℕ) (d : PutColum
 held_next row all i d lt x y = subst (AreHeld row) (sym (take_more all i d lt)) (held_then row (take i all) (get_or all i d ∷ []) x y)
 
 -- code that stores columns, inside another stretch
-pub t_stores : (m : Setting) {calls : Calls} {a b : Draft} {causes : ℕ} {row : List Kept} {columns : List PutColumn} (called : calls m) (values : List Value) (g : Labels) (e : Last) (p q : Claim) → Stores calls a b causes row columns → ((h0 h : Here) → p h0 h → AreKept causes a.next row values h.regs) → ((h0 h : Here) (regs : List Out) → p h0 h → let outs = stored_for (environment_of m h) columns values in outs_from regs a.next (length outs) ≡ outs → read regs causes ≡ fold with_causes (read h.regs causes) outs → SameBut causes a.next h.regs regs → q h0 (with_regs h regs)) → Triple m a b (λ h0. sum_by column_steps columns) g e p q
+pub t_stores : (m : Setting) {given : Given} {a b : Draft} {causes : ℕ} {row : List Kept} {columns : List PutColumn} (called : given.calls m) (values : List Value) (g : Labels) (e : Last) (p q : Claim) → Stores given a b causes row columns → ((h0 h : Here) → p h0 h → AreKept causes a.next row values h.regs) → ((h0 h : Here) (regs : List Out) → p h0 h → let outs = stored_for (environment_of m h) columns values in outs_from regs a.next (length outs) ≡ outs → read regs causes ≡ fold with_causes (read h.regs causes) outs → SameBut causes a.next h.regs regs → q h0 (with_regs h regs)) → Triple m a b (λ h0. sum_by column_steps columns) g e p q
 t_stores m called values g e p q x kept_now goes = record {
   extends = extends x.grows;
   runs = λ u at h h0 s room start pre.
@@ -355,6 +367,6 @@ t_stores m called values g e p q x kept_now goes = record {
 }
 
 -- the next column
-pub stores_next : {calls : Calls} {a b c : Draft} (causes : ℕ) (row : List Kept) (columns : List PutColumn) (i : ℕ) (default : PutColumn) → causes < a.next → i < length columns → Stores calls a b causes row (take i columns) → Stores calls b c causes row (get_or columns i default ∷ []) → Stores calls a c causes row (take (i + 1) columns)
-stores_next {calls} {a} {b} {c} causes row columns i default below lt x y =
-    subst (Stores calls a c causes row) (sym (take_more columns i default lt)) (stores_then causes row (take i columns) (get_or columns i default ∷ []) below x y)
+pub stores_next : {given : Given} {a b c : Draft} (causes : ℕ) (row : List Kept) (columns : List PutColumn) (i : ℕ) (default : PutColumn) → causes < a.next → i < length columns → Stores given a b causes row (take i columns) → Stores given b c causes row (get_or columns i default ∷ []) → Stores given a c causes row (take (i + 1) columns)
+stores_next {given} {a} {b} {c} causes row columns i default below lt x y =
+    subst (Stores given a c causes row) (sym (take_more columns i default lt)) (stores_then causes row (take i columns) (get_or columns i default ∷ []) below x y)

@@ -1,5 +1,5 @@
 -- The source is evaluated and kept.
-use Rattle.std.proofs.Common.{◌≡◌, ℕ, ◌+◌, ◌≤◌, ◌<◌, List, [], ◌∷◌, ◌++◌, true, false, length, map, fold, sum_by, Some, None, refl, sym, ap, ◌∙◌, subst, arith, ⊎_elim, length-append}
+use Rattle.std.proofs.Common.{All, ◌≡◌, ℕ, ◌+◌, ◌≤◌, ◌<◌, List, [], ◌∷◌, ◌++◌, true, false, length, map, fold, sum_by, Some, None, refl, sym, ap, ◌∙◌, subst, arith, ⊎_elim, length-append}
 use Rattle.std.specs.Prelude.{slice_set}
 use Rattle.std.specs.declared.option.Option.{Option}
 use Rattle.std.proofs.Math.ListN.{length-set}
@@ -29,22 +29,24 @@ use Rattle.sql_words.specs.declared.literal.Literal.{Literal}
 use Rattle.sql_words.specs.declared.literal.Literal.TheVariants as literal
 use Rattle.vm_code.specs.declared.op.Op.TheVariants as op
 use Rattle.vm_code.specs.Draft.{Draft, taken, with_op}
+use Rattle.vm_code.specs.declared.open_cursor.Need.{Need}
+use Rattle.vm_code.specs.Track.{Meets, OpenSet}
 use Rattle.vm_code.specs.Machine.{GivesUp, Leads, Reaches, Setting, State, is_bad, leads_to, leaving_of, read}
-use Rattle.vm_code.specs.Frames.{Calls, Gave, Here, Leaves, environment_of, here, there}
+use Rattle.vm_code.specs.Frames.{Given, Gave, Here, Leaves, environment_of, here, there}
 use Rattle.vm_code.specs.Claims.{Claim, Exits, Last, off, on, ends}
 use Rattle.vm_code.proofs.Runs.{leads_more, leads_then, reaches_none, reaches_op}
 use Rattle.vm_code.proofs.Drafts.{at_op, g_op, g_taken, grows_none, grows_then, long_op}
-use Rattle.vm_code.proofs.Tracks.{st_none, st_op, st_taken, st_then}
+use Rattle.vm_code.proofs.Tracks.{st_none, st_op, st_taken, st_then, st_wider}
 use Rattle.vm_code.proofs.Triples.{ready_less}
 
 -- ---- the expressions of a row
 
-pub keeps_none : (calls : Calls) (a : Draft) (causes : ℕ) → a.next ≤ a.most → KeepsValues calls a a causes [] []
-keeps_none calls a causes counted = record {
+pub keeps_none : (given : Given) (a : Draft) (causes : ℕ) → a.next ≤ a.most → KeepsValues given a a causes [] []
+keeps_none given a causes counted = record {
   grows = grows_none a;
   next = omega arith;
   counted = counted;
-  steady = st_none [] [] a;
+  steady = st_none given.needs [] a;
   calm = λ same env. refl;
   busy = λ lt. absurd (omega (arith, lt));
   keeps = λ m called u at h s room start. record {
@@ -58,8 +60,8 @@ keeps_none calls a causes counted = record {
 }
 
 -- some and then one more
-pub keeps_then : {calls : Calls} {a b c : Draft} (causes : ℕ) (es : List BoundExpr) (e : BoundExpr) (row : List Kept) (k : Kept) → causes < a.next → KeepsValues calls a b causes es row → KeepsValues calls b c causes (e ∷ []) (k ∷ []) → KeepsValues calls a c causes (es ++ e ∷ []) (row ++ k ∷ [])
-keeps_then {calls} {a} {b} {c} causes es e row k below x y = record {
+pub keeps_then : {given : Given} {a b c : Draft} (causes : ℕ) (es : List BoundExpr) (e : BoundExpr) (row : List Kept) (k : Kept) → causes < a.next → KeepsValues given a b causes es row → KeepsValues given b c causes (e ∷ []) (k ∷ []) → KeepsValues given a c causes (es ++ e ∷ []) (row ++ k ∷ [])
+keeps_then {given} {a} {b} {c} causes es e row k below x y = record {
   grows = grows_then x.grows y.grows;
   next = omega (arith, x.next, y.next);
   counted = y.counted;
@@ -91,6 +93,18 @@ keeps_then {calls} {a} {b} {c} causes es e row k below x y = record {
       };
 }
 
+-- where more is so of cursors
+pub keeps_wider : {given : Given} {a b : Draft} {causes : ℕ} {es : List BoundExpr} {row : List Kept} (more : List Need) → ((xs : OpenSet) → All (Meets xs) more → All (Meets xs) given.needs) → KeepsValues given a b causes es row → KeepsValues (record given { needs = more }) a b causes es row
+keeps_wider more wider x = record {
+  grows = x.grows;
+  next = x.next;
+  counted = x.counted;
+  steady = st_wider wider x.steady;
+  calm = x.calm;
+  busy = x.busy;
+  keeps = x.keeps;
+}
+
 -- a literal that has a value comes to that
 plain_is : (l k : Literal) → plain_of l ≡ Some k → (v : Value) × (literal_out l ≡ Good v) × (literal_out k ≡ Good v)
 plain_is (literal.Value v) k e = let same : literal.Value v ≡ k = cc in (v, refl, ap literal_out (sym same))
@@ -101,14 +115,14 @@ plain_value (e.Literal l) k is = let known = plain_is l k is in (known.0, (λ en
 plain_value other k is = cc
 
 -- one that is loaded where it is put
-pub keeps_plain : (calls : Calls) (a : Draft) (causes : ℕ) (e : BoundExpr) (k : Kept) (l : Literal) → a.next ≤ a.most → plain_literal e ≡ Some l → ((regs : List Out) → kept_out regs k ≡ literal_out l) → KeepsValues calls a a causes (e ∷ []) (k ∷ [])
-keeps_plain calls a causes e k l counted is kept_is =
+pub keeps_plain : (given : Given) (a : Draft) (causes : ℕ) (e : BoundExpr) (k : Kept) (l : Literal) → a.next ≤ a.most → plain_literal e ≡ Some l → ((regs : List Out) → kept_out regs k ≡ literal_out l) → KeepsValues given a a causes (e ∷ []) (k ∷ [])
+keeps_plain given a causes e k l counted is kept_is =
     let known = plain_value e l is in
     record {
       grows = grows_none a;
       next = omega arith;
       counted = counted;
-      steady = st_none [] [] a;
+      steady = st_none given.needs [] a;
       calm = λ same env. ap (λ o. with_causes no_causes o) (known.1 env);
       busy = λ lt. absurd (omega (arith, lt));
       keeps = λ m called u at h s room start. record {
@@ -122,12 +136,12 @@ keeps_plain calls a causes e k l counted is kept_is =
     }
 
 -- one that is kept in a register
-pub keeps_register : {calls : Calls} {a z : Draft} (causes r : ℕ) (e : BoundExpr) → plain_literal e ≡ None → r ≡ a.next → causes < a.next → a.next ≤ a.most → Leaves calls (taken a) z r (λ env. value_of e env) (λ env. steps_of e) → KeepsValues calls a (with_op z (op.Merge r causes)) causes (e ∷ []) (kept.Register r ∷ [])
-keeps_register {calls} {a} {z} causes r e other r_is below counted x = record {
+pub keeps_register : {given : Given} {a z : Draft} (causes r : ℕ) (e : BoundExpr) → plain_literal e ≡ None → r ≡ a.next → causes < a.next → a.next ≤ a.most → Leaves given (taken a) z r (λ env. value_of e env) (λ env. steps_of e) → KeepsValues given a (with_op z (op.Merge r causes)) causes (e ∷ []) (kept.Register r ∷ [])
+keeps_register {given} {a} {z} causes r e other r_is below counted x = record {
   grows = grows_then (g_taken a) (grows_then x.grows (g_op z (op.Merge r causes)));
   next = omega (arith, x.next);
   counted = omega (arith, x.next, x.grows.most);
-  steady = st_then (g_taken a) (st_taken [] [] a) (st_then x.grows x.steady (st_op [] [] z (op.Merge r causes) (refl, refl)));
+  steady = st_then (g_taken a) (st_taken given.needs [] a) (st_then x.grows x.steady (st_op given.needs [] z (op.Merge r causes) (refl, refl)));
   calm = λ same env. absurd (omega (arith, same, x.next));
   busy = λ lt. omega (arith, ap (λ o. steps_unless o (steps_of e)) other);
   keeps = λ m called u at h s room start.
@@ -170,8 +184,8 @@ sourced_good m most s place low high causes row outs e calm l =
     })
 
 -- one that takes no register is good
-pub keeps_row_calm : {calls : Calls} {a b : Draft} (causes : ℕ) (es : List BoundExpr) (row : List Kept) → b.next ≤ a.next → KeepsValues calls a b causes es row → KeepsRows calls a b causes (es ∷ []) (row ∷ [])
-keeps_row_calm {calls} {a} {b} causes es row none x = record {
+pub keeps_row_calm : {given : Given} {a b : Draft} (causes : ℕ) (es : List BoundExpr) (row : List Kept) → b.next ≤ a.next → KeepsValues given a b causes es row → KeepsRows given a b causes (es ∷ []) (row ∷ [])
+keeps_row_calm {given} {a} {b} causes es row none x = record {
   grows = x.grows;
   next = x.next;
   counted = x.counted;
@@ -192,7 +206,7 @@ keeps_row_calm {calls} {a} {b} causes es row none x = record {
 }
 
 -- and behind another the unit gives up where it is bad
-module _ {calls : Calls} {a b : Draft} (causes : ℕ) (es : List BoundExpr) (row : List Kept) (takes : a.next < b.next) (x : KeepsValues calls a b causes es row) where
+module _ {given : Given} {a b : Draft} (causes : ℕ) (es : List BoundExpr) (row : List Kept) (takes : a.next < b.next) (x : KeepsValues given a b causes es row) where
   abbrev refused : Draft
   refused = with_bad_refused b causes
 
@@ -236,12 +250,12 @@ module _ {calls : Calls} {a b : Draft} (causes : ℕ) (es : List BoundExpr) (row
           keeps = l.keeps;
         })
 
-  pub keeps_row_refused : KeepsRows calls a refused causes (es ∷ []) (row ∷ [])
+  pub keeps_row_refused : KeepsRows given a refused causes (es ∷ []) (row ∷ [])
   keeps_row_refused = record {
     grows = grows_then x.grows (grows_refused b causes);
     next = x.next;
     counted = x.counted;
-    steady = st_then x.grows x.steady (steady_refused b causes []);
+    steady = st_then x.grows x.steady (steady_refused b causes given.needs);
     wide = refl;
     keeps = λ m called u at h s room start calm.
         let env = environment_of m (here s) in
@@ -253,12 +267,12 @@ module _ {calls : Calls} {a b : Draft} (causes : ℕ) (es : List BoundExpr) (row
 
 -- ---- rows
 
-pub keeps_no_rows : (calls : Calls) (a : Draft) (causes : ℕ) → a.next ≤ a.most → KeepsRows calls a a causes [] []
-keeps_no_rows calls a causes counted = record {
+pub keeps_no_rows : (given : Given) (a : Draft) (causes : ℕ) → a.next ≤ a.most → KeepsRows given a a causes [] []
+keeps_no_rows given a causes counted = record {
   grows = grows_none a;
   next = omega arith;
   counted = counted;
-  steady = st_none [] [] a;
+  steady = st_none given.needs [] a;
   wide = refl;
   keeps = λ m called u at h s room start calm. record {
     regs = s.regs;
@@ -268,6 +282,17 @@ keeps_no_rows calls a causes counted = record {
     calm = calm;
     keeps = λ k lt ne. refl;
   };
+}
+
+-- where more is so of cursors
+pub keeps_rows_wider : {given : Given} {a b : Draft} {causes : ℕ} {rows : List (List BoundExpr)} {source : List (List Kept)} (more : List Need) → ((xs : OpenSet) → All (Meets xs) more → All (Meets xs) given.needs) → KeepsRows given a b causes rows source → KeepsRows (record given { needs = more }) a b causes rows source
+keeps_rows_wider more wider x = record {
+  grows = x.grows;
+  next = x.next;
+  counted = x.counted;
+  steady = st_wider wider x.steady;
+  wide = x.wide;
+  keeps = x.keeps;
 }
 
 -- a stretch behind one that kept the values of rows
@@ -297,8 +322,8 @@ module _ (m : Setting) (i n most : ℕ) (within : i + n ≤ most) (s : State) (p
       subst (λ o. SourcedBy m most s p2 low high causes (ks ++ ls) o (given_of (xs ++ ys))) (sym (refusal_of-append xs ys e)) (subst (SourcedBy m most s p2 low high causes (ks ++ ls) (refusal_of ys)) (sym (given_of-append xs ys e)) (sourced_behind (given_of xs) l (refusal_of ys) (given_of ys) (next l.regs l.long l.calm)))
 
 -- one row more
-pub keeps_rows_then : {calls : Calls} {a b c : Draft} (causes : ℕ) (rows : List (List BoundExpr)) (es : List BoundExpr) (source : List (List Kept)) (row : List Kept) → KeepsRows calls a b causes rows source → KeepsRows calls b c causes (es ∷ []) (row ∷ []) → KeepsRows calls a c causes (rows ++ es ∷ []) (source ++ row ∷ [])
-keeps_rows_then {calls} {a} {b} {c} causes rows es source row x y = record {
+pub keeps_rows_then : {given : Given} {a b c : Draft} (causes : ℕ) (rows : List (List BoundExpr)) (es : List BoundExpr) (source : List (List Kept)) (row : List Kept) → KeepsRows given a b causes rows source → KeepsRows given b c causes (es ∷ []) (row ∷ []) → KeepsRows given a c causes (rows ++ es ∷ []) (source ++ row ∷ [])
+keeps_rows_then {given} {a} {b} {c} causes rows es source row x y = record {
   grows = grows_then x.grows y.grows;
   next = omega (arith, x.next, y.next);
   counted = y.counted;

@@ -7,6 +7,7 @@ mod Keeping
 -- A row: what its columns store, its rowid and the tests as stretches of code, what is open along them, and its CHECKs.
 mod Columns
 mod Opens
+mod Needing
 mod Testing
 mod Checking
 -- What a row and rows come to, and their code.

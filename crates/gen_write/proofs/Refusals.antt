@@ -4,6 +4,7 @@ use Rattle.std.specs.Prelude.{slice_get}
 use Rattle.gen_write.specs.Stretches.{with_bad_refused}
 use Rattle.vm_code.specs.declared.op.Op.TheVariants as op
 use Rattle.vm_code.specs.Draft.{Draft, bound, with_label, with_op}
+use Rattle.vm_code.specs.declared.open_cursor.Need.{Need}
 use Rattle.vm_code.specs.Tracked.{Steady}
 use Rattle.vm_code.specs.Machine.{Setting, is_bad, leaving_of, read}
 use Rattle.vm_code.specs.Frames.{Grows, Here}
@@ -62,9 +63,9 @@ module _ (d : Draft) (causes : ℕ) where
   abbrev inside : List ℕ
   inside = fail ∷ next ∷ []
 
-  pub steady_refused : (uses : List ℕ) → Steady uses [] d (with_bad_refused d causes)
-  steady_refused uses =
-      st_made next refl (place-bound halting next next_open) (st_made fail refl (has-bound halting next fail (place-bound leaving fail fail_open)) (st_then (g_op labelled (op.IsBad causes fail)) (st_fork uses inside labelled (op.IsBad causes fail) fail refl refl (inl refl)) (st_on (λ l xs m. m) (st_goto uses inside testing next fail (inr (inl refl)) (inl refl)) (st_leave uses inside (bound leaving fail) (op.HaltBad causes) next refl refl (inr (inl refl))))))
+  pub steady_refused : (needs : List Need) → Steady needs [] d (with_bad_refused d causes)
+  steady_refused needs =
+      st_made next refl (place-bound halting next next_open) (st_made fail refl (has-bound halting next fail (place-bound leaving fail fail_open)) (st_then (g_op labelled (op.IsBad causes fail)) (st_fork needs inside labelled (op.IsBad causes fail) fail refl refl (inl refl)) (st_on (λ l xs m. m) (st_goto needs inside testing next fail (inr (inl refl)) (inl refl)) (st_leave needs inside (bound leaving fail) (op.HaltBad causes) next refl refl (inr (inl refl))))))
 
   -- where it is bad the unit gives up for its causes
   pub t_refused : (m : Setting) (e : Last) (p q : Claim) → ((h0 h : Here) → p h0 h → is_bad (read h.regs causes) ≡ false → q h0 h) → ((h0 h : Here) → p h0 h → is_bad (read h.regs causes) ≡ true → e h0 (leaving_of (read h.regs causes)) h.shared) → Triple m d (with_bad_refused d causes) (λ h0. 3) no_labels e p q

@@ -1,9 +1,9 @@
 -- The code of a row puts it.
-use Rattle.std.proofs.Common.{◌≡◌, ◌≢◌, ℕ, zero, suc, ◌+◌, ◌≤◌, ◌<◌, Bool, List, [], ◌∷◌, ◌++◌, true, false, length, map, fold, sum_by, ℤ, pos, Option, Some, None, All, Contains, Ok, is_some, if◌then◌else◌, refl, sym, ap, ◌∙◌, subst, arith, inr, ◌⊎◌, ⊎_elim, length-append}
+use Rattle.std.proofs.Common.{◌≡◌, ◌≢◌, ℕ, zero, suc, ◌+◌, ◌≤◌, ◌<◌, Bool, List, [], ◌∷◌, ◌++◌, true, false, length, map, fold, sum_by, ℤ, pos, Option, Some, None, All, Ok, is_some, if◌then◌else◌, refl, sym, ap, ◌∙◌, subst, arith, inr, ◌⊎◌, ⊎_elim, length-append}
+use Rattle.std.specs.List.{flat_map}
 use Rattle.std.specs.Prelude.{slice_index_or, slice_set}
 use Rattle.std.proofs.Math.ListN.{length-set}
 use Rattle.std.proofs.lemmas.List.{length-map, map-append, map-set}
-use Rattle.std.proofs.lemmas.List.Elements.{All-cons, All-nil}
 use Rattle.std.proofs.lemmas.List.Sums.{sum_by-append}
 use Rattle.eng_index.specs.Keys.{row_in_way}
 use Rattle.eng_index.specs.declared.key_term.KeyTerm.{KeyTerm}
@@ -20,17 +20,18 @@ use Rattle.eng_value.specs.declared.value.Value.{Value}
 use Rattle.eng_value.specs.declared.value.Value.TheVariants.{Integer, Null, Text, Blob}
 use Rattle.bound_tree.specs.Exprs.{BoundExpr}
 use Rattle.gen_write.specs.Stretches.{AreHeld, AreKept, ChecksRow, Puts, SameBut, SteadyAt, Stores, first_broken, rowid_register, scene_on, seen_from, stored_rowid, with_met_tested, with_nulls_refused, with_row_stored, with_row_tested, with_rowid_fixed}
-use Rattle.gen_write.specs.Writes.{Course, checks_steps, column_steps, columns_beside, course_of, failed, finished, insert_steps, is_within, may_be_met, met_steps, null_steps, row_effect, row_put, row_steps, rowid_given, rowid_steps}
+use Rattle.gen_write.specs.Writes.{Course, NamesWhatIsThere, checks_steps, column_steps, columns_beside, course_of, default_needs, failed, finished, needs_of_each, insert_steps, is_within, may_be_met, met_steps, null_steps, row_effect, row_put, row_steps, rowid_given, rowid_steps}
 use Rattle.gen_write.specs.declared.source.Kept.{Kept}
 use Rattle.gen_write.proofs.Causing.{calm-good}
 use Rattle.gen_write.proofs.Checking.{checks_row_next, first_broken-same, t_passes}
 use Rattle.gen_write.proofs.Columns.{stored-append, stored-long, t_stores}
 use Rattle.gen_write.proofs.Fitting.{Stands, Missing, Beside, Within, Storing, Apart, Once, beside-is, beside-long, effect_bad, effect_broken, effect_free, effect_met, effect_null, effect_unfixed, new-bad, new-good, new_of, stands, storing}
 use Rattle.gen_write.proofs.Fresh.{next_rowid-free}
-use Rattle.gen_write.proofs.Opens.{at_none, at_of, at_standing, at_then}
+use Rattle.gen_write.proofs.Needing.{met_checks, met_defaults}
+use Rattle.gen_write.proofs.Opens.{at_none, at_of, at_standing, at_then, table_open}
 use Rattle.gen_write.proofs.Refusals.{grows_refused, steady_refused, t_refused}
 use Rattle.gen_write.proofs.RowRuns.{HasFailed, HasRun, IsSetAt, puts_of}
-use Rattle.gen_write.proofs.Testing.{grows_met, grows_nulls, grows_tested, same_nulls, steady_met, steady_nulls, steady_tested, t_draws, t_met, t_nulls, t_tested}
+use Rattle.gen_write.proofs.Testing.{grows_met, grows_nulls, grows_tested, on_table, same_nulls, steady_met, steady_nulls, steady_tested, t_draws, t_met, t_nulls, t_tested}
 use Rattle.gen_write.proofs.Views.{scene_at, sees-none, sees-row, stored-same}
 use Rattle.sql_meaning.specs.Rows.{NewRow, at_row, drawn, fixed, given_rowid, good_or_null, lacks_value, new_row, rowid_beside, rowid_column, stored_for}
 use Rattle.sql_meaning.specs.World.{seen, stored as stored_of, with_column}
@@ -41,16 +42,19 @@ use Rattle.sql_meaning.specs.declared.bound.RowidFrom.{RowidFrom}
 use Rattle.sql_meaning.specs.declared.bound.RowidFrom.TheVariants as rowid
 use Rattle.vm_code.specs.declared.op.Op.TheVariants as op
 use Rattle.vm_code.specs.Draft.{Draft, with_op, taken, released}
+use Rattle.vm_code.specs.declared.open_cursor.Need.TheVariants as need
+use Rattle.vm_code.specs.Track.{Meets}
 use Rattle.vm_code.specs.Tracked.{Steady}
 use Rattle.vm_code.specs.Machine as machine
 use Rattle.vm_code.specs.Machine.{World, Closed, IsSound, Open, Setting, Shared, State, GivesUp, cursor_at, inserted, integer_in, integer_of, is_bad, is_integer, leaving_of, outs_from, read, row_in, rows_of, standing_on, values_from, with_row, world_of}
-use Rattle.vm_code.specs.Frames.{Calls, Grows, Here, environment_of, here, with_regs}
+use Rattle.vm_code.specs.Frames.{Given, Grows, Here, environment_of, here, needing, with_regs}
 use Rattle.vm_code.specs.Claims.{Claim, Labels, Last, Triple}
 use Rattle.vm_code.proofs.Drafts.{g_op, g_released, g_taken, grows_none, grows_then}
 use Rattle.vm_code.proofs.Kept.{ordered_rows}
 use Rattle.vm_code.proofs.Loops.{moved, t_move}
 use Rattle.vm_code.proofs.NewRows.{t_row_of, unmet_without_keys}
-use Rattle.vm_code.proofs.Tracks.{st_inner, st_none, st_op, st_released, st_taken, st_then, st_use}
+use Rattle.vm_code.proofs.Meeting.{met_one}
+use Rattle.vm_code.proofs.Tracks.{st_none, st_op, st_released, st_taken, st_then, st_use}
 use Rattle.vm_code.proofs.Registers.{outs_same, values_outs}
 use Rattle.vm_code.proofs.Triples.{no_labels, t_seq, t_use, t_more, t_draft, t_op}
 use Rattle.vm_code.proofs.Effects.{But, but_none, but_regs, t_put}
@@ -161,7 +165,7 @@ stands-is (Within k lt e same) = e
 
 -- ---- the code
 
-module _ (calls : Calls) (a y c : Draft) (may : Bool) (o : Option ℕ) (within : Bool) (causes : ℕ) (insert : BoundInsert) (row : List Kept) (below : causes < a.next) (cursors_are : a.cursors ≡ 2) where
+module _ (a y c : Draft) (may : Bool) (o : Option ℕ) (within : Bool) (causes : ℕ) (insert : BoundInsert) (row : List Kept) (below : causes < a.next) (cursors_are : a.cursors ≡ 2) where
   abbrev first : ℕ
   first = a.next
 
@@ -209,22 +213,23 @@ module _ (calls : Calls) (a y c : Draft) (may : Bool) (o : Option ℕ) (within :
   abbrev pub row_code : Draft
   row_code = released putting first
 
-  module _ (sy : Stores calls a y causes row all_columns) (held : may ≡ false → AreHeld row all_columns) (checks : ChecksRow calls nulling c name insert.checks rid first width) (placed : (values beside : List Value) → width ≡ length values → length beside ≡ length (columns_beside insert.rowid) → Stands insert.rowid values beside o) (keeping : Storing insert.rowid width o within) where
+  -- what the CHECKs need of cursors
+  abbrev checking : Given
+  checking = needing (needs_of_each insert.checks)
+
+  module _ (sy : Stores (needing (flat_map default_needs insert.columns)) a y causes row all_columns) (held : may ≡ false → AreHeld row all_columns) (checks : ChecksRow checking nulling c name insert.checks rid first width) (placed : (values beside : List Value) → width ≡ length values → length beside ≡ length (columns_beside insert.rowid) → Stands insert.rowid values beside o) (keeping : Storing insert.rowid width o within) where
     -- ---- how drafts grow
 
-    abbrev uses : List ℕ
-    uses = 1 ∷ []
-
-    used : All (Contains uses) uses
-    used = All-cons (Contains uses) 1 [] (0, omega arith, refl) (All-nil (Contains uses))
+    used : All (Meets table_open) on_table
+    used = met_one table_open (need.Table 1) (0, omega arith, refl)
 
     grows_refusing : (may : Bool) → Grows y (with_row_tested may y causes)
     grows_refusing true = grows_refused y causes
     grows_refusing false = grows_none y
 
-    steady_refusing : (may : Bool) → Steady uses [] y (with_row_tested may y causes)
-    steady_refusing true = steady_refused y causes uses
-    steady_refusing false = st_none uses [] y
+    steady_refusing : (may : Bool) → Steady on_table [] y (with_row_tested may y causes)
+    steady_refusing true = steady_refused y causes on_table
+    steady_refusing false = st_none on_table [] y
 
     next_refusing : (may : Bool) → (with_row_tested may y causes).next ≡ y.next
     next_refusing true = refl
@@ -234,9 +239,9 @@ module _ (calls : Calls) (a y c : Draft) (may : Bool) (o : Option ℕ) (within :
     grows_fixing None = grows_then (g_taken refused) (g_op (taken refused) (op.NewRowid 1 refused.next name))
     grows_fixing (Some k) = grows_tested refused (first + k) name
 
-    steady_fixing : (o : Option ℕ) → Steady uses [] refused (with_rowid_fixed o refused first name)
+    steady_fixing : (o : Option ℕ) → Steady on_table [] refused (with_rowid_fixed o refused first name)
     steady_fixing None =
-        st_then (g_taken refused) (st_taken uses [] refused) (st_use uses [] (taken refused) (op.NewRowid 1 refused.next name) 1 refl refl (0, omega arith, refl))
+        st_then (g_taken refused) (st_taken on_table [] refused) (st_use on_table [] (taken refused) (op.NewRowid 1 refused.next name) (need.Table 1) refl refl (0, omega arith, refl))
     steady_fixing (Some k) = steady_tested refused (first + k) name
 
     next_fixing : (o : Option ℕ) → refused.next ≤ (with_rowid_fixed o refused first name).next
@@ -248,35 +253,35 @@ module _ (calls : Calls) (a y c : Draft) (may : Bool) (o : Option ℕ) (within :
     grows_readying true =
         grows_then (g_taken c) (grows_then (g_op (taken c) (op.Copy rid c.next)) (g_op copying (op.Null rid)))
 
-    steady_readying : (b : Bool) → Steady uses [] c (with_row_stored b c rid)
-    steady_readying false = st_none uses [] c
+    steady_readying : (b : Bool) → Steady on_table [] c (with_row_stored b c rid)
+    steady_readying false = st_none on_table [] c
     steady_readying true =
-        st_then (g_taken c) (st_taken uses [] c) (st_then (g_op (taken c) (op.Copy rid c.next)) (st_op uses [] (taken c) (op.Copy rid c.next) (refl, refl)) (st_op uses [] copying (op.Null rid) (refl, refl)))
+        st_then (g_taken c) (st_taken on_table [] c) (st_then (g_op (taken c) (op.Copy rid c.next)) (st_op on_table [] (taken c) (op.Copy rid c.next) (refl, refl)) (st_op on_table [] copying (op.Null rid) (refl, refl)))
 
     grows_meeting : (may : Bool) → Grows readying (with_met_tested may readying name insert.keys kept_rid first width causes)
     grows_meeting true = grows_met readying name insert.keys kept_rid first width causes
     grows_meeting false = grows_none readying
 
-    steady_meeting : (may : Bool) → Steady uses [] readying (with_met_tested may readying name insert.keys kept_rid first width causes)
+    steady_meeting : (may : Bool) → Steady on_table [] readying (with_met_tested may readying name insert.keys kept_rid first width causes)
     steady_meeting true = steady_met readying name insert.keys kept_rid first width causes
-    steady_meeting false = st_none uses [] readying
+    steady_meeting false = st_none on_table [] readying
 
     grows_putting : Grows meeting putting
     grows_putting = g_op meeting (op.Insert 1 kept_rid first width)
 
-    steady_putting : Steady uses [] meeting putting
+    steady_putting : Steady on_table [] meeting putting
     steady_putting =
-        st_use uses [] meeting (op.Insert 1 kept_rid first width) 1 refl refl (0, omega arith, refl)
+        st_use on_table [] meeting (op.Insert 1 kept_rid first width) (need.Table 1) refl refl (0, omega arith, refl)
 
-    grows_checking : (l : List BoundExpr) → ChecksRow calls nulling c name l rid first width → Grows nulling c
+    grows_checking : (l : List BoundExpr) → ChecksRow checking nulling c name l rid first width → Grows nulling c
     grows_checking [] e = subst (Grows nulling) (sym e) (grows_none nulling)
     grows_checking (k ∷ ks) x =
         subst (Grows nulling) (sym x.is) (grows_then (g_op nulling (op.RowOf 0 rid first width)) (grows_then x.checked.grows (g_op x.last (op.Close 0))))
 
-    steady_checking : (l : List BoundExpr) → ChecksRow calls nulling c name l rid first width → SteadyAt uses nulling c
-    steady_checking [] e = subst (SteadyAt uses nulling) (sym e) (at_none uses nulling)
-    steady_checking (k ∷ ks) x =
-        subst (SteadyAt uses nulling) (sym x.is) (at_standing rid first width (grows_then (g_op nulling (op.RowOf 0 rid first width)) x.checked.grows) x.checked.steady)
+    steady_checking : NamesWhatIsThere insert → (l : List BoundExpr) → ChecksRow checking nulling c name l rid first width → SteadyAt table_open nulling c
+    steady_checking fits [] e = subst (SteadyAt table_open nulling) (sym e) (at_none table_open nulling)
+    steady_checking fits (k ∷ ks) x =
+        subst (SteadyAt table_open nulling) (sym x.is) (at_standing rid first width (met_checks insert fits) (grows_then (g_op nulling (op.RowOf 0 rid first width)) x.checked.grows) x.checked.steady)
 
     grows_to_fixing : Grows y fixing
     grows_to_fixing = grows_then (grows_refusing may) (grows_fixing o)
@@ -289,9 +294,9 @@ module _ (calls : Calls) (a y c : Draft) (may : Bool) (o : Option ℕ) (within :
     grows_row =
         grows_then grows_to_nulling (grows_then (grows_checking insert.checks checks) (grows_then (grows_readying within) (grows_then (grows_meeting (may_be_met o insert.keys)) (grows_then grows_putting (g_released putting first)))))
 
-    steady_row : SteadyAt uses a row_code
-    steady_row =
-        at_then (at_of uses used (st_inner uses [] sy.steady)) (at_then (at_of uses used (steady_refusing may)) (at_then (at_of uses used (steady_fixing o)) (at_then (at_of uses used (steady_nulls uses fixing insert.columns name first causes)) (at_then (steady_checking insert.checks checks) (at_then (at_of uses used (steady_readying within)) (at_then (at_of uses used (steady_meeting (may_be_met o insert.keys))) (at_then (at_of uses used steady_putting) (at_of uses used (st_released uses [] putting first)))))))))
+    steady_row : NamesWhatIsThere insert → SteadyAt table_open a row_code
+    steady_row fits =
+        at_then (at_of table_open (met_defaults insert fits table_open) sy.steady) (at_then (at_of table_open used (steady_refusing may)) (at_then (at_of table_open used (steady_fixing o)) (at_then (at_of table_open used (steady_nulls on_table fixing insert.columns name first causes)) (at_then (steady_checking fits insert.checks checks) (at_then (at_of table_open used (steady_readying within)) (at_then (at_of table_open used (steady_meeting (may_be_met o insert.keys))) (at_then (at_of table_open used steady_putting) (at_of table_open used (st_released on_table [] putting first)))))))))
 
     -- what is taken of registers
     wide_y : refused.next ≡ first + (width + length (columns_beside insert.rowid))
@@ -415,8 +420,8 @@ module _ (calls : Calls) (a y c : Draft) (may : Bool) (o : Option ℕ) (within :
 
       -- ---- what is stored
 
-      stores : calls m → Triple m a y (λ h0. sum_by column_steps all_columns) no_labels last begun stored
-      stores called = t_stores m called kept_values no_labels last begun stored sy (λ h0 h pre. pre.2) (λ h0 h regs pre is gathers same.
+      stores : Triple m a y (λ h0. sum_by column_steps all_columns) no_labels last begun stored
+      stores = t_stores m tt kept_values no_labels last begun stored sy (λ h0 h pre. pre.2) (λ h0 h regs pre is gathers same.
           let seen = stored-same (environment_of m h) env all_columns kept_values (sees-none m w table h (scene_is h0 h pre.0) (args_are h0 h pre.0)) ∙ all_outs in (
             based_regs h0 h regs same pre.0,
             subst (λ l. outs_from regs first (length l) ≡ l) seen is,
@@ -570,10 +575,10 @@ module _ (calls : Calls) (a y c : Draft) (may : Bool) (o : Option ℕ) (within :
         cursor_there : 0 < nulling.cursors
         cursor_there = omega (arith, grows_to_nulling.cursors, cursors_are)
 
-        checked : calls m → (l : List BoundExpr) → insert.checks ≡ l → ChecksRow calls nulling c name l rid first width → Triple m nulling c (λ h0. checks_steps l) no_labels last (known n) (passes n)
-        checked called [] is e =
+        checked : (l : List BoundExpr) → insert.checks ≡ l → ChecksRow checking nulling c name l rid first width → Triple m nulling c (λ h0. checks_steps l) no_labels last (known n) (passes n)
+        checked [] is e =
             subst (λ z. Triple m nulling z (λ h0. 0) no_labels last (known n) (passes n)) (sym e) (t_use (known n) (passes n) (λ h0 h pre. pre) (λ h0 h pre. (pre, ap (λ l. first_broken name l (at_row env stored_row)) is)) (t_draft m no_labels last (known n) (grows_none nulling) refl))
-        checked called (k ∷ ks) is x =
+        checked (k ∷ ks) is x =
             let l = k ∷ ks in
             let standing = t_row_of m nulling 0 rid first width no_labels last (known n) on_row cursor_there (λ h0 h pre lt.
             let scene = scene_is h0 h pre.0.0 in (
@@ -582,7 +587,7 @@ module _ (calls : Calls) (a y c : Draft) (may : Bool) (o : Option ℕ) (within :
             )) in
             let sees = λ (h0 h : Here) (pre : on_row h0 h). first_broken-same name l (environment_of m h) (at_row env stored_row) (sees-row m w table stored_row h pre.1 (args_are h0 (settled h) pre.0.0.0)) in
             let same = λ (why : Option CauseSet) (e : first_broken name l (at_row env stored_row) ≡ why). ap (λ l. first_broken name l (at_row env stored_row)) is ∙ e in
-            let pass = t_passes m called no_labels last on_row on_passed x.checked (λ h0 h regs pre none keeps. ((known_regs h0 (settled h) regs keeps pre.0, same None (sym (sees h0 h pre) ∙ none)), pre.1)) (λ h0 h why pre some.
+            let pass = t_passes m tt no_labels last on_row on_passed x.checked (λ h0 h regs pre none keeps. ((known_regs h0 (settled h) regs keeps pre.0, same None (sym (sees h0 h pre) ∙ none)), pre.1)) (λ h0 h why pre some.
             let row = pre.0.0 in
             fails h0 (settled h) why row.0 (effect_broken env insert kept_values (x0 h0) new (made row.5) n row.1 pre.0.1 why (same (Some why) (sym (sees h0 h pre) ∙ some)))) in
             let close = t_move m x.last (op.Close 0) 0 Closed no_labels last on_passed (passes n) (omega (arith, cursor_there, x.checked.grows.cursors)) (λ at s. refl) (λ h0 h pre e.
@@ -607,7 +612,7 @@ module _ (calls : Calls) (a y c : Draft) (may : Bool) (o : Option ℕ) (within :
             Based h0 h × (row_in h.regs r first width ≡ kept_row n) × (read h.regs causes ≡ no_causes) × Tested h0
 
         next_checked : nulling.next ≡ c.next
-        next_checked = sym (checks_row_next calls nulling c name insert.checks rid first width checks)
+        next_checked = sym (checks_row_next checking nulling c name insert.checks rid first width checks)
 
         -- the rowid has been copied
         abbrev copied : Claim
@@ -697,57 +702,57 @@ module _ (calls : Calls) (a y c : Draft) (may : Bool) (o : Option ℕ) (within :
         behind_steps =
             sum_by null_steps insert.columns + checks_steps insert.checks + met_steps (may_be_met o insert.keys) + insert_steps within
 
-        behind : calls m → Triple m fixing putting (λ h0. behind_steps) no_labels last (has_row rid n) done
-        behind called = t_more (λ h0. behind_steps) (λ h0. omega (arith, steps-put within)) (t_seq (t_seq (t_seq (t_seq nulls (checked called insert.checks refl checks)) (readies within keeping)) (meets (may_be_met o insert.keys) refl)) (inserts meeting kept_rid))
+        behind : Triple m fixing putting (λ h0. behind_steps) no_labels last (has_row rid n) done
+        behind = t_more (λ h0. behind_steps) (λ h0. omega (arith, steps-put within)) (t_seq (t_seq (t_seq (t_seq nulls (checked insert.checks refl checks)) (readies within keeping)) (meets (may_be_met o insert.keys) refl)) (inserts meeting kept_rid))
 
-      whole : calls m → o ≡ rowid_given insert.rowid width → within ≡ is_within insert.rowid width → Triple m a row_code (λ h0. row_steps insert) no_labels last begun done
-      whole called o_is within_is =
+      whole : o ≡ rowid_given insert.rowid width → within ≡ is_within insert.rowid width → Triple m a row_code (λ h0. row_steps insert) no_labels last begun done
+      whole o_is within_is =
           let rowids : rowid_steps o ≡ rowid_steps (rowid_given insert.rowid width) = ap rowid_steps o_is in
           let met : met_steps (may_be_met o insert.keys) ≡ met_steps (may_be_met (rowid_given insert.rowid width) insert.keys) = ap (λ p. met_steps (may_be_met p insert.keys)) o_is in
           let put : insert_steps within ≡ insert_steps (is_within insert.rowid width) = ap insert_steps within_is in
-          let front = t_seq (t_seq (stores called) (tests may (λ e. inr e))) (fixes o stands_o) in
-          let rest = t_some (has_row rid) (λ n. behind n called) in
+          let front = t_seq (t_seq stores (tests may (λ e. inr e))) (fixes o stands_o) in
+          let rest = t_some (has_row rid) (λ n. behind n) in
           let back = t_draft m no_labels last done (g_released putting first) refl in
           t_more (λ h0. row_steps insert) (λ h0. omega (arith, rowids, met, put, sum_by-append column_steps insert.columns (columns_beside insert.rowid))) (t_seq (t_seq front rest) back)
 
-pub row-puts : {calls : Calls} (a y c : Draft) (may : Bool) (causes : ℕ) (insert : BoundInsert) (row : List Kept) → causes < a.next → a.cursors ≡ 2 → Stores calls a y causes row (insert.columns ++ columns_beside insert.rowid) → (may ≡ false → AreHeld row (insert.columns ++ columns_beside insert.rowid)) → let o = rowid_given insert.rowid (length insert.columns) in let refused = with_row_tested may y causes in let rid = rowid_register o a.next refused.next in ChecksRow calls (with_nulls_refused (with_rowid_fixed o refused a.next insert.name) insert.columns insert.name a.next causes) c insert.name insert.checks rid a.next (length insert.columns)
-    → let within = is_within insert.rowid (length insert.columns) in let kept = stored_rowid within rid c.next in Puts calls a (released (with_op (with_met_tested (may_be_met o insert.keys) (with_row_stored within c rid) insert.name insert.keys kept a.next (length insert.columns) causes) (op.Insert 1 kept a.next (length insert.columns))) a.next) insert.table causes (AreKept causes a.next row) (λ env. row_put env insert) (row_steps insert)
-row-puts {calls} a y c may causes insert row below cursors_are sy held checks =
+pub row-puts : (a y c : Draft) (may : Bool) (causes : ℕ) (insert : BoundInsert) (row : List Kept) → causes < a.next → a.cursors ≡ 2 → Stores (needing (flat_map default_needs insert.columns)) a y causes row (insert.columns ++ columns_beside insert.rowid) → (may ≡ false → AreHeld row (insert.columns ++ columns_beside insert.rowid)) → let o = rowid_given insert.rowid (length insert.columns) in let refused = with_row_tested may y causes in let rid = rowid_register o a.next refused.next in ChecksRow (needing (needs_of_each insert.checks)) (with_nulls_refused (with_rowid_fixed o refused a.next insert.name) insert.columns insert.name a.next causes) c insert.name insert.checks rid a.next (length insert.columns)
+    → let within = is_within insert.rowid (length insert.columns) in let kept = stored_rowid within rid c.next in Puts (NamesWhatIsThere insert) a (released (with_op (with_met_tested (may_be_met o insert.keys) (with_row_stored within c rid) insert.name insert.keys kept a.next (length insert.columns) causes) (op.Insert 1 kept a.next (length insert.columns))) a.next) insert.table causes (AreKept causes a.next row) (λ env. row_put env insert) (row_steps insert)
+row-puts a y c may causes insert row below cursors_are sy held checks =
     let o = rowid_given insert.rowid (length insert.columns) in
     let within = is_within insert.rowid (length insert.columns) in
     let keeping = storing insert.rowid (length insert.columns) in
     let placed = λ (values beside : List Value) (wide : length insert.columns ≡ length values) (long : length beside ≡ length (columns_beside insert.rowid)). stands insert.rowid values beside (length insert.columns) wide long in
-    puts_of insert.table causes (AreKept causes a.next row) (λ env. row_put env insert) (λ m w x. begun calls a y c may o within causes insert row below cursors_are sy held checks placed keeping m w x) (grows_row calls a y c may o within causes insert row below cursors_are sy held checks placed keeping) refl (steady_row calls a y c may o within causes insert row below cursors_are sy held checks placed keeping) (λ m w x s sound set kept_now. ((but_none a.next causes (here s), record { scene = set.scene; args = set.args; calm = set.calm }, sound), set.calm, kept_now)) (λ m called w x. whole calls a y c may o within causes insert row below cursors_are sy held checks placed keeping m w x called refl refl)
+    puts_of insert.table causes (AreKept causes a.next row) (λ env. row_put env insert) (λ m w x. begun a y c may o within causes insert row below cursors_are sy held checks placed keeping m w x) (grows_row a y c may o within causes insert row below cursors_are sy held checks placed keeping) refl (steady_row a y c may o within causes insert row below cursors_are sy held checks placed keeping) (λ m w x s sound set kept_now. ((but_none a.next causes (here s), record { scene = set.scene; args = set.args; calm = set.calm }, sound), set.calm, kept_now)) (λ m w x. whole a y c may o within causes insert row below cursors_are sy held checks placed keeping m w x refl refl)
 
 -- ---- registers and cursors along it
 
-pub row-keeps : (y : Draft) (may : Bool) (o : Option ℕ) (columns : List PutColumn) (name : List ℕ) (first causes : ℕ) → let d = with_nulls_refused (with_rowid_fixed o (with_row_tested may y causes) first name) columns name first causes in (d.cursors ≡ y.cursors) × (y.next ≤ y.most → d.next ≤ d.most) × (y.next ≤ d.next)
+pub row-keeps : (y : Draft) (may : Bool) (o : Option ℕ) (columns : List PutColumn) (name : List ℕ) (first causes : ℕ) → let d = with_nulls_refused (with_rowid_fixed o (with_row_tested may y causes) first name) columns name first causes in (d.cursors ≡ y.cursors) × (y.next ≤ y.most → d.next ≤ d.most) × (y.next ≤ d.next) × (d.units ≡ y.units)
 row-keeps y may o columns name first causes = by may o
   where
-    from : (f : Draft) → (f.cursors ≡ y.cursors) → (y.next ≤ y.most → f.next ≤ f.most) → (y.next ≤ f.next) → let d = with_nulls_refused f columns name first causes in (d.cursors ≡ y.cursors) × (y.next ≤ y.most → d.next ≤ d.most) × (y.next ≤ d.next)
-    from f cursors counted more =
+    from : (f : Draft) → (f.cursors ≡ y.cursors) → (y.next ≤ y.most → f.next ≤ f.most) → (y.next ≤ f.next) → (f.units ≡ y.units) → let d = with_nulls_refused f columns name first causes in (d.cursors ≡ y.cursors) × (y.next ≤ y.most → d.next ≤ d.most) × (y.next ≤ d.next) × (d.units ≡ y.units)
+    from f cursors counted more units =
         let same = same_nulls f columns name first causes in
-        (same.cursors ∙ cursors, λ le. omega (arith, counted le, same.next, same.most), omega (arith, more, same.next))
+        (same.cursors ∙ cursors, λ le. omega (arith, counted le, same.next, same.most), omega (arith, more, same.next), same.units ∙ units)
 
-    by : (may : Bool) (o : Option ℕ) → let d = with_nulls_refused (with_rowid_fixed o (with_row_tested may y causes) first name) columns name first causes in (d.cursors ≡ y.cursors) × (y.next ≤ y.most → d.next ≤ d.most) × (y.next ≤ d.next)
-    by true None = from (with_rowid_fixed None (with_row_tested true y causes) first name) refl (λ le. omega arith) (omega arith)
-    by true (Some k) = from (with_rowid_fixed (Some k) (with_row_tested true y causes) first name) refl (λ le. omega arith) (omega arith)
-    by false None = from (with_rowid_fixed None (with_row_tested false y causes) first name) refl (λ le. omega arith) (omega arith)
-    by false (Some k) = from (with_rowid_fixed (Some k) (with_row_tested false y causes) first name) refl (λ le. omega arith) (omega arith)
+    by : (may : Bool) (o : Option ℕ) → let d = with_nulls_refused (with_rowid_fixed o (with_row_tested may y causes) first name) columns name first causes in (d.cursors ≡ y.cursors) × (y.next ≤ y.most → d.next ≤ d.most) × (y.next ≤ d.next) × (d.units ≡ y.units)
+    by true None = from (with_rowid_fixed None (with_row_tested true y causes) first name) refl (λ le. omega arith) (omega arith) refl
+    by true (Some k) = from (with_rowid_fixed (Some k) (with_row_tested true y causes) first name) refl (λ le. omega arith) (omega arith) refl
+    by false None = from (with_rowid_fixed None (with_row_tested false y causes) first name) refl (λ le. omega arith) (omega arith) refl
+    by false (Some k) = from (with_rowid_fixed (Some k) (with_row_tested false y causes) first name) refl (λ le. omega arith) (omega arith) refl
 
-pub met-keeps : (may : Bool) (d : Draft) (name : List ℕ) (keys : List (List KeyTerm)) (rowid first count causes : ℕ) → let t = with_met_tested may d name keys rowid first count causes in (t.cursors ≡ d.cursors) × (t.next ≡ d.next)
-met-keeps true d name keys rowid first count causes = (refl, refl)
-met-keeps false d name keys rowid first count causes = (refl, refl)
+pub met-keeps : (may : Bool) (d : Draft) (name : List ℕ) (keys : List (List KeyTerm)) (rowid first count causes : ℕ) → let t = with_met_tested may d name keys rowid first count causes in (t.cursors ≡ d.cursors) × (t.next ≡ d.next) × (t.units ≡ d.units)
+met-keeps true d name keys rowid first count causes = (refl, refl, refl)
+met-keeps false d name keys rowid first count causes = (refl, refl, refl)
 
-pub stored-keeps : (within : Bool) (d : Draft) (rowid : ℕ) → let s = with_row_stored within d rowid in (s.cursors ≡ d.cursors) × (d.next ≤ s.next)
-stored-keeps false d rowid = (refl, omega arith)
-stored-keeps true d rowid = (refl, omega arith)
+pub stored-keeps : (within : Bool) (d : Draft) (rowid : ℕ) → let s = with_row_stored within d rowid in (s.cursors ≡ d.cursors) × (d.next ≤ s.next) × (s.units ≡ d.units)
+stored-keeps false d rowid = (refl, omega arith, refl)
+stored-keeps true d rowid = (refl, omega arith, refl)
 
-pub row-counted : (y r f n : Draft) (may : Bool) (o : Option ℕ) (columns : List PutColumn) (name : List ℕ) (first causes : ℕ) → r ≡ with_row_tested may y causes → f ≡ with_rowid_fixed o r first name → n ≡ with_nulls_refused f columns name first causes → (n.cursors ≡ y.cursors) × (y.next ≤ y.most → n.next ≤ n.most) × (y.next ≤ n.next)
+pub row-counted : (y r f n : Draft) (may : Bool) (o : Option ℕ) (columns : List PutColumn) (name : List ℕ) (first causes : ℕ) → r ≡ with_row_tested may y causes → f ≡ with_rowid_fixed o r first name → n ≡ with_nulls_refused f columns name first causes → (n.cursors ≡ y.cursors) × (y.next ≤ y.most → n.next ≤ n.most) × (y.next ≤ n.next) × (n.units ≡ y.units)
 row-counted y r f n may o columns name first causes r_is f_is n_is = rw (n_is, f_is, r_is) (row-keeps y may o columns name first causes)
 
 -- by what the calls of the Builder made
-pub row-puts-as : {calls : Calls} (a y r f n c s t d : Draft) (may within : Bool) (given : Option ℕ) (rid kept first count causes : ℕ) (insert : BoundInsert) (row : List Kept) → first ≡ a.next → count ≡ length insert.columns → given ≡ rowid_given insert.rowid count → within ≡ is_within insert.rowid count → r ≡ with_row_tested may y causes → rid ≡ rowid_register given first r.next → f ≡ with_rowid_fixed given r first insert.name → n ≡ with_nulls_refused f insert.columns insert.name first causes → ChecksRow calls n c insert.name insert.checks rid first count → kept ≡ stored_rowid within rid c.next → s ≡ with_row_stored within c rid → t ≡ with_met_tested (may_be_met (rowid_given insert.rowid count) insert.keys) s insert.name insert.keys kept first count causes → d ≡ released (with_op t (op.Insert 1 kept first count)) first → causes < a.next → a.cursors ≡ 2 → Stores calls a y causes row (insert.columns ++ columns_beside insert.rowid) → (may ≡ false → AreHeld row (insert.columns ++ columns_beside insert.rowid)) → Puts calls a d insert.table causes (AreKept causes a.next row) (λ env. row_put env insert) (row_steps insert)
+pub row-puts-as : (a y r f n c s t d : Draft) (may within : Bool) (given : Option ℕ) (rid kept first count causes : ℕ) (insert : BoundInsert) (row : List Kept) → first ≡ a.next → count ≡ length insert.columns → given ≡ rowid_given insert.rowid count → within ≡ is_within insert.rowid count → r ≡ with_row_tested may y causes → rid ≡ rowid_register given first r.next → f ≡ with_rowid_fixed given r first insert.name → n ≡ with_nulls_refused f insert.columns insert.name first causes → ChecksRow (needing (needs_of_each insert.checks)) n c insert.name insert.checks rid first count → kept ≡ stored_rowid within rid c.next → s ≡ with_row_stored within c rid → t ≡ with_met_tested (may_be_met (rowid_given insert.rowid count) insert.keys) s insert.name insert.keys kept first count causes → d ≡ released (with_op t (op.Insert 1 kept first count)) first → causes < a.next → a.cursors ≡ 2 → Stores (needing (flat_map default_needs insert.columns)) a y causes row (insert.columns ++ columns_beside insert.rowid) → (may ≡ false → AreHeld row (insert.columns ++ columns_beside insert.rowid)) → Puts (NamesWhatIsThere insert) a d insert.table causes (AreKept causes a.next row) (λ env. row_put env insert) (row_steps insert)
 row-puts-as a y r f n c s t d may within given rid kept first count causes insert row first_is count_is given_is within_is r_is rid_is f_is n_is checks kept_is s_is t_is d_is below cursors_are sy held =
     let checked = rw (n_is, f_is, rid_is, given_is, r_is, count_is, first_is) at checks in
     rw (d_is, t_is, s_is, kept_is, within_is, rid_is, given_is, r_is, count_is, first_is) (row-puts a y c may causes insert row below cursors_are sy held checked)

@@ -11,11 +11,11 @@ use Rattle.gen_write.specs.Stretches.{AreAllKept, AreKept, IsSet, Puts, Ran, Sam
 use Rattle.gen_write.specs.Writes.{Course, and_on, failed, finished, row_put, rows_run, unless_failed}
 use Rattle.gen_write.specs.declared.source.Kept.{Kept}
 use Rattle.gen_write.proofs.Courses.{rows_run-last}
-use Rattle.gen_write.proofs.Opens.{at_none, at_then}
+use Rattle.gen_write.proofs.Opens.{at_none, at_then, table_open}
 use Rattle.sql_meaning.specs.declared.bound.BoundInsert.{BoundInsert}
 use Rattle.vm_code.specs.Draft.{Draft}
 use Rattle.vm_code.specs.Machine.{World, IsSound, Shared, Setting, State, GivesUp, Reaches, Leads, leads_to, read, world_of}
-use Rattle.vm_code.specs.Frames.{Calls, Grows, Here, here, there}
+use Rattle.vm_code.specs.Frames.{Grows, Here, here, there}
 use Rattle.vm_code.specs.Claims.{Claim, Labels, Last, Exits, on, off, ends, Triple}
 use Rattle.vm_code.proofs.Runs.{leads_more, leads_then, reaches_none}
 use Rattle.vm_code.proofs.Drafts.{extends, grows_none, grows_then}
@@ -24,16 +24,16 @@ use Rattle.vm_code.proofs.Triples.{no_labels, ready_less}
 
 -- ---- one course and then another
 
-abbrev pub PutsFirst : Calls → Draft → Draft → BoundInsert → ℕ → List (List Kept) → ℕ → ℕ → Type 0
-PutsFirst calls a b insert causes source i most =
-    Puts calls a b insert.table causes (AreAllKept causes a.next source) (λ env rows. rows_run env insert (take i rows)) most
+abbrev pub PutsFirst : Type 0 → Draft → Draft → BoundInsert → ℕ → List (List Kept) → ℕ → ℕ → Type 0
+PutsFirst fits a b insert causes source i most =
+    Puts fits a b insert.table causes (AreAllKept causes a.next source) (λ env rows. rows_run env insert (take i rows)) most
 
-pub puts_none : (calls : Calls) (a : Draft) (causes : ℕ) (b : BoundInsert) (source : List (List Kept)) (most : ℕ) → PutsFirst calls a a b causes source 0 (0 * most)
-puts_none calls a causes b source most = record {
+pub puts_none : (fits : Type 0) (a : Draft) (causes : ℕ) (b : BoundInsert) (source : List (List Kept)) (most : ℕ) → PutsFirst fits a a b causes source 0 (0 * most)
+puts_none fits a causes b source most = record {
   grows = grows_none a;
   next = refl;
-  steady = at_none (1 ∷ []) a;
-  puts = λ m called u at h s room start set w rows kept_now. record {
+  steady = λ fit. at_none table_open a;
+  puts = λ m u at h s room start set w rows kept_now. record {
     regs = s.regs;
     way = leads_more m (0 * most) (omega arith) (subst (λ p. Reaches m 0 s (record s { pc = p })) start (reaches_none m s));
     long = refl;
@@ -75,36 +75,36 @@ rows_long causes mark source rows regs e =
     sym (length-map source (map (kept_out regs))) ∙ ap length (e regs (λ k lt ne. refl)) ∙ length-map rows (map Good)
 
 -- one row more
-pub puts_row : {calls : Calls} {a b d : Draft} {causes : ℕ} (insert : BoundInsert) (source : List (List Kept)) (i most : ℕ) (row : List Kept) → i < length source → row ≡ get_or source i row → PutsFirst calls a b insert causes source i (i * most) → Puts calls b d insert.table causes (AreKept causes b.next row) (λ env. row_put env insert) most → PutsFirst calls a d insert causes source (i + 1) ((i + 1) * most)
-puts_row {calls} {a} {b} {d} {causes} insert source i most row lt is x y = record {
+pub puts_row : {fits : Type 0} {a b d : Draft} {causes : ℕ} (insert : BoundInsert) (source : List (List Kept)) (i most : ℕ) (row : List Kept) → i < length source → row ≡ get_or source i row → PutsFirst fits a b insert causes source i (i * most) → Puts fits b d insert.table causes (AreKept causes b.next row) (λ env. row_put env insert) most → PutsFirst fits a d insert causes source (i + 1) ((i + 1) * most)
+puts_row {fits} {a} {b} {d} {causes} insert source i most row lt is x y = record {
   grows = grows_then x.grows y.grows;
   next = y.next ∙ x.next;
-  steady = at_then x.steady y.steady;
-  puts = λ m called u at h s room start set w rows kept_now.
+  steady = λ fit. at_then (x.steady fit) (y.steady fit);
+  puts = λ m u at h s room start set w rows kept_now.
       let env = seen_from m w in
       let values = get_or rows i [] in
       let first = rows_run env insert (take i rows) in
       let inside : i < length rows = omega (arith, lt, rows_long causes a.next source rows s.regs kept_now) in
       let more : take (i + 1) rows ≡ take i rows ++ values ∷ [] = take_more rows i [] inside in
       let all : and_on (first s.shared) (row_put env insert values) ≡ rows_run env insert (take (i + 1) rows) s.shared = rows_run-last env insert (take i rows) values s.shared ∙ ap (λ l. rows_run env insert l s.shared) (sym more) in
-      let both = ran_then m (i * most) most s (length b.code) (length d.code) a.next causes (first s.shared).causes (first s.shared).shared (row_put env insert values) room.sound (x.puts m called u at (y.grows.holds m.prog u at h) s (ready_less room y.grows.most y.grows.cursors) start set w rows kept_now) (λ regs long calm_then same up.
+      let both = ran_then m (i * most) most s (length b.code) (length d.code) a.next causes (first s.shared).causes (first s.shared).shared (row_put env insert values) room.sound (x.puts m u at (y.grows.holds m.prog u at h) s (ready_less room y.grows.most y.grows.cursors) start set w rows kept_now) (λ regs long calm_then same up.
       let t : State = record s { pc = length b.code; regs = regs; shared = (first s.shared).shared } in
       let row_now : AreKept causes b.next row values t.regs = λ q agree. row_kept (map (kept_out q)) source rows i row (kept_now q (λ k below ne. agree k (omega (arith, below, x.next)) ne ∙ same k below ne)) lt is in
-      subst (λ k. Ran m most t (length d.code) k causes (row_put env insert values t.shared).causes (row_put env insert values t.shared).shared) x.next (y.puts m called u at h t (record { unit = room.unit; regs = omega (arith, room.regs, long); cursors = room.cursors; sound = up }) refl (record { scene = set.scene; args = set.args; calm = calm_then }) w values row_now)) in
+      subst (λ k. Ran m most t (length d.code) k causes (row_put env insert values t.shared).causes (row_put env insert values t.shared).shared) x.next (y.puts m u at h t (record { unit = room.unit; regs = omega (arith, room.regs, long); cursors = room.cursors; sound = up }) refl (record { scene = set.scene; args = set.args; calm = calm_then }) w values row_now)) in
       let steps : i * most + most ≤ (i + 1) * most = omega arith in
       ran_more m (i * most + most) ((i + 1) * most) steps s (length d.code) a.next causes (rows_run env insert (take (i + 1) rows) s.shared).causes (rows_run env insert (take (i + 1) rows) s.shared).shared (subst (λ (c : Course). Ran m (i * most + most) s (length d.code) a.next causes c.causes c.shared) all both);
 }
 
 -- all rows
-pub puts_all : {calls : Calls} {a b : Draft} {causes : ℕ} (insert : BoundInsert) (source : List (List Kept)) (i most : ℕ) → i ≡ length source → PutsFirst calls a b insert causes source i (i * most) → Puts calls a b insert.table causes (AreAllKept causes a.next source) (λ env. rows_run env insert) (length source * most)
-puts_all {calls} {a} {b} {causes} insert source i most i_is x = record {
+pub puts_all : {fits : Type 0} {a b : Draft} {causes : ℕ} (insert : BoundInsert) (source : List (List Kept)) (i most : ℕ) → i ≡ length source → PutsFirst fits a b insert causes source i (i * most) → Puts fits a b insert.table causes (AreAllKept causes a.next source) (λ env. rows_run env insert) (length source * most)
+puts_all {fits} {a} {b} {causes} insert source i most i_is x = record {
   grows = x.grows;
   next = x.next;
   steady = x.steady;
-  puts = λ m called u at h s room start set w rows kept_now.
+  puts = λ m u at h s room start set w rows kept_now.
       let env = seen_from m w in
       let whole : take i rows ≡ rows = take_all i rows (omega (arith, i_is, rows_long causes a.next source rows s.regs kept_now)) in
-      subst (λ l. Ran m (length source * most) s (length b.code) a.next causes (rows_run env insert l s.shared).causes (rows_run env insert l s.shared).shared) whole (subst (λ n. Ran m (n * most) s (length b.code) a.next causes (rows_run env insert (take i rows) s.shared).causes (rows_run env insert (take i rows) s.shared).shared) i_is (x.puts m called u at h s room start set w rows kept_now));
+      subst (λ l. Ran m (length source * most) s (length b.code) a.next causes (rows_run env insert l s.shared).causes (rows_run env insert l s.shared).shared) whole (subst (λ n. Ran m (n * most) s (length b.code) a.next causes (rows_run env insert (take i rows) s.shared).causes (rows_run env insert (take i rows) s.shared).shared) i_is (x.puts m u at h s room start set w rows kept_now));
 }
 
 -- ---- as stretches
@@ -121,13 +121,13 @@ abbrev pub HasFailed : (Shared → Course) → Last
 HasFailed course h0 o x = (why : CauseSet) × (o ≡ GivesUp why) × (course h0.shared ≡ failed why x)
 
 -- a stretch that takes the course
-pub puts_of : {X : Type 0} {calls : Calls} {a b : Draft} {most : ℕ} (table causes : ℕ) (IsThere : X → List Out → Type 0) (course : Environment → X → Shared → Course) (p : Setting → World → X → Claim) → Grows a b → b.next ≡ a.next → SteadyAt (1 ∷ []) a b → ((m : Setting) (w : World) (x : X) (s : State) → IsSound (world_of s.shared) → IsSet table causes s → IsThere x s.regs → p m w x (here s) (here s)) → ((m : Setting) → calls m → (w : World) (x : X) → Triple m a b (λ h0. most) no_labels (HasFailed (course (seen_from m w) x)) (p m w x) (HasRun (course (seen_from m w) x) a.next causes)) → Puts calls a b table causes IsThere course most
-puts_of {X} {calls} {a} {b} {most} table causes IsThere course p grows next steady begins run = record {
+pub puts_of : {X : Type 0} {fits : Type 0} {a b : Draft} {most : ℕ} (table causes : ℕ) (IsThere : X → List Out → Type 0) (course : Environment → X → Shared → Course) (p : Setting → World → X → Claim) → Grows a b → b.next ≡ a.next → (fits → SteadyAt table_open a b) → ((m : Setting) (w : World) (x : X) (s : State) → IsSound (world_of s.shared) → IsSet table causes s → IsThere x s.regs → p m w x (here s) (here s)) → ((m : Setting) (w : World) (x : X) → Triple m a b (λ h0. most) no_labels (HasFailed (course (seen_from m w) x)) (p m w x) (HasRun (course (seen_from m w) x) a.next causes)) → Puts fits a b table causes IsThere course most
+puts_of {X} {fits} {a} {b} {most} table causes IsThere course p grows next steady begins run = record {
   grows = grows;
   next = next;
   steady = steady;
-  puts = λ m called u at h s room start set w x kept_now.
-      by m at s (course (seen_from m w) x) ((run m called w x).runs u at h (here s) s room start (begins m w x s room.sound set kept_now));
+  puts = λ m u at h s room start set w x kept_now.
+      by m at s (course (seen_from m w) x) ((run m w x).runs u at h (here s) s room start (begins m w x s room.sound set kept_now));
 }
   where
     by : (m : Setting) (at : ℕ → ℕ) (s : State) (f : Shared → Course) → Exits m at most (λ l h. ⊥) (HasFailed f (here s)) s (length b.code) (HasRun f a.next causes (here s)) → Ran m most s (length b.code) a.next causes (f s.shared).causes (f s.shared).shared
@@ -149,13 +149,13 @@ pub record IsSetAt (table causes : ℕ) (h : Here) : Type 0 where
   pub calm : read h.regs causes ≡ no_causes
 
 -- code that takes the course of what is there, inside another stretch
-pub t_puts : (m : Setting) {X : Type 0} {calls : Calls} {a b : Draft} {table causes most : ℕ} {IsThere : X → List Out → Type 0} {course : Environment → X → Shared → Course} (called : calls m) (w : Here → World) (what : Here → X) (g : Labels) (e : Last) (p q : Claim) → Puts calls a b table causes IsThere course most → ((h0 h : Here) → p h0 h → IsSetAt table causes h × IsThere (what h0) h.regs) → ((h0 h : Here) (regs : List Out) (x : Shared) → p h0 h → course (seen_from m (w h0)) (what h0) h.shared ≡ finished x → q h0 (record h { regs = regs; shared = x })) → ((h0 h : Here) (why : CauseSet) (x : Shared) → p h0 h → course (seen_from m (w h0)) (what h0) h.shared ≡ failed why x → e h0 (GivesUp why) x) → Triple m a b (λ h0. most) g e p q
-t_puts m {X} {calls} {a} {b} {table} {causes} {most} {IsThere} {course} called w what g e p q x known goes fails = record {
+pub t_puts : (m : Setting) {X : Type 0} {fits : Type 0} {a b : Draft} {table causes most : ℕ} {IsThere : X → List Out → Type 0} {course : Environment → X → Shared → Course} (w : Here → World) (what : Here → X) (g : Labels) (e : Last) (p q : Claim) → Puts fits a b table causes IsThere course most → ((h0 h : Here) → p h0 h → IsSetAt table causes h × IsThere (what h0) h.regs) → ((h0 h : Here) (regs : List Out) (x : Shared) → p h0 h → course (seen_from m (w h0)) (what h0) h.shared ≡ finished x → q h0 (record h { regs = regs; shared = x })) → ((h0 h : Here) (why : CauseSet) (x : Shared) → p h0 h → course (seen_from m (w h0)) (what h0) h.shared ≡ failed why x → e h0 (GivesUp why) x) → Triple m a b (λ h0. most) g e p q
+t_puts m {X} {fits} {a} {b} {table} {causes} {most} {IsThere} {course} w what g e p q x known goes fails = record {
   extends = extends x.grows;
   runs = λ u at h h0 s room start pre.
       let now = known h0 (here s) pre in
       let c = course (seen_from m (w h0)) (what h0) s.shared in
-      by at h0 s pre c.causes c.shared refl (x.puts m called u at h s room start (record { scene = now.0.scene; args = now.0.args; calm = now.0.calm }) (w h0) (what h0) now.1);
+      by at h0 s pre c.causes c.shared refl (x.puts m u at h s room start (record { scene = now.0.scene; args = now.0.args; calm = now.0.calm }) (w h0) (what h0) now.1);
 }
   where
     by : (at : ℕ → ℕ) (h0 : Here) (s : State) → p h0 (here s) → (o : Option CauseSet) (y : Shared) → course (seen_from m (w h0)) (what h0) s.shared ≡ record { causes = o; shared = y } → Ran m most s (length b.code) a.next causes o y → Exits m at most (λ l. g l h0) (e h0) s (length b.code) (q h0)

@@ -24,6 +24,8 @@ use Rattle.sql_meaning.specs.declared.bound.PutColumn.{PutColumn}
 use Rattle.vm_code.specs.declared.op.Op.{Op}
 use Rattle.vm_code.specs.declared.op.Op.TheVariants as op
 use Rattle.vm_code.specs.Draft.{Draft, bound, with_label, with_op}
+use Rattle.vm_code.specs.declared.open_cursor.Need.{Need}
+use Rattle.vm_code.specs.declared.open_cursor.Need.TheVariants as need
 use Rattle.vm_code.specs.Tracked.{Steady}
 use Rattle.vm_code.specs.Machine as machine
 use Rattle.vm_code.specs.Machine.{Open, Setting, State, On, GivesUp, Reaches, act, cursor_at, cursor_rows, drawn, given_up, is_integer, is_known, leaving_of, outs_from, read, row_in, rows_of, world_of}
@@ -35,6 +37,11 @@ use Rattle.vm_code.proofs.Tracks.{has-bound, place-bound, st_bind, st_fork, st_f
 use Rattle.vm_code.proofs.Effects.{t_put}
 use Rattle.vm_code.proofs.NewRows.{t_must_be_int, t_no_conflict}
 use Rattle.vm_code.proofs.Triples.{no_labels, with_claim, t_bind, t_draft, t_goto, t_halt_bad, t_more, t_seq, t_test, t_use}
+
+-- ---- what is needed of cursors: that of the table is open
+
+abbrev pub on_table : List Need
+on_table = need.Table 1 ∷ []
 
 -- ---- a constraint that is broken
 
@@ -74,9 +81,9 @@ module _ (d : Draft) (name : List ℕ) (register causes : ℕ) where
   abbrev inside : List ℕ
   inside = next ∷ []
 
-  pub steady_null : (uses : List ℕ) → Steady uses [] d (with_null_refused d name register causes)
-  steady_null uses =
-      st_made next refl (place-bound halting next null_open) (st_then (g_op labelled (op.NotNull register next)) (st_fork uses inside labelled (op.NotNull register next) next refl refl (inl refl)) (st_then (g_op testing (op.Bad (Constraint constraint.NotNull name) causes)) (st_op uses inside testing (op.Bad (Constraint constraint.NotNull name) causes) (refl, refl)) (st_leave uses inside setting_bad (op.HaltBad causes) next refl refl (inl refl))))
+  pub steady_null : (needs : List Need) → Steady needs [] d (with_null_refused d name register causes)
+  steady_null needs =
+      st_made next refl (place-bound halting next null_open) (st_then (g_op labelled (op.NotNull register next)) (st_fork needs inside labelled (op.NotNull register next) next refl refl (inl refl)) (st_then (g_op testing (op.Bad (Constraint constraint.NotNull name) causes)) (st_op needs inside testing (op.Bad (Constraint constraint.NotNull name) causes) (refl, refl)) (st_leave needs inside setting_bad (op.HaltBad causes) next refl refl (inl refl))))
 
   pub t_null : (m : Setting) (e : Last) (p q : Claim) → causes < d.most → ((h0 h : Here) → p h0 h → is_known (read h.regs register) ≡ true → q h0 h) → ((h0 h : Here) → p h0 h → is_known (read h.regs register) ≡ false → e h0 (GivesUp (only (Constraint constraint.NotNull name))) h.shared) → Triple m d (with_null_refused d name register causes) (λ h0. 3) no_labels e p q
   t_null m e p q lt goes fails =
@@ -108,12 +115,12 @@ grows_nulls d (c ∷ columns) name register causes = grows_then (by c.not_null) 
     by true = grows_null d name register causes
     by false = grows_none d
 
-pub steady_nulls : (uses : List ℕ) (d : Draft) (columns : List PutColumn) (name : List ℕ) (register causes : ℕ) → Steady uses [] d (with_nulls_refused d columns name register causes)
-steady_nulls uses d [] name register causes = st_none uses [] d
-steady_nulls uses d (c ∷ columns) name register causes = by c.not_null (λ z. steady_nulls uses z columns name (register + 1) causes)
+pub steady_nulls : (needs : List Need) (d : Draft) (columns : List PutColumn) (name : List ℕ) (register causes : ℕ) → Steady needs [] d (with_nulls_refused d columns name register causes)
+steady_nulls needs d [] name register causes = st_none needs [] d
+steady_nulls needs d (c ∷ columns) name register causes = by c.not_null (λ z. steady_nulls needs z columns name (register + 1) causes)
   where
-    by : (b : Bool) → ((z : Draft) → Steady uses [] z (with_nulls_refused z columns name (register + 1) causes)) → Steady uses [] d (with_nulls_refused (with_null_tested b d name register causes) columns name (register + 1) causes)
-    by true rest = st_then (grows_null d name register causes) (steady_null d name register causes uses) (rest (with_null_refused d name register causes))
+    by : (b : Bool) → ((z : Draft) → Steady needs [] z (with_nulls_refused z columns name (register + 1) causes)) → Steady needs [] d (with_nulls_refused (with_null_tested b d name register causes) columns name (register + 1) causes)
+    by true rest = st_then (grows_null d name register causes) (steady_null d name register causes needs) (rest (with_null_refused d name register causes))
     by false rest = rest d
 
 -- registers and cursors are taken and given back
@@ -121,15 +128,16 @@ pub record Same (a b : Draft) : Type 0 where
   pub next : b.next ≡ a.next
   pub most : b.most ≡ a.most
   pub cursors : b.cursors ≡ a.cursors
+  pub units : b.units ≡ a.units
 
 pub same_nulls : (d : Draft) (columns : List PutColumn) (name : List ℕ) (register causes : ℕ) → Same d (with_nulls_refused d columns name register causes)
-same_nulls d [] name register causes = record { next = refl; most = refl; cursors = refl }
+same_nulls d [] name register causes = record { next = refl; most = refl; cursors = refl; units = refl }
 same_nulls d (c ∷ columns) name register causes = by c.not_null (λ z. same_nulls z columns name (register + 1) causes)
   where
     by : (b : Bool) → ((z : Draft) → Same z (with_nulls_refused z columns name (register + 1) causes)) → Same d (with_nulls_refused (with_null_tested b d name register causes) columns name (register + 1) causes)
     by true rest =
         let x = rest (with_null_refused d name register causes) in
-        record { next = x.next; most = x.most; cursors = x.cursors }
+        record { next = x.next; most = x.most; cursors = x.cursors; units = x.units }
     by false rest = rest d
 
 -- the columns that may not be NULL, whose values are in registers one after another
@@ -239,9 +247,9 @@ module _ (d : Draft) (register : ℕ) (name : List ℕ) where
   abbrev both_labels : List ℕ
   both_labels = missing ∷ fixed ∷ []
 
-  pub steady_tested : Steady (1 ∷ []) [] d (with_rowid_tested d register name)
+  pub steady_tested : Steady on_table [] d (with_rowid_tested d register name)
   steady_tested =
-      st_made fixed refl (place-bound drawing fixed fixed_open) (st_made missing refl (has-bound drawing fixed missing (place-bound going missing missing_open)) (st_then (g_op two (op.IsNull register missing)) (st_fork (1 ∷ []) both_labels two (op.IsNull register missing) missing refl refl (inl refl)) (st_then (g_op looking (op.MustBeInt register)) (st_op (1 ∷ []) both_labels looking (op.MustBeInt register) (refl, refl)) (st_on (λ l xs m. m) (st_goto (1 ∷ []) both_labels wanting fixed missing (inr (inl refl)) (inl refl)) (st_then (g_op (bound going missing) (op.NewRowid 1 register name)) (st_use (1 ∷ []) both_labels (bound going missing) (op.NewRowid 1 register name) 1 refl refl (0, omega arith, refl)) (st_bind (1 ∷ []) both_labels drawing fixed (inr (inl refl))))))))
+      st_made fixed refl (place-bound drawing fixed fixed_open) (st_made missing refl (has-bound drawing fixed missing (place-bound going missing missing_open)) (st_then (g_op two (op.IsNull register missing)) (st_fork on_table both_labels two (op.IsNull register missing) missing refl refl (inl refl)) (st_then (g_op looking (op.MustBeInt register)) (st_op on_table both_labels looking (op.MustBeInt register) (refl, refl)) (st_on (λ l xs m. m) (st_goto on_table both_labels wanting fixed missing (inr (inl refl)) (inl refl)) (st_then (g_op (bound going missing) (op.NewRowid 1 register name)) (st_use on_table both_labels (bound going missing) (op.NewRowid 1 register name) (need.Table 1) refl refl (0, omega arith, refl)) (st_bind on_table both_labels drawing fixed (inr (inl refl))))))))
 
   pub t_tested : (m : Setting) (table : ℕ) (e : Last) (p q : Claim) → register < d.most → ((h0 h : Here) → p h0 h → cursor_at h.scene.cursors 1 ≡ Open table None) → ((h0 h : Here) (regs : List Out) (n : ℤ) → p h0 h → machine.is_null (read h.regs register) ≡ true → next_rowid (rows_of (world_of h.shared) table) ≡ Some n → read regs register ≡ Good (Integer n) → ((k : ℕ) → k ≢ register → read regs k ≡ read h.regs k) → q h0 (with_regs h regs)) → ((h0 h : Here) → p h0 h → machine.is_null (read h.regs register) ≡ true → next_rowid (rows_of (world_of h.shared) table) ≡ None → e h0 (GivesUp (only (Full name))) h.shared) → ((h0 h : Here) (n : ℤ) → p h0 h → read h.regs register ≡ Good (Integer n) → fits_integer n ≡ true → q h0 h) → ((h0 h : Here) → p h0 h → machine.is_null (read h.regs register) ≡ false → is_integer (read h.regs register) ≡ false → e h0 (GivesUp (only Mismatch)) h.shared) → Triple m d (with_rowid_tested d register name) (λ h0. 4) no_labels e p q
   t_tested m table e p q lt opened draws full goes fails =
@@ -285,9 +293,9 @@ module _ (d : Draft) (name : List ℕ) (keys : List (List KeyTerm)) (rowid first
   grows_met =
       g_bound met_halting free (grows_then (g_label d) (grows_then (g_op one test) (grows_then (g_op finding (op.Bad (Constraint constraint.Unique name) causes)) (g_op met_bad (op.HaltBad causes))))) (omega arith) free_open
 
-  pub steady_met : Steady (1 ∷ []) [] d (with_met_refused d name keys rowid first count causes)
+  pub steady_met : Steady on_table [] d (with_met_refused d name keys rowid first count causes)
   steady_met =
-      st_made free refl (place-bound met_halting free free_open) (st_then (g_op one test) (st_fork_use (1 ∷ []) (free ∷ []) one test free 1 refl refl (0, omega arith, refl) (inl refl)) (st_then (g_op finding (op.Bad (Constraint constraint.Unique name) causes)) (st_op (1 ∷ []) (free ∷ []) finding (op.Bad (Constraint constraint.Unique name) causes) (refl, refl)) (st_leave (1 ∷ []) (free ∷ []) met_bad (op.HaltBad causes) free refl refl (inl refl))))
+      st_made free refl (place-bound met_halting free free_open) (st_then (g_op one test) (st_fork_use on_table (free ∷ []) one test free (need.Table 1) refl refl (0, omega arith, refl) (inl refl)) (st_then (g_op finding (op.Bad (Constraint constraint.Unique name) causes)) (st_op on_table (free ∷ []) finding (op.Bad (Constraint constraint.Unique name) causes) (refl, refl)) (st_leave on_table (free ∷ []) met_bad (op.HaltBad causes) free refl refl (inl refl))))
 
   pub t_met : (m : Setting) (table : ℕ) (e : Last) (p q : Claim) → causes < d.most → ((h0 h : Here) → p h0 h → cursor_at h.scene.cursors 1 ≡ Open table None) → ((h0 h : Here) → p h0 h → row_in_way keys (rows_of (world_of h.shared) table) (row_in h.regs rowid first count) ≡ None → q h0 h) → ((h0 h : Here) (x : StoredRow) → p h0 h → row_in_way keys (rows_of (world_of h.shared) table) (row_in h.regs rowid first count) ≡ Some x → e h0 (GivesUp (only (Constraint constraint.Unique name))) h.shared) → Triple m d (with_met_refused d name keys rowid first count causes) (λ h0. 3) no_labels e p q
   t_met m table e p q lt opened goes fails =

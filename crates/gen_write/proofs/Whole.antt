@@ -1,7 +1,7 @@
 -- The programs of an INSERT, of a CREATE TABLE, a DROP TABLE and a CREATE INDEX, and of a statement that does nothing.
-use Rattle.std.proofs.Common.{◌≡◌, ℕ, zero, suc, ◌+◌, ◌*◌, ◌≤◌, List, [], ◌∷◌, length, sum_by, ℤ, Some, None, Bool, true, false, Contains, ◌&&◌, if◌then◌else◌, refl, sym, ap, ◌∙◌, subst, arith}
+use Rattle.std.proofs.Common.{◌≡◌, ℕ, zero, suc, ◌+◌, ◌*◌, ◌≤◌, List, [], ◌∷◌, length, sum_by, ℤ, Some, None, Bool, true, false, ◌&&◌, if◌then◌else◌, refl, sym, ap, ◌∙◌, subst, arith}
 use Rattle.std.specs.Prelude.{slice_index_or, slice_set}
-use Rattle.std.proofs.lemmas.List.Elements.{All-cons, All-nil}
+use Rattle.std.specs.List.{flat_map}
 use Rattle.std.specs.declared.option.Option.{Option}
 use Rattle.eng_index.specs.Keys.{has_doubles}
 use Rattle.eng_index.specs.declared.key_term.KeyTerm.{KeyTerm}
@@ -11,8 +11,9 @@ use Rattle.eng_value.specs.declared.cause.Cause.TheVariants.{Constraint}
 use Rattle.eng_value.specs.declared.cause.ConstraintKind.TheVariants.{Unique}
 use Rattle.eng_value.specs.declared.out.Out.{Out}
 use Rattle.gen_write.specs.Stretches.{AreAllKept, KeepsRows, Puts, SourcedBy, items_for, scene_on, values_in}
-use Rattle.gen_write.specs.Writes.{create_run, create_steps, doubles_refused, drop_run, drop_steps, finished, index_run, index_steps, items_in, nothing_run, nothing_steps, put_run, put_steps, read_steps, row_steps, rows_run, run_by, seen_in, source_of, source_run, turns_of, untouched}
+use Rattle.gen_write.specs.Writes.{NamesWhatIsThere, create_run, create_steps, doubles_refused, drop_run, drop_steps, finished, index_run, index_steps, items_in, needs_of_each, nothing_run, nothing_steps, put_run, put_steps, read_steps, row_steps, rows_run, run_by, seen_in, source_of, source_run, turns_of, untouched}
 use Rattle.gen_write.specs.declared.source.Kept.{Kept}
+use Rattle.gen_write.proofs.Needing.{met_source}
 use Rattle.gen_write.proofs.Opens.{at_of, at_opened, steady_from}
 use Rattle.gen_write.proofs.RowRuns.{t_puts}
 use Rattle.gen_write.proofs.Seeing.{value_of-same}
@@ -26,16 +27,21 @@ use Rattle.vm_code.specs.declared.schema_change.SchemaChange.{SchemaChange}
 use Rattle.vm_code.specs.declared.schema_change.SchemaChange.TheVariants.{AddTable, DropTable}
 use Rattle.vm_code.specs.Draft.{Draft, begun, taken, with_op, with_cursor}
 use Rattle.vm_code.specs.Machine.{Closed, Cursor, Open, Finished, GivesUp, Inputs, Run, Scene, Setting, Shared, State, Performs, cursor_at, ending_by, read, rows_of, with_schema, world_of}
-use Rattle.vm_code.specs.Frames.{Calls, Here, IsProgramOf, environment_of, here, no_calls, surroundings_of, with_regs}
-use Rattle.vm_code.specs.Balanced.{IsBalanced}
+use Rattle.vm_code.specs.Frames.{Given, Here, IsProgramOf, environment_of, here, needing, surroundings_of, with_regs}
+use Rattle.vm_code.specs.Accepted.{IsAccepted}
+use Rattle.vm_code.specs.Track.{OpenSet, on as cursor_on}
+use Rattle.vm_code.specs.declared.open_cursor.CursorKind.TheVariants.{Table}
+use Rattle.vm_code.specs.declared.open_cursor.Need.{Need}
+use Rattle.vm_code.specs.declared.open_cursor.Need.TheVariants as need
 use Rattle.vm_code.specs.Claims.{Claim, Exits, Labels, Last, Triple, ends, on}
 use Rattle.vm_code.proofs.Drafts.{extends, g_cursor, g_op, g_taken, grows_then}
 use Rattle.vm_code.proofs.Triples.{no_labels, t_seq, t_use, t_more, t_more_where, t_draft, t_op, t_halt}
 use Rattle.vm_code.proofs.Effects.{t_put}
 use Rattle.vm_code.proofs.Loops.{t_move}
 use Rattle.vm_code.proofs.Searches.{t_build_index, t_build_unique}
-use Rattle.vm_code.proofs.Balancing.{balanced_of}
-use Rattle.vm_code.proofs.Tracks.{st_cursor, st_none, st_op, st_taken, st_then, st_use}
+use Rattle.vm_code.proofs.Accepting.{accepted_of}
+use Rattle.vm_code.proofs.Meeting.{met_none, met_one}
+use Rattle.vm_code.proofs.Tracks.{st_cursor, st_none, st_op, st_taken, st_then, st_use, st_wider}
 use Rattle.vm_code.proofs.Whole.{Begins, EndsAs, performs_of}
 
 -- ---- what is shared at the start of a run
@@ -85,8 +91,8 @@ sees m h b =
 
 -- ---- the source, inside another stretch
 
-t_keeps : (m : Setting) {calls : Calls} {a b : Draft} {causes : ℕ} {rows : List (List BoundExpr)} {source : List (List Kept)} (called : calls m) (g : Labels) (e : Last) (p q : Claim) → KeepsRows calls a b causes rows source → ((h0 h : Here) → p h0 h → read h.regs causes ≡ no_causes) → ((h0 h : Here) (regs : List Out) → p h0 h → refusal_of (items_for rows (environment_of m h)) ≡ None → AreAllKept causes b.next source (given_of (items_for rows (environment_of m h))) regs → read regs causes ≡ no_causes → q h0 (with_regs h regs)) → ((h0 h : Here) (why : CauseSet) → p h0 h → refusal_of (items_for rows (environment_of m h)) ≡ Some why → e h0 (GivesUp why) h.shared) → Triple m a b (λ h0. sum_by read_steps rows) g e p q
-t_keeps m {calls} {a} {b} {causes} {rows} {source} called g e p q x calm goes fails = record {
+t_keeps : (m : Setting) {given : Given} {a b : Draft} {causes : ℕ} {rows : List (List BoundExpr)} {source : List (List Kept)} (called : given.calls m) (g : Labels) (e : Last) (p q : Claim) → KeepsRows given a b causes rows source → ((h0 h : Here) → p h0 h → read h.regs causes ≡ no_causes) → ((h0 h : Here) (regs : List Out) → p h0 h → refusal_of (items_for rows (environment_of m h)) ≡ None → AreAllKept causes b.next source (given_of (items_for rows (environment_of m h))) regs → read regs causes ≡ no_causes → q h0 (with_regs h regs)) → ((h0 h : Here) (why : CauseSet) → p h0 h → refusal_of (items_for rows (environment_of m h)) ≡ Some why → e h0 (GivesUp why) h.shared) → Triple m a b (λ h0. sum_by read_steps rows) g e p q
+t_keeps m {given} {a} {b} {causes} {rows} {source} called g e p q x calm goes fails = record {
   extends = extends x.grows;
   runs = λ u at h h0 s room start pre.
       let items = items_for rows (environment_of m (here s)) in
@@ -106,7 +112,7 @@ nulled = with_op (taken (begun [])) (op.Null 0)
 abbrev pub open_on : Draft → ℕ → Draft
 open_on y table = with_op (with_cursor (with_cursor y)) (op.OpenWrite 1 table)
 
-module _ (b : BoundInsert) (source : List (List Kept)) (y z : Draft) (x : KeepsRows no_calls nulled y 0 b.rows source) (none : y.cursors ≡ 0) (w : Puts no_calls (open_on y b.table) z b.table 0 (AreAllKept 0 y.next source) (λ env. rows_run env b) (length source * row_steps b)) (two : z.cursors ≡ 2) where
+module _ (b : BoundInsert) (source : List (List Kept)) (y z : Draft) (x : KeepsRows (needing (flat_map needs_of_each b.rows)) nulled y 0 b.rows source) (none : y.cursors ≡ 0) (w : Puts (NamesWhatIsThere b) (open_on y b.table) z b.table 0 (AreAllKept 0 y.next source) (λ env. rows_run env b) (length source * row_steps b)) (two : z.cursors ≡ 2) where
   abbrev closing : Draft
   closing = with_op z (op.Close 1)
 
@@ -200,7 +206,7 @@ module _ (b : BoundInsert) (source : List (List Kept)) (y z : Draft) (x : KeepsR
     puts = t_more_where (λ h0. turns h0 * row_steps b) (λ h0 h pre.
         let many : row_count ≡ length b.rows * row_steps b = ap (λ n. n * row_steps b) x.wide in
         let same : turns_of (refusal_of (items h0)) (length b.rows) * row_steps b ≡ length b.rows * row_steps b = ap (λ o. turns_of o (length b.rows) * row_steps b) pre.1 in
-        subst (λ n. row_count ≤ n) (many ∙ sym same) (omega arith)) (t_puts m tt (λ h0. world_of h0.shared) (λ h0. given_of (items h0)) no_labels last opened has_run w (λ h0 h pre. (record { scene = pre.4; args = pre.5; calm = pre.2 }, pre.3)) (λ h0 h regs k pre is.
+        subst (λ n. row_count ≤ n) (many ∙ sym same) (omega arith)) (t_puts m (λ h0. world_of h0.shared) (λ h0. given_of (items h0)) no_labels last opened has_run w (λ h0 h pre. (record { scene = pre.4; args = pre.5; calm = pre.2 }, pre.3)) (λ h0 h regs k pre is.
         (pre.1, ap (rows_run (env h0) b (given_of (items h0))) (sym pre.0) ∙ is)) (λ h0 h why k pre is.
         let run = ap run_by (sym (ap (rows_run (env h0) b (given_of (items h0))) (sym pre.0) ∙ is)) ∙ run_good h0 pre.1 in
         (ap (λ (r : Run). r.ending) run, ap (λ (r : Run). r.shared) run)))
@@ -218,13 +224,13 @@ module _ (b : BoundInsert) (source : List (List Kept)) (y z : Draft) (x : KeepsR
   pub insert-performs : (p : Program) → IsProgramOf whole p → Performs p (put_run b) (put_steps b)
   insert-performs p is = performs_of [] whole p (put_run b) (put_steps b) is ends_run
 
-  pub insert-balanced : (p : Program) → IsProgramOf whole p → IsBalanced p.main
-  insert-balanced p is =
+  pub insert-accepted : NamesWhatIsThere b → z.units ≡ [] → (p : Program) → IsProgramOf whole p → IsAccepted p
+  insert-accepted fits alone p is =
       let clearing = st_then (g_taken (begun [])) (st_taken [] [] (begun [])) (st_op [] [] (taken (begun [])) (op.Null 0) (refl, refl)) in
-      let reading = st_then (grows_then (g_taken (begun [])) (g_op (taken (begun [])) (op.Null 0))) clearing x.steady in
+      let reading = st_then (grows_then (g_taken (begun [])) (g_op (taken (begun [])) (op.Null 0))) clearing (st_wider (λ xs met. met_source b fits xs) x.steady) in
       let cursors = st_then (g_cursor y) (st_cursor [] [] y) (st_cursor [] [] (with_cursor y)) in
       let front = st_then (grows_then (g_taken (begun [])) (grows_then (g_op (taken (begun [])) (op.Null 0)) x.grows)) reading cursors in
-      balanced_of [] closing op.Halt p (steady_from [] (at_opened 1 (op.OpenWrite 1 b.table) refl refl (at_of [] (λ k c lt. absurd (omega (arith, lt))) front) w.steady (omega arith) w.grows.cursors)) refl refl is
+      accepted_of [] closing op.Halt p (steady_from [] (at_opened Table 1 (op.OpenWrite 1 b.table) refl refl (at_of [] (met_none []) front) (w.steady fits) (omega arith) w.grows.cursors)) alone refl refl is
 
 -- ---- CREATE TABLE and DROP TABLE
 
@@ -248,9 +254,9 @@ module _ (change : SchemaChange) where
   abbrev changed : Claim
   changed h0 h = h.shared ≡ with_change (first_shared h0)
 
-  pub schema-balanced : (p : Program) → IsProgramOf schema_code p → IsBalanced p.main
-  schema-balanced p is =
-      balanced_of [] changing op.Halt p (st_op [] [] (begun []) (op.Schema change) (refl, refl)) refl refl is
+  pub schema-accepted : (p : Program) → IsProgramOf schema_code p → IsAccepted p
+  schema-accepted p is =
+      accepted_of [] changing op.Halt p (st_op [] [] (begun []) (op.Schema change) (refl, refl)) refl refl refl is
 
   schema-performs : (p : Program) → IsProgramOf schema_code p → Performs p schema_run (λ x. 2)
   schema-performs p is = performs_of [] schema_code p schema_run (λ x. 2) is ends
@@ -288,13 +294,13 @@ module _ (table : ℕ) (name : List ℕ) (terms : List KeyTerm) (unique : Bool) 
   abbrev pub index_code : Draft
   index_code = with_op shutting op.Halt
 
-  pub index-balanced : (p : Program) → IsProgramOf index_code p → IsBalanced p.main
-  index-balanced p is =
-      let uses : List ℕ = 0 ∷ [] in
-      let used = All-cons (Contains uses) 0 [] (0, omega arith, refl) (All-nil (Contains uses)) in
-      let front = at_of [] (λ k c lt. absurd (omega (arith, lt))) (st_cursor [] [] (begun [])) in
-      let body = at_of uses used (st_use uses [] reading (op.BuildIndex 0 terms (named unique)) 0 refl refl (0, omega arith, refl)) in
-      balanced_of [] shutting op.Halt p (steady_from [] (at_opened 0 (op.OpenRead 0 table) refl refl front body (omega arith) (omega arith))) refl refl is
+  pub index-accepted : (p : Program) → IsProgramOf index_code p → IsAccepted p
+  index-accepted p is =
+      let needs : List Need = need.Table 0 ∷ [] in
+      let open_one : OpenSet = cursor_on Table 0 ∷ [] in
+      let front = at_of [] (met_none []) (st_cursor [] [] (begun [])) in
+      let body = at_of open_one (met_one open_one (need.Table 0) (0, omega arith, refl)) (st_use needs [] reading (op.BuildIndex 0 terms (named unique)) (need.Table 0) refl refl (0, omega arith, refl)) in
+      accepted_of [] shutting op.Halt p (steady_from [] (at_opened Table 0 (op.OpenRead 0 table) refl refl front body (omega arith) (omega arith))) refl refl refl is
 
   module _ (m : Setting) where
     abbrev index_last : Last
@@ -346,8 +352,8 @@ module _ (table : ℕ) (name : List ℕ) (terms : List KeyTerm) (unique : Bool) 
 abbrev pub nothing_code : Draft
 nothing_code = with_op (begun []) op.Halt
 
-pub nothing-balanced : (p : Program) → IsProgramOf nothing_code p → IsBalanced p.main
-nothing-balanced p is = balanced_of [] (begun []) op.Halt p (st_none [] [] (begun [])) refl refl is
+pub nothing-accepted : (p : Program) → IsProgramOf nothing_code p → IsAccepted p
+nothing-accepted p is = accepted_of [] (begun []) op.Halt p (st_none [] [] (begun [])) refl refl refl is
 
 pub nothing-performs : (p : Program) → IsProgramOf nothing_code p → Performs p nothing_run nothing_steps
 nothing-performs p is =

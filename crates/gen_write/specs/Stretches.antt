@@ -28,9 +28,10 @@ use Rattle.sql_words.specs.declared.literal.Literal.TheVariants as literal
 use Rattle.sql_meaning.specs.declared.bound.PutColumn.{PutColumn}
 use Rattle.vm_code.specs.declared.op.Op.TheVariants as op
 use Rattle.vm_code.specs.Draft.{Draft, bound, taken, with_label, with_op}
-use Rattle.vm_code.specs.Track.{OpenSet}
+use Rattle.vm_code.specs.declared.open_cursor.CursorKind.TheVariants.{Table}
+use Rattle.vm_code.specs.Track.{OpenSet, on}
 use Rattle.vm_code.specs.Tracked.{HasPlace, IsTracked, Steady}
-use Rattle.vm_code.specs.Frames.{Calls, Gave, Grows, Holds, Left, Ready, environment_of, here}
+use Rattle.vm_code.specs.Frames.{Gave, Given, Grows, Holds, Left, Ready, environment_of, here}
 use Rattle.vm_code.specs.Machine.{World, Shared, Scene, Setting, State, Closed, Open, Reaches, outs_from, read}
 
 -- ---- what is kept of the source
@@ -70,14 +71,14 @@ pub record Held (m : Setting) (most : ℕ) (s : State) (place low high causes : 
   pub keeps : SameBut causes low s.regs regs
 
 -- code that evaluates the expressions of a row, keeps what they came to and gathers their causes; where it takes no register there are none, and else it takes instructions
-pub record KeepsValues (calls : Calls) (a b : Draft) (causes : ℕ) (es : List BoundExpr) (row : List Kept) : Type 0 where
+pub record KeepsValues (given : Given) (a b : Draft) (causes : ℕ) (es : List BoundExpr) (row : List Kept) : Type 0 where
   pub grows : Grows a b
   pub next : a.next ≤ b.next
   pub counted : b.next ≤ b.most
-  pub steady : Steady [] [] a b
+  pub steady : Steady given.needs [] a b
   pub calm : b.next ≡ a.next → (env : Environment) → fold with_causes no_causes (values_in es env) ≡ no_causes
   pub busy : a.next < b.next → 0 < sum_by value_steps es
-  pub keeps : (m : Setting) → calls m → (u : ℕ) (at : ℕ → ℕ) → Holds b m.prog u at → (s : State) → Ready b u s → s.pc ≡ length a.code
+  pub keeps : (m : Setting) → given.calls m → (u : ℕ) (at : ℕ → ℕ) → Holds b m.prog u at → (s : State) → Ready b u s → s.pc ≡ length a.code
       → Held m (sum_by value_steps es) s (length b.code) a.next b.next causes row (values_in es (environment_of m (here s)))
 
 -- the machine comes to a place where the values of these rows are kept, and there are no causes
@@ -95,13 +96,13 @@ SourcedBy m most s place low high causes source None rows = Sourced m most s pla
 SourcedBy m most s place low high causes source (Some why) rows = Gave m most s why s.shared
 
 -- code that evaluates rows in turn, keeps what they came to, and gives up behind the first bad one
-pub record KeepsRows (calls : Calls) (a b : Draft) (causes : ℕ) (rows : List (List BoundExpr)) (source : List (List Kept)) : Type 0 where
+pub record KeepsRows (given : Given) (a b : Draft) (causes : ℕ) (rows : List (List BoundExpr)) (source : List (List Kept)) : Type 0 where
   pub grows : Grows a b
   pub next : a.next ≤ b.next
   pub counted : b.next ≤ b.most
-  pub steady : Steady [] [] a b
+  pub steady : Steady given.needs [] a b
   pub wide : length source ≡ length rows
-  pub keeps : (m : Setting) → calls m → (u : ℕ) (at : ℕ → ℕ) → Holds b m.prog u at → (s : State) → Ready b u s → s.pc ≡ length a.code → read s.regs causes ≡ no_causes
+  pub keeps : (m : Setting) → given.calls m → (u : ℕ) (at : ℕ → ℕ) → Holds b m.prog u at → (s : State) → Ready b u s → s.pc ≡ length a.code → read s.regs causes ≡ no_causes
       → SourcedBy m (sum_by read_steps rows) s (length b.code) a.next b.next causes source (refusal_of (items_for rows (environment_of m (here s)))) (given_of (items_for rows (environment_of m (here s))))
 
 -- the unit gives up where a register is bad
@@ -159,11 +160,11 @@ out_loaded regs None = Good Null
 out_loaded regs (Some k) = kept_out regs k
 
 -- code that leaves that in a register
-pub record Loads (calls : Calls) (a b : Draft) (to : ℕ) (k : Option Kept) : Type 0 where
+pub record Loads (given : Given) (a b : Draft) (to : ℕ) (k : Option Kept) : Type 0 where
   pub grows : Grows a b
   pub next : b.next ≡ a.next
-  pub steady : Steady [] [] a b
-  pub loads : (m : Setting) → calls m → (u : ℕ) (at : ℕ → ℕ) → Holds b m.prog u at → (s : State) → Ready b u s → s.pc ≡ length a.code
+  pub steady : Steady given.needs [] a b
+  pub loads : (m : Setting) → given.calls m → (u : ℕ) (at : ℕ → ℕ) → Holds b m.prog u at → (s : State) → Ready b u s → s.pc ≡ length a.code
       → Left m 1 s (length b.code) a.next to (out_loaded s.regs k)
 
 -- the machine comes to a place with these in registers one after another, from the mark on, and with their causes gathered in another register; the others below the mark are as they were
@@ -176,12 +177,12 @@ pub record Stored (m : Setting) (most : ℕ) (s : State) (place mark causes : �
   pub keeps : SameBut causes mark s.regs regs
 
 -- code that leaves what columns store of the values that are kept, and of defaults, in the registers that it takes, and gathers their causes
-pub record Stores (calls : Calls) (a b : Draft) (causes : ℕ) (row : List Kept) (columns : List PutColumn) : Type 0 where
+pub record Stores (given : Given) (a b : Draft) (causes : ℕ) (row : List Kept) (columns : List PutColumn) : Type 0 where
   pub grows : Grows a b
   pub next : b.next ≡ a.next + length columns
   pub counted : b.next ≤ b.most
-  pub steady : Steady [] [] a b
-  pub stores : (m : Setting) → calls m → (u : ℕ) (at : ℕ → ℕ) → Holds b m.prog u at → (s : State) → Ready b u s → s.pc ≡ length a.code → (values : List Value) → AreKept causes a.next row values s.regs
+  pub steady : Steady given.needs [] a b
+  pub stores : (m : Setting) → given.calls m → (u : ℕ) (at : ℕ → ℕ) → Holds b m.prog u at → (s : State) → Ready b u s → s.pc ≡ length a.code → (values : List Value) → AreKept causes a.next row values s.regs
       → Stored m (sum_by column_steps columns) s (length b.code) a.next causes (stored_for (environment_of m (here s)) columns values)
 
 -- what is in a register is stored there, and its causes are gathered
@@ -280,22 +281,22 @@ PassedBy m most s place mark None = Passed m most s place mark
 PassedBy m most s place mark (Some why) = Gave m most s why s.shared
 
 -- code that gives up at the first CHECK that is false or bad
-pub record Checks (calls : Calls) (a b : Draft) (table : List ℕ) (checks : List BoundExpr) : Type 0 where
+pub record Checks (given : Given) (a b : Draft) (table : List ℕ) (checks : List BoundExpr) : Type 0 where
   pub grows : Grows a b
   pub next : b.next ≡ a.next
-  pub steady : Steady [] [] a b
-  pub passes : (m : Setting) → calls m → (u : ℕ) (at : ℕ → ℕ) → Holds b m.prog u at → (s : State) → Ready b u s → s.pc ≡ length a.code
+  pub steady : Steady given.needs [] a b
+  pub passes : (m : Setting) → given.calls m → (u : ℕ) (at : ℕ → ℕ) → Holds b m.prog u at → (s : State) → Ready b u s → s.pc ≡ length a.code
       → PassedBy m (sum_by check_steps checks) s (length b.code) a.next (first_broken table checks (environment_of m (here s)))
 
 -- between such code a cursor stands on the row, where there are CHECKs
-pub record Between (calls : Calls) (a b : Draft) (table : List ℕ) (checks : List BoundExpr) (rowid first count : ℕ) : Type 0 where
+pub record Between (given : Given) (a b : Draft) (table : List ℕ) (checks : List BoundExpr) (rowid first count : ℕ) : Type 0 where
   pub last : Draft
-  pub checked : Checks calls (with_op a (op.RowOf 0 rowid first count)) last table checks
+  pub checked : Checks given (with_op a (op.RowOf 0 rowid first count)) last table checks
   pub is : b ≡ with_op last (op.Close 0)
 
-abbrev pub ChecksRow : Calls → Draft → Draft → List ℕ → List BoundExpr → ℕ → ℕ → ℕ → Type 0
-ChecksRow calls a b table [] rowid first count = b ≡ a
-ChecksRow calls a b table (c ∷ checks) rowid first count = Between calls a b table (c ∷ checks) rowid first count
+abbrev pub ChecksRow : Given → Draft → Draft → List ℕ → List BoundExpr → ℕ → ℕ → ℕ → Type 0
+ChecksRow given a b table [] rowid first count = b ≡ a
+ChecksRow given a b table (c ∷ checks) rowid first count = Between given a b table (c ∷ checks) rowid first count
 
 -- ---- rows
 
@@ -331,10 +332,10 @@ abbrev pub Ran : Setting → ℕ → State → ℕ → ℕ → ℕ → Option Ca
 Ran m most s place mark causes None x = Got m most s place mark causes x
 Ran m most s place mark causes (Some why) x = Gave m most s why x
 
--- code that takes the course of what registers keep, from what is shared; its expressions see the tables of any time
-pub record Puts {X : Type 0} (calls : Calls) (a b : Draft) (table causes : ℕ) (IsThere : X → List Out → Type 0) (course : Environment → X → Shared → Course) (most : ℕ) : Type 0 where
+-- code that takes the course of what registers keep, from what is shared; its expressions see the tables of any time. Where they name what is there, it leaves open what it finds open
+pub record Puts {X : Type 0} (fits : Type 0) (a b : Draft) (table causes : ℕ) (IsThere : X → List Out → Type 0) (course : Environment → X → Shared → Course) (most : ℕ) : Type 0 where
   pub grows : Grows a b
   pub next : b.next ≡ a.next
-  pub steady : SteadyAt (1 ∷ []) a b
-  pub puts : (m : Setting) → calls m → (u : ℕ) (at : ℕ → ℕ) → Holds b m.prog u at → (s : State) → Ready b u s → s.pc ≡ length a.code → IsSet table causes s → (w : World) (x : X) → IsThere x s.regs
+  pub steady : fits → SteadyAt (on Table 1 ∷ []) a b
+  pub puts : (m : Setting) → (u : ℕ) (at : ℕ → ℕ) → Holds b m.prog u at → (s : State) → Ready b u s → s.pc ≡ length a.code → IsSet table causes s → (w : World) (x : X) → IsThere x s.regs
       → Ran m most s (length b.code) a.next causes (course (seen_from m w) x s.shared).causes (course (seen_from m w) x s.shared).shared

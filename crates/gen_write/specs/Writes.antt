@@ -1,6 +1,6 @@
 -- What the programs of writes perform over lists of rows, and in how many instructions at most.
-use Rattle.std.specs.Prelude.{◌≡◌, ℕ, zero, suc, ◌+◌, ◌*◌, ◌≤◌, nat_lt, Bool, true, false, not, ◌&&◌, List, [], ◌∷◌, length, map, sum_by, ℤ, Option, Some, None, is_some, if◌then◌else◌}
-use Rattle.std.specs.List.{list_all}
+use Rattle.std.specs.Prelude.{◌≡◌, ℕ, zero, suc, ◌+◌, ◌*◌, ◌≤◌, nat_lt, Bool, true, false, not, ◌&&◌, All, List, [], ◌∷◌, length, map, sum_by, ℤ, Option, Some, None, is_some, if◌then◌else◌}
+use Rattle.std.specs.List.{flat_map, list_all}
 use Rattle.bound_size.specs.Sizes.{all_nodes, nodes_of}
 use Rattle.bound_tree.specs.Exprs as e
 use Rattle.bound_tree.specs.Exprs.{BoundExpr}
@@ -14,6 +14,7 @@ use Rattle.eng_value.specs.declared.affinity.Affinity.TheVariants as affinity
 use Rattle.eng_value.specs.declared.cause.Cause.TheVariants.{Constraint}
 use Rattle.eng_value.specs.declared.cause.ConstraintKind.TheVariants.{Unique}
 use Rattle.eng_value.specs.declared.value.Value.{Value}
+use Rattle.gen_expr.specs.Needs.{needs_of}
 use Rattle.gen_expr.specs.Steps.{steps_of}
 use Rattle.sql_meaning.specs.Rows.{fitted, new_row}
 use Rattle.sql_meaning.specs.Statement.{Item, given_of, refusal_of, shown}
@@ -24,6 +25,8 @@ use Rattle.sql_meaning.specs.declared.bound.RowidFrom.TheVariants as rowid
 use Rattle.sql_words.specs.declared.literal.Literal.{Literal}
 use Rattle.sql_words.specs.declared.literal.Literal.TheVariants as literal
 use Rattle.sql_meaning.specs.declared.bound.PutColumn.{PutColumn}
+use Rattle.vm_code.specs.declared.open_cursor.Need.{Need}
+use Rattle.vm_code.specs.declared.open_cursor.Need.TheVariants as need
 use Rattle.vm_code.specs.Machine.{World, Finished, Run, Shared, ending_by, rows_of, with_row, with_table, without_rows}
 
 -- nothing is given and nothing is written
@@ -134,6 +137,24 @@ source_run env b x None source = rows_run env b source x
 
 abbrev pub put_run : BoundInsert → Surroundings → ℤ → Run
 put_run b x last_rowid = run_by (source_run (seen_in x) b (untouched x.world last_rowid) (refusal_of (source_of b x)) (given_of (source_of b x)))
+
+-- ---- what an INSERT needs of cursors
+
+abbrev pub needs_of_each : List BoundExpr → List Need
+needs_of_each es = flat_map needs_of es
+
+abbrev pub needs_within : Option BoundExpr → List Need
+needs_within None = []
+needs_within (Some x) = needs_of x
+
+abbrev pub default_needs : PutColumn → List Need
+default_needs c = needs_within c.default
+
+-- its source and its defaults read no row, and its CHECKs none but the one that is put, which is that of item 0
+pub record NamesWhatIsThere (b : BoundInsert) : Type 0 where
+  pub rows : All (All (λ (x : BoundExpr). needs_of x ≡ [])) b.rows
+  pub defaults : All (λ (c : PutColumn). default_needs c ≡ []) b.columns
+  pub checks : All (λ (x : BoundExpr). All (λ (n : Need). n ≡ need.Rows 0) (needs_of x)) b.checks
 
 -- ---- how many instructions an INSERT takes
 

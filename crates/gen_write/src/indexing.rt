@@ -1,7 +1,7 @@
 // The program of a CREATE INDEX.
 ghost use Rattle.std.specs.Prelude.{◌≡◌, IfOk, None, Some, if◌then◌else◌};
 ghost use Rattle.gen_write.specs.Writes.{index_run, index_steps};
-ghost use Rattle.vm_code.specs.Balanced.{IsBalanced};
+ghost use Rattle.vm_code.specs.Accepted.{IsAccepted};
 ghost use Rattle.vm_code.specs.Machine.{Performs};
 
 use eng_index::KeyTerm;
@@ -21,7 +21,7 @@ pub fn compile_index(
     unique: bool,
 ) -> Result<Program, AllocError>
     ensures performs { IfOk result (λ p. Performs p (index_run table name.now terms.now unique) index_steps) }
-    ensures balanced { IfOk result (λ p. IsBalanced p.main) }
+    ensures accepted { IfOk result (λ p. IsAccepted p) }
 {
     let mut b = Builder::new(alloc, Items::new(alloc));
     let cursor = b.cursor()?;

@@ -1,7 +1,7 @@
 // The program of an INSERT.
 ghost use Rattle.std.specs.Prelude.{IfOk};
-ghost use Rattle.gen_write.specs.Writes.{put_run, put_steps};
-ghost use Rattle.vm_code.specs.Balanced.{IsBalanced};
+ghost use Rattle.gen_write.specs.Writes.{NamesWhatIsThere, put_run, put_steps};
+ghost use Rattle.vm_code.specs.Accepted.{IsAccepted};
 ghost use Rattle.vm_code.specs.Machine.{Performs};
 
 use crate::rows::{TABLE, put_rows};
@@ -19,7 +19,7 @@ use vm_code::{Builder, Op, Program};
 /// bad) or row in the way, which has the same rowid or shares a key, in this order. Only memory can fail here.
 pub fn compile_insert(alloc: Global, insert: &BoundInsert) -> Result<Program, AllocError>
     ensures performs { IfOk result (λ p. Performs p (put_run insert.now) (put_steps insert.now)) }
-    ensures balanced { IfOk result (λ p. IsBalanced p.main) }
+    ensures accepted { IfOk result (λ p. NamesWhatIsThere insert.now → IsAccepted p) }
 {
     let mut b = Builder::new(alloc, Items::new(alloc));
     let causes = b.take()?;

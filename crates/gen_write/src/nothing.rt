@@ -1,7 +1,7 @@
 // The program of a statement that does nothing.
 ghost use Rattle.std.specs.Prelude.{IfOk};
 ghost use Rattle.gen_write.specs.Writes.{nothing_run, nothing_steps};
-ghost use Rattle.vm_code.specs.Balanced.{IsBalanced};
+ghost use Rattle.vm_code.specs.Accepted.{IsAccepted};
 ghost use Rattle.vm_code.specs.Machine.{Performs};
 
 use sqlite_items::Items;
@@ -12,7 +12,7 @@ use vm_code::{Builder, Op, Program};
 /// can fail.
 pub fn compile_nothing(alloc: Global) -> Result<Program, AllocError>
     ensures performs { IfOk result (λ p. Performs p nothing_run nothing_steps) }
-    ensures balanced { IfOk result (λ p. IsBalanced p.main) }
+    ensures accepted { IfOk result (λ p. IsAccepted p) }
 {
     let mut b = Builder::new(alloc, Items::new(alloc));
     b.op(Op::Halt)?;

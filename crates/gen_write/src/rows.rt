@@ -1,9 +1,10 @@
 // The rows that an INSERT puts.
 ghost use Rattle.std.specs.Prelude.{◌≡◌, ◌*◌, ◌<◌, ◌≤◌, [], ◌∷◌, false, length, IfOk, None, OnOk, Some};
+ghost use Rattle.std.specs.List.{flat_map};
 ghost use Rattle.std.specs.Option.{option_copied};
-ghost use Rattle.gen_write.specs.Writes.{column_with, columns_beside, row_put, row_steps, rows_run};
+ghost use Rattle.gen_write.specs.Writes.{NamesWhatIsThere, column_with, columns_beside, default_needs, needs_within, row_put, row_steps, rows_run};
 ghost use Rattle.gen_write.specs.Stretches.{AreAllKept, AreHeld, AreKept, Loads, Puts, Stores, kept_at, with_stored};
-ghost use Rattle.vm_code.specs.Frames.{no_calls};
+ghost use Rattle.vm_code.specs.Frames.{needing};
 
 use crate::holding::is_held;
 use crate::refusing::refuse_if;
@@ -35,8 +36,9 @@ pub(crate) fn put_rows(
     requires taken { causes < b.old.next }
     requires counted { b.old.next ≤ b.old.most }
     requires cursors { b.old.cursors ≡ 2 }
-    ensures puts { OnOk result (Puts no_calls b.old b.new insert.now.table causes (AreAllKept causes b.old.next source.now) (λ env. rows_run env insert.now) (length source.now * row_steps insert.now)) }
+    ensures puts { OnOk result (Puts (NamesWhatIsThere insert.now) b.old b.new insert.now.table causes (AreAllKept causes b.old.next source.now) (λ env. rows_run env insert.now) (length source.now * row_steps insert.now)) }
     ensures cursors { OnOk result (b.new.cursors ≡ b.old.cursors) }
+    ensures units { OnOk result (b.new.units ≡ b.old.units) }
 {
     for kept in source {
         put_row(alloc, b, insert, causes, kept.as_slice())?;
@@ -56,8 +58,9 @@ fn put_row(
     requires taken { causes < b.old.next }
     requires counted { b.old.next ≤ b.old.most }
     requires cursors { b.old.cursors ≡ 2 }
-    ensures puts { OnOk result (Puts no_calls b.old b.new insert.now.table causes (AreKept causes b.old.next kept.now) (λ env. row_put env insert.now) (row_steps insert.now)) }
+    ensures puts { OnOk result (Puts (NamesWhatIsThere insert.now) b.old b.new insert.now.table causes (AreKept causes b.old.next kept.now) (λ env. row_put env insert.now) (row_steps insert.now)) }
     ensures cursors { OnOk result (b.new.cursors ≡ b.old.cursors) }
+    ensures units { OnOk result (b.new.units ≡ b.old.units) }
 {
     let first = b.next_register();
     let stored = emit_columns(alloc, b, insert.columns.as_slice(), kept, causes)?;
@@ -101,9 +104,10 @@ fn emit_columns(
 ) -> Result<bool, AllocError>
     requires taken { causes < b.old.next }
     requires counted { b.old.next ≤ b.old.most }
-    ensures stores { IfOk result (λ may. Stores no_calls b.old b.new causes kept.now columns.now) }
+    ensures stores { IfOk result (λ may. Stores (needing (flat_map default_needs columns.now)) b.old b.new causes kept.now columns.now) }
     ensures held { IfOk result (λ may. may ≡ false → AreHeld kept.now columns.now) }
     ensures cursors { OnOk result (b.new.cursors ≡ b.old.cursors) }
+    ensures units { OnOk result (b.new.units ≡ b.old.units) }
 {
     let mut may_fail = false;
     for column in columns {
@@ -123,9 +127,10 @@ fn emit_column(
 ) -> Result<bool, AllocError>
     requires taken { causes < b.old.next }
     requires counted { b.old.next ≤ b.old.most }
-    ensures stores { IfOk result (λ may. Stores no_calls b.old b.new causes kept.now (column.now ∷ [])) }
+    ensures stores { IfOk result (λ may. Stores (needing (default_needs column.now)) b.old b.new causes kept.now (column.now ∷ [])) }
     ensures held { IfOk result (λ may. may ≡ false → AreHeld kept.now (column.now ∷ [])) }
     ensures cursors { OnOk result (b.new.cursors ≡ b.old.cursors) }
+    ensures units { OnOk result (b.new.units ≡ b.old.units) }
 {
     match column.place {
         Some(place) => emit_value(b, column.affinity, Some(place), kept, causes),
@@ -144,9 +149,10 @@ fn emit_default(
 ) -> Result<bool, AllocError>
     requires taken { causes < b.old.next }
     requires counted { b.old.next ≤ b.old.most }
-    ensures stores { IfOk result (λ may. Stores no_calls b.old b.new causes kept.now (column_with affinity None default.now ∷ [])) }
+    ensures stores { IfOk result (λ may. Stores (needing (needs_within default.now)) b.old b.new causes kept.now (column_with affinity None default.now ∷ [])) }
     ensures held { IfOk result (λ may. may ≡ false → AreHeld kept.now (column_with affinity None default.now ∷ [])) }
     ensures cursors { OnOk result (b.new.cursors ≡ b.old.cursors) }
+    ensures units { OnOk result (b.new.units ≡ b.old.units) }
 {
     match default {
         None => emit_value(b, affinity, None, kept, causes),
@@ -168,9 +174,10 @@ fn emit_beside(
 ) -> Result<bool, AllocError>
     requires taken { causes < b.old.next }
     requires counted { b.old.next ≤ b.old.most }
-    ensures stores { IfOk result (λ may. Stores no_calls b.old b.new causes kept.now (columns_beside from)) }
+    ensures stores { IfOk result (λ may. Stores (needing []) b.old b.new causes kept.now (columns_beside from)) }
     ensures held { IfOk result (λ may. may ≡ false → AreHeld kept.now (columns_beside from)) }
     ensures cursors { OnOk result (b.new.cursors ≡ b.old.cursors) }
+    ensures units { OnOk result (b.new.units ≡ b.old.units) }
 {
     match from {
         RowidFrom::Given(place) => emit_value(b, Affinity::Integer, Some(place), kept, causes),
@@ -190,9 +197,10 @@ fn emit_value(
 ) -> Result<bool, AllocError>
     requires taken { causes < b.old.next }
     requires counted { b.old.next ≤ b.old.most }
-    ensures stores { IfOk result (λ may. Stores no_calls b.old b.new causes kept.now (column_with affinity place None ∷ [])) }
+    ensures stores { IfOk result (λ may. Stores (needing []) b.old b.new causes kept.now (column_with affinity place None ∷ [])) }
     ensures held { IfOk result (λ may. may ≡ false → AreHeld kept.now (column_with affinity place None ∷ [])) }
     ensures cursors { OnOk result (b.new.cursors ≡ b.old.cursors) }
+    ensures units { OnOk result (b.new.units ≡ b.old.units) }
 {
     let to = b.take()?;
     let value = kept_at(kept, place);
@@ -231,8 +239,9 @@ fn kept_at<'a, 'b>(kept: &'b [Kept<'a>], place: Option<u32>) -> Option<&'b Kept<
 fn load(b: &mut Builder, kept: Option<&Kept>, to: u32) -> Result<(), AllocError>
     requires taken { to < b.old.next }
     requires counted { b.old.next ≤ b.old.most }
-    ensures loads { OnOk result (Loads no_calls b.old b.new to (option_copied kept.entry)) }
+    ensures loads { OnOk result (Loads (needing []) b.old b.new to (option_copied kept.entry)) }
     ensures cursors { OnOk result (b.new.cursors ≡ b.old.cursors) }
+    ensures units { OnOk result (b.new.units ≡ b.old.units) }
 {
     match kept {
         None => b.op(Op::Null { to })?,
@@ -244,8 +253,9 @@ fn load(b: &mut Builder, kept: Option<&Kept>, to: u32) -> Result<(), AllocError>
 fn load_kept(b: &mut Builder, kept: &Kept, to: u32) -> Result<(), AllocError>
     requires taken { to < b.old.next }
     requires counted { b.old.next ≤ b.old.most }
-    ensures loads { OnOk result (Loads no_calls b.old b.new to (Some kept.now)) }
+    ensures loads { OnOk result (Loads (needing []) b.old b.new to (Some kept.now)) }
     ensures cursors { OnOk result (b.new.cursors ≡ b.old.cursors) }
+    ensures units { OnOk result (b.new.units ≡ b.old.units) }
 {
     match kept {
         Kept::Literal(literal) => emit_literal(b, literal, to)?,

@@ -1,9 +1,11 @@
 // The source of an INSERT.
 ghost use Rattle.std.specs.Prelude.{◌≡◌, ◌<◌, ◌≤◌, [], ◌∷◌, IfOk, OnOk, is_some};
+ghost use Rattle.std.specs.List.{flat_map};
 ghost use Rattle.std.specs.Option.{option_copied};
 ghost use Rattle.gen_write.specs.Stretches.{KeepsRows, KeepsValues};
-ghost use Rattle.gen_write.specs.Writes.{plain_literal, plain_of};
-ghost use Rattle.vm_code.specs.Frames.{no_calls};
+ghost use Rattle.gen_expr.specs.Needs.{needs_of};
+ghost use Rattle.gen_write.specs.Writes.{needs_of_each, plain_literal, plain_of};
+ghost use Rattle.vm_code.specs.Frames.{needing};
 
 use crate::refusing::refuse_bad;
 use bound_tree::{BoundExpr, ExprTree};
@@ -32,8 +34,9 @@ pub(crate) fn keep_rows<'a>(
 ) -> Result<Items<Items<Kept<'a>>>, AllocError>
     requires taken { causes < b.old.next }
     requires counted { b.old.next ≤ b.old.most }
-    ensures keeps { IfOk result (λ source. KeepsRows no_calls b.old b.new causes rows.now source) }
+    ensures keeps { IfOk result (λ source. KeepsRows (needing (flat_map needs_of_each rows.now)) b.old b.new causes rows.now source) }
     ensures cursors { OnOk result (b.new.cursors ≡ b.old.cursors) }
+    ensures units { OnOk result (b.new.units ≡ b.old.units) }
 {
     let mut source = Items::new(alloc);
     for row in rows {
@@ -51,8 +54,9 @@ fn keep_row<'a>(
 ) -> Result<Items<Kept<'a>>, AllocError>
     requires taken { causes < b.old.next }
     requires counted { b.old.next ≤ b.old.most }
-    ensures keeps { IfOk result (λ kept. KeepsRows no_calls b.old b.new causes (row.now ∷ []) (kept ∷ [])) }
+    ensures keeps { IfOk result (λ kept. KeepsRows (needing (needs_of_each row.now)) b.old b.new causes (row.now ∷ []) (kept ∷ [])) }
     ensures cursors { OnOk result (b.new.cursors ≡ b.old.cursors) }
+    ensures units { OnOk result (b.new.units ≡ b.old.units) }
 {
     let first = b.next_register();
     let kept = keep_values(alloc, b, row, causes)?;
@@ -71,8 +75,9 @@ fn keep_values<'a>(
 ) -> Result<Items<Kept<'a>>, AllocError>
     requires taken { causes < b.old.next }
     requires counted { b.old.next ≤ b.old.most }
-    ensures keeps { IfOk result (λ kept. KeepsValues no_calls b.old b.new causes row.now kept) }
+    ensures keeps { IfOk result (λ kept. KeepsValues (needing (needs_of_each row.now)) b.old b.new causes row.now kept) }
     ensures cursors { OnOk result (b.new.cursors ≡ b.old.cursors) }
+    ensures units { OnOk result (b.new.units ≡ b.old.units) }
 {
     let mut kept = Items::new(alloc);
     for e in row {
@@ -90,8 +95,9 @@ fn keep_value<'a>(
 ) -> Result<Kept<'a>, AllocError>
     requires taken { causes < b.old.next }
     requires counted { b.old.next ≤ b.old.most }
-    ensures keeps { IfOk result (λ kept. KeepsValues no_calls b.old b.new causes (e.now ∷ []) (kept ∷ [])) }
+    ensures keeps { IfOk result (λ kept. KeepsValues (needing (needs_of e.now)) b.old b.new causes (e.now ∷ []) (kept ∷ [])) }
     ensures cursors { OnOk result (b.new.cursors ≡ b.old.cursors) }
+    ensures units { OnOk result (b.new.units ≡ b.old.units) }
 {
     match plain_literal(e) {
         Some(literal) => Ok(Kept::Literal(literal)),

@@ -1,9 +1,10 @@
 // The tests that a row passes before it is put.
 ghost use Rattle.std.specs.Prelude.{◌≡◌, ◌≤◌, ◌<◌, [], ◌∷◌, None, IfOk, OnOk, Some, slice_get};
 ghost use Rattle.eng_value.specs.declared.cause.ConstraintKind.TheVariants as constraint;
+ghost use Rattle.gen_expr.specs.Needs.{needs_of};
 ghost use Rattle.gen_write.specs.Stretches.{Checks, ChecksRow, with_null_refused, with_met_refused, with_met_tested, with_nulls_refused, with_refused, with_truth_refused};
-ghost use Rattle.gen_write.specs.Writes.{may_be_met, rowid_given};
-ghost use Rattle.vm_code.specs.Frames.{no_calls};
+ghost use Rattle.gen_write.specs.Writes.{may_be_met, needs_of_each, rowid_given};
+ghost use Rattle.vm_code.specs.Frames.{needing};
 
 use crate::rowids::{register_at, rowid_given};
 use crate::rows::{ROW, TABLE};
@@ -75,8 +76,9 @@ pub(crate) fn refuse_by_checks(
     count: u32,
 ) -> Result<(), AllocError>
     requires counted { b.old.next ≤ b.old.most }
-    ensures checks { OnOk result (ChecksRow no_calls b.old b.new table.now checks.now rowid first count) }
+    ensures checks { OnOk result (ChecksRow (needing (needs_of_each checks.now)) b.old b.new table.now checks.now rowid first count) }
     ensures cursors { OnOk result (b.new.cursors ≡ b.old.cursors) }
+    ensures units { OnOk result (b.new.units ≡ b.old.units) }
 {
     if checks.is_empty() {
         return Ok(());
@@ -99,8 +101,9 @@ fn refuse_by_all(
     table: &Text,
 ) -> Result<(), AllocError>
     requires counted { b.old.next ≤ b.old.most }
-    ensures checks { OnOk result (Checks no_calls b.old b.new table.now checks.now) }
+    ensures checks { OnOk result (Checks (needing (needs_of_each checks.now)) b.old b.new table.now checks.now) }
     ensures cursors { OnOk result (b.new.cursors ≡ b.old.cursors) }
+    ensures units { OnOk result (b.new.units ≡ b.old.units) }
 {
     for check in checks {
         refuse_by_check(alloc, b, check, table)?;
@@ -116,8 +119,9 @@ fn refuse_by_check(
     table: &Text,
 ) -> Result<(), AllocError>
     requires counted { b.old.next ≤ b.old.most }
-    ensures checks { OnOk result (Checks no_calls b.old b.new table.now (check.now ∷ [])) }
+    ensures checks { OnOk result (Checks (needing (needs_of check.now)) b.old b.new table.now (check.now ∷ [])) }
     ensures cursors { OnOk result (b.new.cursors ≡ b.old.cursors) }
+    ensures units { OnOk result (b.new.units ≡ b.old.units) }
 {
     let passed = b.label()?;
     let bad = b.label()?;

@@ -31,7 +31,7 @@ use Rattle.eng_value.specs.declared.value.Value.{Value}
 use Rattle.eng_value.specs.declared.value.Value.TheVariants as value
 use Rattle.eng_key.specs.Values.{value_keys}
 use Rattle.std.proofs.Common.{ℤ}
-use Rattle.sql_meaning.specs.Runnables.{Runnable, Creates, DoesNothing, Drops, FromItem, Indexes, NewIndex, Put, Puts, Queries, Shows, Unindexes}
+use Rattle.sql_meaning.specs.Runnables.{Runnable, Creates, DoesNothing, Drops, FromItem, Indexes, NewIndex, Put, Puts, Queries, Shows, Unindexes, Explains}
 use Rattle.bound_tree.specs.Exprs as e
 use Rattle.bound_tree.specs.Exprs.{BoundArms, BoundExpr, BoundExprs, BoundMatches, NoExprs, AnExpr, NoArms, AnArm, NoMatches, AMatch}
 use Rattle.sql_words.specs.declared.literal.Literal.{Literal}
@@ -481,6 +481,7 @@ outcome_of-told ctx (Unindexes name) = tt
 outcome_of-told ctx (Puts p) = put_source-told ctx p (causes_of (source_of ctx p)) (given_of (source_of ctx p)) (causes_of-told (source_of ctx p) (rows-told ctx p.insert.rows))
 outcome_of-told ctx (Shows rows) = refusal-named (refusal_of (shown_rows ctx rows)) (refusal_of-told (shown_rows ctx rows) (rows-told ctx rows))
 outcome_of-told ctx DoesNothing = tt
+outcome_of-told ctx (Explains how b) = tt
 outcome_of-told ctx (Queries q) = refusal-named (refusal_of (items_of ctx q)) (refusal_of-told (items_of ctx q) (items-told ctx q.conjuncts q.results (from_rows ctx q.from) (product-caused ctx q.from)))
 
 bound_outcome-told : (ctx : Context) (r : Result Runnable Cause) → ToldRefusal (bound_outcome ctx r).refusal

@@ -20,6 +20,7 @@ use Rattle.sql_tree.specs.declared.query.Query.{Query as QueryTree}
 use Rattle.sql_tree.specs.declared.statement.Command.{Command}
 use Rattle.sql_tree.specs.declared.statement.Command.TheVariants as command
 use Rattle.sql_tree.specs.declared.statement.RowCommand.TheVariants as rows_by
+use Rattle.sql_tree.specs.declared.statement.Explain.{Explain}
 use Rattle.sql_tree.specs.declared.statement.Statement.{Statement}
 use Rattle.bound_tree.specs.Conditions.{conditions_of}
 use Rattle.bound_tree.specs.Exprs.{BoundExpr}
@@ -65,8 +66,8 @@ use Rattle.sql_meaning.specs.Built.{is_built, is_built_command}
 use Rattle.sql_meaning.specs.Declarations.{columns_created, table_called, table_of, table_with, tables_among, tables_of}
 use Rattle.sql_meaning.specs.Permits.{Asking, Denies, Ignores, Permit, permitted}
 use Rattle.sql_meaning.specs.Running.{columns_put, command_of, first_part, found_table, from_of, has_own_keys, is_plain_core, keys_of, part_of, put_at, put_into, put_of, query_of, rejecting, rowid_from, rows_of_part, runnable_of, table_of_source}
-use Rattle.sql_meaning.specs.Runnables.{Runnable, Creates, DoesNothing, Drops, FromItem, Indexes, Put, Puts, Queries, Shows, Unindexes}
-use Rattle.sql_meaning.specs.Statement.{answer_bound, around, limit_kind, statement_bound, text_bound}
+use Rattle.sql_meaning.specs.Runnables.{Runnable, Creates, DoesNothing, Drops, FromItem, Indexes, Put, Puts, Queries, Shows, Unindexes, Explains}
+use Rattle.sql_meaning.specs.Statement.{answer_bound, around, limit_kind, plain_bound, explained, statement_bound, text_bound}
 use Rattle.sql_meaning.specs.Valid.{IsEntry, IsTableEntry, IsWorld}
 use Rattle.sql_meaning.specs.Work.{constraints_size}
 use Rattle.sql_meaning.specs.World.{World}
@@ -182,6 +183,7 @@ aside-spelled (Drops t) a = tt
 aside-spelled (Indexes i) a = tt
 aside-spelled (Unindexes name) a = tt
 aside-spelled DoesNothing a = tt
+aside-spelled (Explains how b) a = absurd a
 aside-spelled (Puts p) a = absurd a
 aside-spelled (Queries q) a = tt
 aside-spelled (Shows rows) a = tt
@@ -336,14 +338,26 @@ module _ (catalog : Entries) (entries : All (IsEntry (tables_of catalog)) catalo
   command-spelled number text s units (made.Pragma name) x few e = aside-spelled x (command-aside tables number text s units (made.Pragma name) x tt e)
   command-spelled number text s units (made.Nothing kind name owner) x few e = aside-spelled x (command-aside tables number text s units (made.Nothing kind name owner) x tt e)
 
-  statement-spelled : (asked : Asking) (number : ℕ) (text : List ℕ) (s : Statement) (x : Runnable) → statement_bound asked catalog number text s ≡ Ok x → IsSpelled x
-  statement-spelled asked number text s x e =
+  plain-spelled : (asked : Asking) (number : ℕ) (text : List ℕ) (s : Statement) (x : Runnable) → plain_bound asked catalog number text s ≡ Ok x → IsSpelled x
+  plain-spelled asked number text s x e =
       let run : BoundStatement → Result Runnable Cause = runnable_of tables number text s in
       let built = if_built-ok (is_built text s) (bound_of (around catalog) text s >>= λ b. permitted b (asked b) >>= run) x e in
       let b = then-ok (bound_of (around catalog) text s) (λ b. permitted b (asked b) >>= run) x built.1 in
       let may = then-ok (permitted b.0 (asked b.0)) run x b.2 in
-      let few = by_command text s b.0 b.1 s.command refl (both_hold (not (is_some s.explain)) (is_built_command text s.command) built.0).1 in
+      let few = by_command text s b.0 b.1 s.command refl built.0 in
       command-spelled number text s may.0.units may.0.command x (permitted-spelled b.0 (asked b.0) may.0 may.1 few) may.2
+
+  -- what is shown of a statement spells out nothing
+  explained-spelled : (how : Option Explain) (answer : Result Runnable Cause) (x : Runnable) → ((b : Runnable) → answer ≡ Ok b → IsSpelled b) → explained how answer ≡ Ok x → IsSpelled x
+  explained-spelled None answer x spelled e = spelled x e
+  explained-spelled (Some how) answer x spelled e =
+      let show : Runnable → Result Runnable Cause = λ b. Ok (Explains how b) in
+      let made = then-ok answer show x e in
+      subst IsSpelled (same-ok (Explains how made.0) x made.2) tt
+
+  statement-spelled : (asked : Asking) (number : ℕ) (text : List ℕ) (s : Statement) (x : Runnable) → statement_bound asked catalog number text s ≡ Ok x → IsSpelled x
+  statement-spelled asked number text s x e =
+      explained-spelled s.explain (plain_bound asked catalog number text s) x (λ b is. plain-spelled asked number text s b is) e
 
 answer-spelled : (asked : Asking) (w : World) (before : ℕ) (text : List ℕ) (a : Answer Statement) (x : Runnable) → IsWorld w → answer_bound asked w before text a ≡ Ok x → IsSpelled x
 answer-spelled asked w before text (Tree s) x valid e = statement-spelled w.catalog valid.entries asked (length w.tables) (body_of text) s x e

@@ -8,7 +8,7 @@ use Rattle.std.specs.declared.option.Option.{Option}
 use Rattle.eng_value.specs.Causes.{CauseSet, named, only}
 use Rattle.eng_value.specs.declared.cause.Cause.{Cause}
 use Rattle.eng_value.specs.declared.value.Value.{Value}
-use Rattle.sql_meaning.specs.Runnables.{Runnable, Creates, DoesNothing, Drops, Indexes, NewIndex, Put, Puts, Queries, Shows, Unindexes}
+use Rattle.sql_meaning.specs.Runnables.{Runnable, Creates, DoesNothing, Drops, Indexes, NewIndex, Put, Puts, Queries, Shows, Unindexes, Explains}
 use Rattle.sql_meaning.specs.Statement.{Outcome, begun, bound_for, bound_outcome, causes_of, closed, done, failed, given_of, outcome_of, put_source, refused, rows_put, source_of, text_outcome, with_catalog}
 use Rattle.sql_meaning.specs.Steps.{Effect, Done, Left, Fails}
 use Rattle.sql_meaning.specs.World.{Context, State, environment_at, rows_at}
@@ -43,6 +43,7 @@ outcome_of-keeps ctx (Puts p) = put_source-keeps ctx p (causes_of (source_of ctx
 outcome_of-keeps ctx (Queries q) = record { kept = λ causes is. (refl, refl, refl) }
 outcome_of-keeps ctx (Shows rows) = record { kept = λ causes is. (refl, refl, refl) }
 outcome_of-keeps ctx DoesNothing = record { kept = λ causes is. (refl, refl, refl) }
+outcome_of-keeps ctx (Explains how b) = record { kept = λ causes is. (refl, refl, refl) }
 
 bound_outcome-keeps : (ctx : Context) (r : Result Runnable Cause) → Keeps ctx.state (bound_outcome ctx r)
 bound_outcome-keeps ctx (Ok b) = outcome_of-keeps ctx b

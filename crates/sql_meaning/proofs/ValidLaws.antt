@@ -29,6 +29,7 @@ use Rattle.sql_tree.specs.Sizes.{size_of_command, size_of_definition, size_of_st
 use Rattle.sql_tree.specs.declared.statement.Command.{Command}
 use Rattle.sql_tree.specs.declared.statement.Command.TheVariants as command
 use Rattle.sql_tree.specs.declared.statement.Create.{Create}
+use Rattle.sql_tree.specs.declared.statement.Explain.{Explain}
 use Rattle.sql_tree.specs.declared.statement.Statement.{Statement}
 use Rattle.bound_tree.specs.Exprs.{BoundExpr}
 use Rattle.sql_meaning.specs.declared.bound.BoundInsert.{BoundInsert}
@@ -38,7 +39,7 @@ use Rattle.sql_meaning.specs.declared.bound.RowidFrom.TheVariants as rowid
 use Rattle.sql_meaning.specs.declared.column.Column.{Column}
 use Rattle.sql_meaning.specs.declared.column.TableEntry.{TableEntry}
 use Rattle.sql_words.specs.Refusals.{◌>>=◌}
-use Rattle.sql_meaning.specs.Runnables.{Runnable, Creates, DoesNothing, Drops, Indexes, NewIndex, Put, Puts, Queries, Shows, Unindexes}
+use Rattle.sql_meaning.specs.Runnables.{Runnable, Creates, DoesNothing, Drops, Indexes, NewIndex, Put, Puts, Queries, Shows, Unindexes, Explains}
 use Rattle.sql_words.specs.Spelled.{name_at}
 use Rattle.sql_words.specs.Bodies.{answer_of, body_of}
 use Rattle.sql_meaning.specs.Steps.{Effect, Done, Left, Fails}
@@ -50,7 +51,7 @@ use Rattle.sql_meaning.proofs.EffectLaws.{PutsRows, rows_put-gives}
 use Rattle.sql_meaning.proofs.StepLaws.{Gives, anyhow, never}
 use Rattle.sql_meaning.proofs.StoringLaws.{IsInto, RowidStored, StoresAs}
 use Rattle.sql_meaning.proofs.TableLaws.{LeavesNoTable, all-kept, among-beside, among-kept, among-others, among-push, called-more, called-others, entries-by, entry-own, found-all, found-own, index-no_table, is_other, named-once, none-else, numbers-more, tables-emptied, tables-more, tables-with, with_entry-names}
-use Rattle.sql_meaning.specs.Statement.{answer_bound, around, begun, bound_outcome, causes_of, closed, done, failed, given_of, limit_kind, outcome_of, outcome_where, put_source, rows_put, source_of, statement_bound, text_bound, text_outcome, Outcome, with_catalog, with_created, without_table, written}
+use Rattle.sql_meaning.specs.Statement.{answer_bound, around, begun, bound_outcome, causes_of, closed, done, failed, given_of, limit_kind, outcome_of, outcome_where, put_source, rows_put, source_of, plain_bound, explained, statement_bound, text_bound, text_outcome, Outcome, with_catalog, with_created, without_table, written}
 use Rattle.sql_meaning.specs.Built.{is_built, is_built_command, is_built_definition, is_built_table}
 use Rattle.sql_meaning.specs.Permits.{Asking, Denies, Ignores, Permit, asked_by, permitted}
 use Rattle.sql_meaning.specs.Declarations.{columns_created, columns_kept, columns_of, table_called, table_of, table_with, tables_among, tables_of}
@@ -141,6 +142,7 @@ FitsIn catalog number (Puts p) = IsPut (tables_of catalog) p
 FitsIn catalog number (Queries q) = All (IsFound (tables_of catalog)) q.from
 FitsIn catalog number (Shows rows) = ⊤
 FitsIn catalog number DoesNothing = ⊤
+FitsIn catalog number (Explains how b) = FitsIn catalog number b
 
 pub same-ok : {A : Type 0} (x y : A) → let r : Result A Cause = Ok x in r ≡ Ok y → x ≡ y
 same-ok x y e = cc
@@ -404,7 +406,7 @@ definition-written text e (definition.Trigger t) is kind declared defines made b
 definition-written text e (definition.VirtualTable v) is kind declared defines made built le = absurd (let bad : false ≡ true = made in cc)
 
 entry-written : (number : ℕ) (text name : List ℕ) (s : Statement) → IsText text s → is_table_made s.command ≡ true → is_some (table_of (entry_with number text name s)) ≡ true → IsTableEntry (entry_with number text name s)
-entry-written number text name s held made declared = by s.command refl made (both_hold (not (is_some s.explain)) (is_built_command text s.command) held.built).1 held.size
+entry-written number text name s held made declared = by s.command refl made held.built held.size
   where
     by : (k : Command) → s.command ≡ k → is_table_made k ≡ true → is_built_command text k ≡ true → size_of_command k ≤ 1 + length (tokens_of text) → IsTableEntry (entry_with number text name s)
     by (command.Create c) is made built le = definition-written text (entry_with number text name s) c.definition refl refl declared (ap definition_in is) made built le
@@ -574,14 +576,26 @@ bound-fits o number text s b p allowed r held is may e =
       index = λ x here removes. command-there o s.command s.explain b x removes is (permitted-same b p allowed (bound.Removed x) tt may here);
     }) e
 
-pub statement-fits : (asked : Asking) (catalog : Entries) (number : ℕ) (text : List ℕ) (s : Statement) (r : Runnable) → size_of_statement s ≤ 1 + length (tokens_of text) → statement_bound asked catalog number text s ≡ Ok r → FitsIn catalog number r
-statement-fits asked catalog number text s r le e =
+plain-fits : (asked : Asking) (catalog : Entries) (number : ℕ) (text : List ℕ) (s : Statement) (r : Runnable) → size_of_statement s ≤ 1 + length (tokens_of text) → plain_bound asked catalog number text s ≡ Ok r → FitsIn catalog number r
+plain-fits asked catalog number text s r le e =
     let a = around catalog in
     let run : BoundStatement → Result Runnable Cause = runnable_of (tables_of catalog) number text s in
     let built = if_built-ok (is_built text s) (bound_of a text s >>= λ b. permitted b (asked b) >>= run) r e in
     let made = then-ok (bound_of a text s) (λ b. permitted b (asked b) >>= run) r built.1 in
     let may = then-ok (permitted made.0 (asked made.0)) run r made.2 in
     bound-fits (outer_at a (full_depth a) text [] in_statement) number text s made.0 (asked made.0) may.0 r (record { built = built.0; size = le }) made.1 may.1 may.2
+
+-- what is shown of a statement fits as it does
+explained-fits : (catalog : Entries) (number : ℕ) (how : Option Explain) (answer : Result Runnable Cause) (r : Runnable) → ((b : Runnable) → answer ≡ Ok b → FitsIn catalog number b) → explained how answer ≡ Ok r → FitsIn catalog number r
+explained-fits catalog number None answer r fits e = fits r e
+explained-fits catalog number (Some how) answer r fits e =
+    let show : Runnable → Result Runnable Cause = λ b. Ok (Explains how b) in
+    let made = then-ok answer show r e in
+    subst (FitsIn catalog number) (same-ok (Explains how made.0) r made.2) (fits made.0 made.1)
+
+pub statement-fits : (asked : Asking) (catalog : Entries) (number : ℕ) (text : List ℕ) (s : Statement) (r : Runnable) → size_of_statement s ≤ 1 + length (tokens_of text) → statement_bound asked catalog number text s ≡ Ok r → FitsIn catalog number r
+statement-fits asked catalog number text s r le e =
+    explained-fits catalog number s.explain (plain_bound asked catalog number text s) r (λ b is. plain-fits asked catalog number text s b le is) e
 
 answer-fits : (asked : Asking) (w : World) (before : ℕ) (text : List ℕ) (x : Answer Statement) (b : Runnable) → answer_of text ≡ x → answer_bound asked w before text x ≡ Ok b → FitsIn w.catalog (length w.tables) b
 answer-fits asked w before text (Tree s) b is e = statement-fits asked w.catalog (length w.tables) (body_of text) s b (statement-sized text s is) e
@@ -780,6 +794,7 @@ outcome-valid ctx (Puts p) valid fits = put_source-valid ctx p (causes_of (sourc
 outcome-valid ctx (Queries q) valid fits = valid
 outcome-valid ctx (Shows rows) valid fits = valid
 outcome-valid ctx DoesNothing valid fits = valid
+outcome-valid ctx (Explains how b) valid fits = valid
 
 bound-valid : (ctx : Context) (r : Result Runnable Cause) → IsValid ctx.state → ((b : Runnable) → r ≡ Ok b → FitsIn ctx.state.world.catalog (length ctx.state.world.tables) b) → IsValid (bound_outcome ctx r).next
 bound-valid ctx (Ok b) valid fits = outcome-valid ctx b valid (fits b refl)

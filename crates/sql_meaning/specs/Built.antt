@@ -1,5 +1,5 @@
 -- Which statements are built: CREATE and DROP of tables and indexes, INSERT of rows of values, VALUES, SELECT of expressions from tables or none,
--- and PRAGMA. What any other holds does not run yet.
+-- and PRAGMA, also behind EXPLAIN. What any other holds does not run yet.
 use Rattle.std.specs.Prelude.{ℕ, nat_eq, Bool, true, false, not, ◌&&◌, ◌||◌, List, [], ◌∷◌, length, Option, Some, None, is_some, codes}
 use Rattle.std.specs.List.{list_all}
 use Rattle.sql_tree.specs.declared.expr.Arguments.{Arguments}
@@ -206,4 +206,4 @@ is_built_command text other = false
 
 -- all of the statement is built
 abbrev pub is_built : List ℕ → Statement → Bool
-is_built text s = not (is_some s.explain) && is_built_command text s.command
+is_built text s = is_built_command text s.command

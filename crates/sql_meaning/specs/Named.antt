@@ -13,7 +13,7 @@ use Rattle.bound_tree.specs.Exprs as e
 use Rattle.bound_tree.specs.Exprs.{BoundArms, BoundExpr, BoundExprs, BoundMatches, NoExprs, AnExpr, NoArms, AnArm, NoMatches, AMatch}
 use Rattle.sql_meaning.specs.declared.bound.BoundInsert.{BoundInsert}
 use Rattle.sql_meaning.specs.declared.bound.PutColumn.{PutColumn}
-use Rattle.sql_meaning.specs.Runnables.{Runnable, Creates, DoesNothing, Drops, Indexes, Puts, Queries, Query, Shows, Unindexes}
+use Rattle.sql_meaning.specs.Runnables.{Runnable, Creates, DoesNothing, Drops, Indexes, Puts, Queries, Query, Shows, Unindexes, Explains}
 use Rattle.sql_meaning.specs.Work.{tested_in}
 use Rattle.sql_meaning.specs.Statement.{bound_for}
 use Rattle.sql_meaning.specs.World.{Context}
@@ -93,6 +93,7 @@ named_by (Ok (Puts p)) = named_by_insert p.insert
 named_by (Ok (Queries q)) = named_by_query q
 named_by (Ok (Shows rows)) = flat_map named_by_row rows
 named_by (Ok DoesNothing) = []
+named_by (Ok (Explains how b)) = []
 named_by (Err why) = []
 
 -- each host that a text names, where it is bound, tells what it means

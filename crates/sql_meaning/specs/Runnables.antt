@@ -3,6 +3,7 @@ use Rattle.std.specs.Prelude.{ℕ, List, Bool, Option}
 use Rattle.eng_entry.specs.declared.entry.Entry.{Entry}
 use Rattle.eng_index.specs.declared.key_term.KeyTerm.{KeyTerm}
 use Rattle.bound_tree.specs.Exprs.{BoundExpr}
+use Rattle.sql_tree.specs.declared.statement.Explain.{Explain}
 use Rattle.sql_meaning.specs.declared.bound.BoundInsert.{BoundInsert}
 use Rattle.sql_meaning.specs.declared.bound.Join.{Join}
 use Rattle.sql_meaning.specs.declared.column.TableEntry.{TableEntry}
@@ -35,7 +36,7 @@ pub record NewIndex : Type 0 where
   pub unique : Bool
 
 -- a table's entry that is created, a table that is dropped, an index that is created, one that is dropped by its name, rows that are put, a query,
--- rows of values that are shown, or nothing at all
+-- rows of values that are shown, nothing at all, or the way in which such a statement would be run, which is shown instead
 pub data Runnable : Type 0 where
   Creates : Entry → Runnable
   Drops : TableEntry → Runnable
@@ -45,3 +46,4 @@ pub data Runnable : Type 0 where
   Queries : Query → Runnable
   Shows : List (List BoundExpr) → Runnable
   DoesNothing : Runnable
+  Explains : Explain → Runnable → Runnable

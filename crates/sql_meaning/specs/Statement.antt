@@ -27,6 +27,7 @@ use Rattle.sql_grammar.specs.declared.counts.Limit.TheVariants as grammar_limit
 use Rattle.sql_grammar.specs.Answers.{Answer, Tree, Syntax, TooMuch, place}
 use Rattle.sql_lex.specs.Cutting.{start_of}
 use Rattle.sql_lex.specs.Tokens.{tokens_of}
+use Rattle.sql_tree.specs.declared.statement.Explain.{Explain}
 use Rattle.sql_tree.specs.declared.statement.Statement.{Statement}
 use Rattle.bound_tree.specs.Exprs.{BoundExpr}
 use Rattle.sql_meaning.specs.declared.bound.BoundInsert.{BoundInsert}
@@ -37,7 +38,7 @@ use Rattle.sql_bound.specs.Scopes.{Around, Facts}
 use Rattle.sql_bound.specs.Statements.{bound_of}
 use Rattle.sql_meaning.specs.Permits.{Asking, asked_by, permitted}
 use Rattle.sql_meaning.specs.Running.{if_built, runnable_of}
-use Rattle.sql_meaning.specs.Runnables.{Runnable, Creates, DoesNothing, Drops, FromItem, Indexes, NewIndex, Put, Puts, Queries, Query, Shows, Unindexes}
+use Rattle.sql_meaning.specs.Runnables.{Runnable, Creates, DoesNothing, Drops, FromItem, Indexes, NewIndex, Put, Puts, Queries, Query, Shows, Unindexes, Explains}
 use Rattle.sql_meaning.specs.Declarations.{tables_of}
 use Rattle.sql_meaning.specs.Built.{is_built}
 use Rattle.sql_meaning.specs.Expression.{value_of}
@@ -220,6 +221,7 @@ outcome_of ctx (Puts p) = put_outcome ctx p
 outcome_of ctx (Queries q) = query_outcome ctx.state (items_of ctx q)
 outcome_of ctx (Shows rows) = query_outcome ctx.state (shown_rows ctx rows)
 outcome_of ctx DoesNothing = nothing ctx.state
+outcome_of ctx (Explains how b) = record (nothing ctx.state) { shows_plan = true }
 
 -- ---- what a text is bound to
 
@@ -240,14 +242,22 @@ abbrev pub around : Entries → Around
 around catalog = record { catalog = catalog; facts = nobody_tells }
 
 -- what is not built is refused before all else; then names are bound, and then what is denied is refused
-abbrev pub statement_bound : Asking → Entries → ℕ → List ℕ → Statement → Result Runnable Cause
-statement_bound asked catalog number text s =
+abbrev pub plain_bound : Asking → Entries → ℕ → List ℕ → Statement → Result Runnable Cause
+plain_bound asked catalog number text s =
     if_built (is_built text s) (bound_of (around catalog) text s >>= λ b. permitted b (asked b) >>= runnable_of (tables_of catalog) number text s)
 
 abbrev pub limit_kind : Limit → LimitKind
 limit_kind grammar_limit.Nestings = limit.Nestings
 limit_kind grammar_limit.Operators = limit.Operators
 limit_kind grammar_limit.Parts = limit.Parts
+
+-- what stands behind EXPLAIN is bound as it is without
+abbrev pub explained : Option Explain → Result Runnable Cause → Result Runnable Cause
+explained None answer = answer
+explained (Some how) answer = answer >>= λ b. Ok (Explains how b)
+
+abbrev pub statement_bound : Asking → Entries → ℕ → List ℕ → Statement → Result Runnable Cause
+statement_bound asked catalog number text s = explained s.explain (plain_bound asked catalog number text s)
 
 -- what a text with so many bytes in front of its first token is bound to; where the grammar derives nothing, or not within its limits, that is why
 abbrev pub answer_bound : Asking → World → ℕ → List ℕ → Answer Statement → Result Runnable Cause

@@ -13,7 +13,7 @@ use Rattle.sql_meaning.specs.declared.bound.Join.{Join}
 use Rattle.sql_meaning.specs.declared.bound.Join.TheVariants.{Inner, Left}
 use Rattle.sql_meaning.specs.declared.bound.PutColumn.{PutColumn}
 use Rattle.sql_meaning.specs.declared.column.TableEntry.{TableEntry}
-use Rattle.sql_meaning.specs.Runnables.{Runnable, Creates, DoesNothing, Drops, FromItem, Indexes, Puts, Queries, Query, Shows, Unindexes}
+use Rattle.sql_meaning.specs.Runnables.{Runnable, Creates, DoesNothing, Drops, FromItem, Indexes, Puts, Queries, Query, Shows, Unindexes, Explains}
 use Rattle.bound_ignored.specs.Erased.{erased}
 use Rattle.bound_size.specs.Sizes.{all_nodes}
 use Rattle.bound_tree.specs.Exprs.{BoundExpr}
@@ -49,6 +49,7 @@ opened_size c (Puts p) = texts_size c p.table + length p.table.columns
 opened_size c (Queries q) = from_size c q.from
 opened_size c (Shows rows) = 0
 opened_size c DoesNothing = 0
+opened_size c (Explains how b) = 0
 
 -- the conjuncts that reject pairs of an item
 abbrev pub ons_of : Join → List BoundExpr
@@ -70,6 +71,7 @@ repeated_size size (Puts p) = 0
 repeated_size size (Queries q) = all_nodes (tested_in q) - 16 * size
 repeated_size size (Shows rows) = 0
 repeated_size size DoesNothing = 0
+repeated_size size (Explains how b) = 0
 
 -- of a text of so many tokens
 abbrev pub size_of : Entries → ℕ → Runnable → ℕ
@@ -113,6 +115,7 @@ work_of ctx (Puts p) = 1 + source_work (causes_of (source_of ctx p)) (given_of (
 work_of ctx (Queries q) = from_work ctx q.conjuncts q.from
 work_of ctx (Shows rows) = 1
 work_of ctx DoesNothing = 0
+work_of ctx (Explains how b) = 0
 
 -- ---- the bound
 

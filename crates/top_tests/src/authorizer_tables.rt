@@ -117,13 +117,16 @@ Error 1: no such pragma: foreign_keys
 ~1@
 What does nothing is not asked about:~create_table T - deny,create_table t - ignore,drop_table nosuch - deny,drop_table NoSuch - deny~CREATE TABLE t(a); CREATE TABLE IF NOT EXISTS T(b); DROP TABLE IF EXISTS NoSuch; DROP TABLE IF EXISTS nosuch; INSERT INTO t VALUES(1); SELECT a FROM t;~1
 ~0@
-What is not built comes before:~update t b deny,delete t - deny,select - - deny,function count - deny~CREATE TABLE t(a INTEGER, b INTEGER); UPDATE t SET a=1, b=2; DELETE FROM t; EXPLAIN SELECT 1; SELECT a FROM t ORDER BY a; SELECT count(*) FROM t; EXPLAIN QUERY PLAN SELECT 1; BEGIN;~Error 1: not built yet
+What is not built comes before:~update t b deny,delete t - deny,select - - deny,function count - deny~CREATE TABLE t(a INTEGER, b INTEGER); UPDATE t SET a=1, b=2; DELETE FROM t; SELECT a FROM t ORDER BY a; SELECT count(*) FROM t; EXPLAIN QUERY PLAN SELECT 1 LIMIT 1; BEGIN;~Error 1: not built yet
 Error 1: not built yet
 Error 1: not built yet
 Error 1: not built yet
 Error 1: not built yet
 Error 1: not built yet
-Error 1: not built yet
+~1@
+What stands behind EXPLAIN is asked about as it is without:~select - - deny,pragma foreign_keys - deny~CREATE TABLE t(a INTEGER); EXPLAIN SELECT a FROM t; EXPLAIN QUERY PLAN SELECT 1; EXPLAIN QUERY PLAN INSERT INTO t VALUES(1); EXPLAIN PRAGMA foreign_keys=OFF;~Error 23: denied: action 1
+Error 23: denied: action 1
+Error 23: denied: action 1
 ~1@
 And a text that is none:~select - - deny~SELECT FROM t; SELECT 1 x y;~Error 1: syntax error at byte 7
 Error 1: syntax error at byte 11

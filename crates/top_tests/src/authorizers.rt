@@ -145,7 +145,7 @@ fn authorizers_are_asked(rt: HostRuntime) -> Result<(), Fail> {
     let alloc = rt.alloc();
     assert!(rt; staff(alloc)?.is(STAFF_LINES, 1));
     assert_eq!(rt; count_well(alloc, DENIED)?, 23);
-    assert_eq!(rt; count_well(alloc, ORDER)?, 8);
+    assert_eq!(rt; count_well(alloc, ORDER)?, 9);
     assert_eq!(rt; count_well(alloc, IGNORED)?, 17);
     assert!(rt; untold(alloc)?.is(UNTOLD_LINES, 1));
     Ok(())

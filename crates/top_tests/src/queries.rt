@@ -115,6 +115,31 @@ fn executions(alloc: Global, db: &mut Connection) -> Result<bool, AllocError> {
     Ok(true)
 }
 
+const PLANS: [(&str, &str); 5] = [
+    (
+        "SELECT a FROM t WHERE rowid = ?1",
+        "1 0 0 SEARCH t USING INTEGER PRIMARY KEY (rowid=?) /",
+    ),
+    ("EXPLAIN QUERY PLAN SELECT a FROM t", "1 0 0 SCAN t /"),
+    ("EXPLAIN VALUES(1)", "1 0 0 SCAN CONSTANT ROW /"),
+    ("INSERT INTO t VALUES(8, 8)", ""),
+    ("SELECT nosuch FROM t", "Error 1: no such column: nosuch"),
+];
+
+// Whether plans and a program are shown, also of what stands behind EXPLAIN, and nothing is run.
+fn explanations(alloc: Global, db: &Connection) -> Result<bool, AllocError> {
+    let rowid = db.last_rowid();
+    for (sql, wanted) in PLANS {
+        let answer = db.query_plan(alloc, &mut Hosts::new(), sql);
+        if answered(alloc, answer)?.as_str() != wanted {
+            return Ok(false);
+        }
+    }
+    let program = "EXPLAIN PRAGMA foreign_keys=OFF";
+    let answer = db.explain(alloc, &mut Hosts::new(), program);
+    Ok(answered(alloc, answer)?.as_str() == "0 Halt 0 0 0  0 end /" && db.last_rowid() == rowid)
+}
+
 fn says(alloc: Global, cause: Cause, wanted: &str) -> Result<bool, AllocError> {
     Ok(format!(in alloc; "{}", Refusal { cause })?.as_str() == wanted)
 }
@@ -143,6 +168,7 @@ fn queries_answer_what_they_mean(rt: HostRuntime) -> Result<(), Fail> {
     let mut db = Connection::new(alloc, DEFAULT_BUDGET);
     assert!(rt; queries(alloc, &mut db)?);
     assert!(rt; executions(alloc, &mut db)?);
+    assert!(rt; explanations(alloc, &db)?);
     assert!(rt; others(alloc)?);
     Ok(())
 }

@@ -9,7 +9,7 @@ use Rattle.vm_code.specs.declared.op.Op.TheVariants.{CloseFrom}
 use Rattle.vm_code.specs.Draft.{Draft, with_op, with_label, bound}
 use Rattle.vm_code.specs.Tracked.{Steady}
 use Rattle.vm_code.specs.Machine.{Cursor, Closed, Scene, Setting, closed_from, cursor_at, read}
-use Rattle.vm_code.specs.Frames.{Grows, Here, Shut, SameBelow, Calls, Memory, memory_of, Outcome, Done, Quit, or_done, Effect, Cost, effect_at, cost_at, caught, Does}
+use Rattle.vm_code.specs.Frames.{Grows, Here, Shut, SameBelow, Given, Memory, memory_of, Outcome, Done, Quit, or_done, Effect, Cost, effect_at, cost_at, caught, Does}
 use Rattle.vm_code.specs.Claims.{Claim, Labels, Last, Triple}
 use Rattle.vm_code.proofs.Drafts.{g_op, g_bound, g_label, grows_then, open_new}
 use Rattle.vm_code.proofs.Tracks.{st_close_from, st_label, st_more}
@@ -34,8 +34,8 @@ length-closed_from zero (x ∷ xs) = ap suc (length-closed_from zero xs)
 length-closed_from (suc c) (x ∷ xs) = ap suc (length-closed_from c xs)
 
 -- a body that is left by a label is one that goes on, where the label stands behind it and closes what the body opened
-pub caught_does : {calls : Calls} {a y : Draft} {lo causes l : ℕ} {f : Effect} {n : Cost} (exit : Option ℕ) → l ≡ length a.labels → Does calls (with_label a) y lo causes (Some l) f n → Does calls a (with_op (bound y l) (CloseFrom a.cursors)) lo causes exit (caught f) (λ sight out x. n sight out x + 1)
-caught_does {calls} {a} {y} {lo} {causes} {l} {f} {n} exit l_is d =
+pub caught_does : {given : Given} {a y : Draft} {lo causes l : ℕ} {f : Effect} {n : Cost} (exit : Option ℕ) → l ≡ length a.labels → Does given (with_label a) y lo causes (Some l) f n → Does given a (with_op (bound y l) (CloseFrom a.cursors)) lo causes exit (caught f) (λ sight out x. n sight out x + 1)
+caught_does {given} {a} {y} {lo} {causes} {l} {f} {n} exit l_is d =
     does_of lo causes exit (caught f) starts grows d.next steady (λ h shut. (refl, shut)) (λ m called. t_more (cost_at m (λ sight out x. n sight out x + 1) lo causes) (λ h0. omega arith) (t_seq (body m called) (closes m)))
   where
     close : Op
@@ -52,7 +52,7 @@ caught_does {calls} {a} {y} {lo} {causes} {l} {f} {n} exit l_is d =
     grows =
         grows_then (g_bound y l (grows_then (g_label a) d.grows) (omega (arith, l_is)) open_l) (g_op (bound y l) close)
 
-    steady : Steady [] (option_to_list exit) a (with_op (bound y l) close)
+    steady : Steady given.needs (option_to_list exit) a (with_op (bound y l) close)
     steady =
         st_close_from (st_label l l_is d.grows (st_more (l ∷ option_to_list exit) (λ k among. ⊎_elim (λ same. inl same) (λ no. absurd no) among) d.steady))
 
@@ -81,13 +81,13 @@ caught_does {calls} {a} {y} {lo} {causes} {l} {f} {n} exit l_is d =
       ap or_done (ap (effect_at m f lo causes) (sym pre.0) ∙ is) ∙ ends ∙ ap (λ own. Done (record { own = own; store = x.store; shared = x.shared })) (sym own),
     )
 
-    works : (m : Setting) → calls m → Triple m (with_label a) y (cost_at m n lo causes) (with_claim l (left m) (g m)) (e m) starts (left m)
+    works : (m : Setting) → given.calls m → Triple m (with_label a) y (cost_at m n lo causes) (with_claim l (left m) (g m)) (e m) starts (left m)
     works m called = t_does m called (cost_at m n lo causes) (with_claim l (left m) (g m)) (e m) starts (left m) d (λ h0 h pre. same_cost (cost_at m n lo causes) pre.0) (λ h0 h pre. subst (λ (h : Here). Shut a.cursors h.scene.cursors) (sym pre.0) pre.1) (λ h0 h regs x pre is long own keeps.
         comes m h0 h (Done x) regs h.scene x pre is refl refl (λ k lt. refl) refl own keeps) (λ k h0 h regs scene x e pre is long wide below slots own keeps.
         inl (let at : Some l ≡ Some k = e in cc, comes m h0 h (Quit x) regs scene x pre is refl wide below slots own keeps)) (λ h0 h c x pre is.
         (c, x, ap or_done (ap (effect_at m f lo causes) (sym pre.0) ∙ is), refl, refl))
 
-    body : (m : Setting) → calls m → Triple m a (bound y l) (λ h0. 0 + cost_at m n lo causes h0) (g m) (e m) starts (left m)
+    body : (m : Setting) → given.calls m → Triple m a (bound y l) (λ h0. 0 + cost_at m n lo causes h0) (g m) (e m) starts (left m)
     body m called =
         t_bind l (left m) open_l (λ h0 h q. q) (t_seq (t_draft m (with_claim l (left m) (g m)) (e m) starts (g_label a) refl) (works m called))
 

@@ -6,9 +6,10 @@ pub mod Runs
 pub mod Kept
 pub mod Given
 -- How a draft grows with each call of the Builder, what is open along it (`Steady`: `st_then` puts one stretch behind another, `st_op`, `st_fork`,
--- `st_use`, `st_goto`, `st_leave` are the single instructions, `st_loop` is a loop), and what registers and rows under cursors read:
+-- `st_reads`, `st_use`, `st_goto`, `st_leave` are the single instructions, `st_opened` is a cursor that is opened and closed, `st_loop` a loop, and `st_wider` where
+-- more is so of cursors), what instructions need of cursors (`met_both`, `met_rows`), and what registers and rows under cursors read:
 pub mod Drafts
-pub mod Stretches
+pub mod Meeting
 pub mod Tracks
 pub mod Registers
 -- What a run looks at of the tables:
@@ -46,6 +47,9 @@ pub mod Sorters
 pub mod Caught
 -- Calls of units that change what is shared (`t_work`):
 pub mod Calls
--- From the code of a main unit to what its program performs (`performs_of`), and to a unit in which what is open agrees (`balanced_of`):
+-- Numbers of sets of open cursors, and room for registers, for the code of this crate alone:
+mod SetNumbers
+mod Rooms
+-- From the code of a main unit to what its program performs (`performs_of`), and to a program that keeps the rules (`accepted_of`):
 pub mod Whole
-pub mod Balancing
+pub mod Accepting

@@ -1,20 +1,26 @@
 -- What is open along the calls of the Builder.
-use Rattle.std.proofs.Common.{◌≡◌, ◌≢◌, ℕ, zero, suc, ◌+◌, ◌-◌, ◌≤◌, ◌<◌, max, List, [], ◌∷◌, ◌++◌, true, false, not, nat_eq, length, All, Contains, Some, None, refl, sym, ap, ◌∙◌, subst, arith, ◌⊎◌, inl, inr, ⊎_elim, length-append, cond}
+use Rattle.std.proofs.Common.{◌≡◌, ◌≢◌, ℕ, zero, suc, ◌+◌, ◌-◌, ◌≤◌, ◌<◌, max, List, [], ◌∷◌, ◌++◌, false, not, true, nat_eq, length, All, Contains, Some, None, refl, sym, ap, ◌∙◌, subst, arith, ◌⊎◌, inl, inr, ⊎_elim, length-append, cond}
 use Rattle.std.specs.Prelude.{slice_get, slice_set, slice_index_or}
 use Rattle.std.proofs.lemmas.Bool.{cases_lt, lt-ltb}
 use Rattle.std.proofs.lemmas.Option.{slice_get_within, get_or_from_slice_get}
 use Rattle.std.proofs.lemmas.List.{get_or_append_left}
-use Rattle.std.proofs.lemmas.List.Elements.{All-cons, All-contains, All-nil, Contains-push, Contains-push_cases}
+use Rattle.std.proofs.lemmas.List.Elements.{All-weaker, Contains-append_left, Contains-push, Contains-push_cases}
 use Rattle.std.proofs.Math.Seq.{get_or-append_seam}
 use Rattle.std.proofs.Math.ListN.{length-set}
 use Rattle.vm_code.specs.declared.op.Op.{Op}
 use Rattle.vm_code.specs.declared.op.Op.TheVariants.{CloseFrom, Goto}
 use Rattle.vm_code.specs.declared.way.Way.{Way}
 use Rattle.vm_code.specs.declared.way.Way.TheVariants as way
-use Rattle.vm_code.specs.Track.{OpenSet, Track, way_of, used_by, behind, target_of, passed, arrived, open_at, opened, closed, closed_from}
+use Rattle.vm_code.specs.declared.open_cursor.CursorKind.{CursorKind}
+use Rattle.vm_code.specs.declared.open_cursor.CursorKind.TheVariants.{Row, Sorter, Table}
+use Rattle.vm_code.specs.declared.open_cursor.Need.{Need}
+use Rattle.vm_code.specs.declared.open_cursor.Need.TheVariants as need
+use Rattle.vm_code.specs.declared.open_cursor.OpenCursor.{OpenCursor}
+use Rattle.vm_code.specs.Track.{Meets, OpenSet, Track, on, way_of, needs_of, spans_of, room_for, behind, target_of, passed, arrived, open_at, opened, closed, closed_from}
 use Rattle.vm_code.specs.Draft.{Draft, with_op, with_label, bound, taken, with_cursor, given_back, released}
-use Rattle.vm_code.specs.Tracked.{AreBelow, IsMarked, IsReached, IsTracked, Among, GoesOn, HasPlace, Steady}
+use Rattle.vm_code.specs.Tracked.{AreBelow, IsMarked, IsReached, IsTracked, Among, GoesOn, HasPlace, StaysInside, Steady}
 use Rattle.vm_code.specs.Frames.{Grows}
+use Rattle.vm_code.proofs.Meeting.{met_among, met_more, met_none, met_one}
 use Rattle.vm_code.proofs.Drafts.{get-append, get-last, get-set, get-set_other, g_label, g_op, open_new, open_old, open_other}
 
 -- ---- lists
@@ -80,14 +86,17 @@ reached-more d o p k xs t r =
     opens : (slice_get d.track.opens k ≡ Some (Some xs)) ⊎ ((k ≡ length d.track.opens) × (d.track.now ≡ Some xs))
     opens = get-more d.track.opens d.track.now (Some xs) k r.1
 
--- it is reached, uses what is open, and jumps to where the same is open
-pub tracked_op : (d : Draft) (o : Op) (xs : OpenSet) → IsTracked d → d.track.now ≡ Some xs → All (Contains xs) (used_by o) → ((l : ℕ) → target_of (way_of o) ≡ Some l → IsMarked d l xs) → ((ys : OpenSet) → behind (way_of o) (Some xs) ≡ Some ys → AreBelow d.cursors ys) → IsTracked (with_op d o)
-tracked_op d o xs t is uses jumps below = record {
+-- it is reached, stays in the unit, has what it needs of cursors, and jumps to where the same is open
+pub tracked_op : (d : Draft) (o : Op) (xs : OpenSet) → IsTracked d → d.track.now ≡ Some xs → StaysInside (way_of o) → All (Meets xs) (needs_of o) → ((l : ℕ) → target_of (way_of o) ≡ Some l → IsMarked d l xs) → ((ys : OpenSet) → behind (way_of o) (Some xs) ≡ Some ys → AreBelow d.cursors ys) → IsTracked (with_op d o)
+tracked_op d o xs t is stays uses jumps below = record {
   long = length-append d.track.opens (d.track.now ∷ []) ∙ ap (λ n. n + 1) t.long ∙ sym (length-append d.code (o ∷ []));
   wide = t.wide;
   first = open-passed (way_of o) d.track 0 (omega arith) ∙ t.first;
   now = λ ys e. below ys (ap (behind (way_of o)) (sym is) ∙ e);
   marks = t.marks;
+  opens = λ k zs e. ⊎_elim (λ old. t.opens k zs old) (λ new. t.now zs new.1) (get-more d.track.opens d.track.now (Some zs) k e);
+  inside_unit = λ k p e. ⊎_elim (λ old. t.inside_unit k p old) (λ new. subst (λ q. StaysInside (way_of q)) new.1 stays) (get-more d.code o p k e);
+  room = λ k p e. ⊎_elim (λ old. let le = t.room k p old in omega (arith, le)) (λ new. subst (λ q. room_for (spans_of q) ≤ max d.reach (room_for (spans_of o))) new.1 (omega arith)) (get-more d.code o p k e);
   uses = λ k p zs r. ⊎_elim (λ old. t.uses k p zs old) (λ new. new_uses p zs new.1 new.2) (reached-more d o p k zs t r);
   falls = λ k p zs ys r e. ⊎_elim (λ old. old_falls k p zs ys old e) (λ new. new_falls k p zs ys new.0 new.1 new.2 e) (reached-more d o p k zs t r);
   jumps = λ k p zs l r e. ⊎_elim (λ old. t.jumps k p zs l old e) (λ new. new_jumps p zs l new.1 new.2 e) (reached-more d o p k zs t r);
@@ -98,8 +107,8 @@ tracked_op d o xs t is uses jumps below = record {
     same : (zs : OpenSet) → d.track.now ≡ Some zs → xs ≡ zs
     same zs e = let both : Some xs ≡ Some zs = sym is ∙ e in cc
 
-    new_uses : (p : Op) (zs : OpenSet) → o ≡ p → d.track.now ≡ Some zs → All (Contains zs) (used_by p)
-    new_uses p zs e now = subst (λ q. All (Contains zs) (used_by q)) e (subst (λ ys. All (Contains ys) (used_by o)) (same zs now) uses)
+    new_uses : (p : Op) (zs : OpenSet) → o ≡ p → d.track.now ≡ Some zs → All (Meets zs) (needs_of p)
+    new_uses p zs e now = subst (λ q. All (Meets zs) (needs_of q)) e (subst (λ ys. All (Meets ys) (needs_of o)) (same zs now) uses)
 
     new_jumps : (p : Op) (zs : OpenSet) (l : ℕ) → o ≡ p → d.track.now ≡ Some zs → target_of (way_of p) ≡ Some l → IsMarked d l zs
     new_jumps p zs l e now to = subst (IsMarked d l) (same zs now) (jumps l (ap (λ q. target_of (way_of q)) e ∙ to))
@@ -123,6 +132,9 @@ tracked_label d t = record {
   first = t.first;
   now = t.now;
   marks = λ l xs m. ⊎_elim (λ old. t.marks l xs old) (λ new. t.now xs new.1) (get-more d.track.marks d.track.now (Some xs) l m);
+  opens = t.opens;
+  inside_unit = t.inside_unit;
+  room = t.room;
   uses = t.uses;
   falls = t.falls;
   jumps = λ k o xs l r e. get-append d.track.marks (d.track.now ∷ []) l (Some xs) (t.jumps k o xs l r e);
@@ -149,6 +161,9 @@ tracked_bound d l xs t mark fits = record {
   first = open-arrived d.track l 0 xs [] (mark-read d l xs mark) fits (omega arith) t.first;
   now = λ ys e. t.marks l ys (subst (λ zs. IsMarked d l zs) (let both : Some xs ≡ Some ys = sym (mark-read d l xs mark) ∙ e in cc) mark);
   marks = t.marks;
+  opens = t.opens;
+  inside_unit = t.inside_unit;
+  room = t.room;
   uses = t.uses;
   falls = λ k o zs ys r e.
       let lt = slice_get_within d.code k o r.0 in
@@ -177,6 +192,9 @@ tracked_registers d next most cursors le t = record {
   first = t.first;
   now = λ xs e c in_xs. let lt = t.now xs e c in_xs in omega arith;
   marks = λ l xs m c in_xs. let lt = t.marks l xs m c in_xs in omega arith;
+  opens = λ k xs e c in_xs. let lt = t.opens k xs e c in_xs in omega arith;
+  inside_unit = t.inside_unit;
+  room = t.room;
   uses = t.uses;
   falls = t.falls;
   jumps = t.jumps;
@@ -186,11 +204,15 @@ tracked_registers d next most cursors le t = record {
 
 -- ---- code that leaves open what it finds open
 
-pub uses_none : (o : Op) (xs : OpenSet) → used_by o ≡ [] → All (Contains xs) (used_by o)
-uses_none o xs none = subst (All (Contains xs)) (sym none) (λ k x lt. absurd (omega (arith, lt)))
+pub needs_none : (o : Op) (xs : OpenSet) → needs_of o ≡ [] → All (Meets xs) (needs_of o)
+needs_none o xs none = subst (All (Meets xs)) (sym none) (met_none xs)
 
-pub uses_one : (o : Op) (c : ℕ) (xs : OpenSet) → used_by o ≡ c ∷ [] → Contains xs c → All (Contains xs) (used_by o)
-uses_one o c xs used inside = subst (All (Contains xs)) (sym used) (All-cons (Contains xs) c [] inside (All-nil (Contains xs)))
+pub needs_one : (o : Op) (need : Need) (xs : OpenSet) → needs_of o ≡ need ∷ [] → Meets xs need → All (Meets xs) (needs_of o)
+needs_one o need xs needs_is met = subst (All (Meets xs)) (sym needs_is) (met_one xs need met)
+
+-- by where it leads it stays in its unit
+pub stays_by : (o : Op) (w : Way) → way_of o ≡ w → StaysInside w → StaysInside (way_of o)
+stays_by o w e stays = subst StaysInside (sym e) stays
 
 eq-same : (n : ℕ) → nat_eq n n ≡ true
 eq-same n = grind (arith)
@@ -208,98 +230,125 @@ place-bound d l is_open = (length d.code, get-set d.labels l (Some (length d.cod
 none_made : (d : Draft) (l k : ℕ) → length d.labels ≤ k → k < length (bound d l).labels → HasPlace (bound d l) k
 none_made d l k le lt = absurd (omega (arith, le, lt, length-set d.labels l (Some (length d.code))))
 
-made_in : {uses labels : List ℕ} {a b c : Draft} → Steady uses labels a b → Steady uses labels b c → (l : ℕ) → length a.labels ≤ l → l < length c.labels → HasPlace c l
-made_in {uses} {labels} {a} {b} {c} x y l le lt =
+made_in : {needs : List Need} {labels : List ℕ} {a b c : Draft} → Steady needs labels a b → Steady needs labels b c → (l : ℕ) → length a.labels ≤ l → l < length c.labels → HasPlace c l
+made_in {needs} {labels} {a} {b} {c} x y l le lt =
     ⊎_elim (λ inside. y.keeps l (x.made l le inside)) (λ behind_b. y.made l behind_b lt) (cases_lt l (length b.labels))
 
-pub st_none : (uses labels : List ℕ) (a : Draft) → Steady uses labels a a
-st_none uses labels a = record { keeps = λ l h. h; made = λ l le lt. absurd (omega arith); stays = λ xs is used t marks. (is, t) }
+pub st_none : (needs : List Need) (labels : List ℕ) (a : Draft) → Steady needs labels a a
+st_none needs labels a = record { keeps = λ l h. h; made = λ l le lt. absurd (omega arith); stays = λ xs is met t marks. (is, t) }
 
-pub st_then : {uses labels : List ℕ} {a b c : Draft} → Grows a b → Steady uses labels a b → Steady uses labels b c → Steady uses labels a c
-st_then {uses} {labels} {a} {b} {c} g x y = record {
+pub st_then : {needs : List Need} {labels : List ℕ} {a b c : Draft} → Grows a b → Steady needs labels a b → Steady needs labels b c → Steady needs labels a c
+st_then {needs} {labels} {a} {b} {c} g x y = record {
   keeps = λ l h. y.keeps l (x.keeps l h);
   made = λ l le lt. made_in x y l le lt;
-  stays = λ xs is used t marks.
-      let at = x.stays xs is used t marks in y.stays xs at.0 used at.1 (λ l among. g.marks l xs (marks l among));
+  stays = λ xs is met t marks.
+      let at = x.stays xs is met t marks in y.stays xs at.0 met at.1 (λ l among. g.marks l xs (marks l among));
 }
 
 -- the same where a label of the first gets its place in the second
-pub st_on : {uses labels : List ℕ} {a b c : Draft} → ((l : ℕ) (xs : OpenSet) → IsMarked a l xs → IsMarked b l xs) → Steady uses labels a b → Steady uses labels b c → Steady uses labels a c
-st_on {uses} {labels} {a} {b} {c} same x y = record {
+pub st_on : {needs : List Need} {labels : List ℕ} {a b c : Draft} → ((l : ℕ) (xs : OpenSet) → IsMarked a l xs → IsMarked b l xs) → Steady needs labels a b → Steady needs labels b c → Steady needs labels a c
+st_on {needs} {labels} {a} {b} {c} same x y = record {
   keeps = λ l h. y.keeps l (x.keeps l h);
   made = λ l le lt. made_in x y l le lt;
-  stays = λ xs is used t marks.
-      let at = x.stays xs is used t marks in y.stays xs at.0 used at.1 (λ l among. same l xs (marks l among));
+  stays = λ xs is met t marks.
+      let at = x.stays xs is met t marks in y.stays xs at.0 met at.1 (λ l among. same l xs (marks l among));
 }
 
 -- out of which it may jump to more labels
-pub st_more : {uses labels : List ℕ} {a b : Draft} (more : List ℕ) → ((l : ℕ) → Among labels l → Among more l) → Steady uses labels a b → Steady uses more a b
-st_more {uses} {labels} {a} {b} more wider x = record { keeps = x.keeps; made = x.made; stays = λ xs is used t marks. x.stays xs is used t (λ l among. marks l (wider l among)) }
+pub st_more : {needs : List Need} {labels : List ℕ} {a b : Draft} (more : List ℕ) → ((l : ℕ) → Among labels l → Among more l) → Steady needs labels a b → Steady needs more a b
+st_more {needs} {labels} {a} {b} more wider x = record { keeps = x.keeps; made = x.made; stays = λ xs is met t marks. x.stays xs is met t (λ l among. marks l (wider l among)) }
 
--- what uses no cursor from outside and does not jump out
-pub st_inner : {a b : Draft} (uses labels : List ℕ) → Steady [] [] a b → Steady uses labels a b
-st_inner uses labels x = record { keeps = x.keeps; made = x.made; stays = λ xs is used t marks. x.stays xs is (λ k c lt. absurd (omega (arith, lt))) t (λ l none. absurd none) }
+-- where more is so of cursors
+pub st_wider : {more needs : List Need} {labels : List ℕ} {a b : Draft} → ((xs : OpenSet) → All (Meets xs) more → All (Meets xs) needs) → Steady needs labels a b → Steady more labels a b
+st_wider {more} {needs} {labels} {a} {b} wider x = record { keeps = x.keeps; made = x.made; stays = λ xs is met t marks. x.stays xs is (wider xs met) t marks }
 
--- an instruction that goes on and uses no cursor
-pub st_op : (uses labels : List ℕ) (d : Draft) (o : Op) → GoesOn o → Steady uses labels d (with_op d o)
-st_op uses labels d o (on, none) = record {
+-- what does not jump out, where more is so of cursors
+pub st_within : {more needs : List Need} {a b : Draft} (labels : List ℕ) → ((xs : OpenSet) → All (Meets xs) more → All (Meets xs) needs) → Steady needs [] a b → Steady more labels a b
+st_within {more} {needs} {a} {b} labels wider x = record { keeps = x.keeps; made = x.made; stays = λ xs is met t marks. x.stays xs is (wider xs met) t (λ l none. absurd none) }
+
+-- what needs no cursor from outside and does not jump out
+pub st_inner : {a b : Draft} (needs : List Need) (labels : List ℕ) → Steady [] [] a b → Steady needs labels a b
+st_inner needs labels x = st_within labels (λ xs met. met_none xs) x
+
+-- an instruction that goes on, and needs no more than is so
+pub st_reads : (needs : List Need) (labels : List ℕ) (d : Draft) (o : Op) → way_of o ≡ way.Continues → ((xs : OpenSet) → All (Meets xs) needs → All (Meets xs) (needs_of o)) → Steady needs labels d (with_op d o)
+st_reads needs labels d o on has = record {
   keeps = λ l h. h;
   made = λ l le lt. absurd (omega arith);
-  stays = λ xs is used t marks. (
+  stays = λ xs is met t marks. (
     ap (λ w. behind w d.track.now) on ∙ is,
-    tracked_op d o xs t is (uses_none o xs none) (λ l e. let wrong : None ≡ Some l = sym (ap target_of on) ∙ e in cc) (λ ys e. t.now ys (is ∙ ap (λ w. behind w (Some xs)) (sym on) ∙ e)),
+    tracked_op d o xs t is (stays_by o way.Continues on tt) (has xs met) (λ l e. let wrong : None ≡ Some l = sym (ap target_of on) ∙ e in cc) (λ ys e. t.now ys (is ∙ ap (λ w. behind w (Some xs)) (sym on) ∙ e)),
   );
 }
+
+-- the same of one that jumps, or goes on
+pub st_fork_reads : (needs : List Need) (labels : List ℕ) (d : Draft) (o : Op) (l : ℕ) → way_of o ≡ way.Forks l → ((xs : OpenSet) → All (Meets xs) needs → All (Meets xs) (needs_of o)) → Among labels l → Steady needs labels d (with_op d o)
+st_fork_reads needs labels d o l on has among = record {
+  keeps = λ l h. h;
+  made = λ l le lt. absurd (omega arith);
+  stays = λ xs is met t marks. (
+    ap (λ w. behind w d.track.now) on ∙ is,
+    tracked_op d o xs t is (stays_by o (way.Forks l) on tt) (has xs met) (λ k e. let same : Some l ≡ Some k = sym (ap target_of on) ∙ e in subst (λ j. IsMarked d j xs) (cc) (marks l among)) (λ ys e. t.now ys (is ∙ ap (λ w. behind w (Some xs)) (sym on) ∙ e)),
+  );
+}
+
+-- an instruction that goes on and needs no cursor
+pub st_op : (needs : List Need) (labels : List ℕ) (d : Draft) (o : Op) → GoesOn o → Steady needs labels d (with_op d o)
+st_op needs labels d o (on, none) = st_reads needs labels d o on (λ xs met. needs_none o xs none)
 
 -- one that jumps, or goes on
-pub st_fork : (uses labels : List ℕ) (d : Draft) (o : Op) (l : ℕ) → way_of o ≡ way.Forks l → used_by o ≡ [] → Among labels l → Steady uses labels d (with_op d o)
-st_fork uses labels d o l on none among = record {
+pub st_fork : (needs : List Need) (labels : List ℕ) (d : Draft) (o : Op) (l : ℕ) → way_of o ≡ way.Forks l → needs_of o ≡ [] → Among labels l → Steady needs labels d (with_op d o)
+st_fork needs labels d o l on none among =
+    st_fork_reads needs labels d o l on (λ xs met. needs_none o xs none) among
+
+-- one that goes on and needs one thing, which is among those that are so
+pub st_use : (needs : List Need) (labels : List ℕ) (d : Draft) (o : Op) (own : Need) → way_of o ≡ way.Continues → needs_of o ≡ own ∷ [] → Contains needs own → Steady needs labels d (with_op d o)
+st_use needs labels d o own on needs_is inside =
+    st_reads needs labels d o on (λ xs met. needs_one o own xs needs_is (met_among xs needs own inside met))
+
+-- the same of one that jumps, or goes on
+pub st_fork_use : (needs : List Need) (labels : List ℕ) (d : Draft) (o : Op) (l : ℕ) (own : Need) → way_of o ≡ way.Forks l → needs_of o ≡ own ∷ [] → Contains needs own → Among labels l → Steady needs labels d (with_op d o)
+st_fork_use needs labels d o l own on needs_is inside among =
+    st_fork_reads needs labels d o l on (λ xs met. needs_one o own xs needs_is (met_among xs needs own inside met)) among
+
+pub st_registers : (needs : List Need) (labels : List ℕ) (d : Draft) (next most cursors : ℕ) → d.cursors ≤ cursors → Steady needs labels d (record d { next = next; most = most; cursors = cursors })
+st_registers needs labels d next most cursors le = record {
   keeps = λ l h. h;
   made = λ l le lt. absurd (omega arith);
-  stays = λ xs is used t marks. (
-    ap (λ w. behind w d.track.now) on ∙ is,
-    tracked_op d o xs t is (uses_none o xs none) (λ k e. let same : Some l ≡ Some k = sym (ap target_of on) ∙ e in subst (λ j. IsMarked d j xs) (cc) (marks l among)) (λ ys e. t.now ys (is ∙ ap (λ w. behind w (Some xs)) (sym on) ∙ e)),
-  );
+  stays = λ xs is met t marks. (is, tracked_registers d next most cursors le t);
 }
 
-pub st_registers : (uses labels : List ℕ) (d : Draft) (next most cursors : ℕ) → d.cursors ≤ cursors → Steady uses labels d (record d { next = next; most = most; cursors = cursors })
-st_registers uses labels d next most cursors le = record {
-  keeps = λ l h. h;
-  made = λ l le lt. absurd (omega arith);
-  stays = λ xs is used t marks. (is, tracked_registers d next most cursors le t);
-}
+pub st_taken : (needs : List Need) (labels : List ℕ) (d : Draft) → Steady needs labels d (taken d)
+st_taken needs labels d = st_registers needs labels d (d.next + 1) (max d.most (d.next + 1)) d.cursors (omega arith)
 
-pub st_taken : (uses labels : List ℕ) (d : Draft) → Steady uses labels d (taken d)
-st_taken uses labels d = st_registers uses labels d (d.next + 1) (max d.most (d.next + 1)) d.cursors (omega arith)
+pub st_given_back : (needs : List Need) (labels : List ℕ) (d : Draft) → Steady needs labels d (given_back d)
+st_given_back needs labels d = st_registers needs labels d (d.next - 1) d.most d.cursors (omega arith)
 
-pub st_given_back : (uses labels : List ℕ) (d : Draft) → Steady uses labels d (given_back d)
-st_given_back uses labels d = st_registers uses labels d (d.next - 1) d.most d.cursors (omega arith)
+pub st_released : (needs : List Need) (labels : List ℕ) (d : Draft) (n : ℕ) → Steady needs labels d (released d n)
+st_released needs labels d n = st_registers needs labels d n d.most d.cursors (omega arith)
 
-pub st_released : (uses labels : List ℕ) (d : Draft) (n : ℕ) → Steady uses labels d (released d n)
-st_released uses labels d n = st_registers uses labels d n d.most d.cursors (omega arith)
-
-pub st_cursor : (uses labels : List ℕ) (d : Draft) → Steady uses labels d (with_cursor d)
-st_cursor uses labels d = st_registers uses labels d d.next d.most (d.cursors + 1) (omega arith)
+pub st_cursor : (needs : List Need) (labels : List ℕ) (d : Draft) → Steady needs labels d (with_cursor d)
+st_cursor needs labels d = st_registers needs labels d d.next d.most (d.cursors + 1) (omega arith)
 
 -- a jump, and the place of another label behind it
-pub st_goto : (uses labels : List ℕ) (d : Draft) (to next : ℕ) → Among labels to → Among labels next → Steady uses labels d (bound (with_op d (Goto to)) next)
-st_goto uses labels d to next among_to among_next = record {
+pub st_goto : (needs : List Need) (labels : List ℕ) (d : Draft) (to next : ℕ) → Among labels to → Among labels next → Steady needs labels d (bound (with_op d (Goto to)) next)
+st_goto needs labels d to next among_to among_next = record {
   keeps = λ l h. has-bound (with_op d (Goto to)) next l h;
   made = λ l le lt. none_made (with_op d (Goto to)) next l le lt;
-  stays = λ xs is used t marks. (
+  stays = λ xs is met t marks. (
     mark-read d next xs (marks next among_next),
-    tracked_bound (with_op d (Goto to)) next xs (tracked_op d (Goto to) xs t is (uses_none (Goto to) xs refl) (λ l e. subst (λ j. IsMarked d j xs) (cc) (marks to among_to)) (λ ys e. cc)) (marks next among_next) (inr refl),
+    tracked_bound (with_op d (Goto to)) next xs (tracked_op d (Goto to) xs t is tt (needs_none (Goto to) xs refl) (λ l e. subst (λ j. IsMarked d j xs) (cc) (marks to among_to)) (λ ys e. cc)) (marks next among_next) (inr refl),
   );
 }
 
 -- an instruction that leaves the unit, and the place of a label behind it
-pub st_leave : (uses labels : List ℕ) (d : Draft) (o : Op) (next : ℕ) → way_of o ≡ way.Leaves → used_by o ≡ [] → Among labels next → Steady uses labels d (bound (with_op d o) next)
-st_leave uses labels d o next on none among = record {
+pub st_leave : (needs : List Need) (labels : List ℕ) (d : Draft) (o : Op) (next : ℕ) → way_of o ≡ way.Leaves → needs_of o ≡ [] → Among labels next → Steady needs labels d (bound (with_op d o) next)
+st_leave needs labels d o next on none among = record {
   keeps = λ l h. has-bound (with_op d o) next l h;
   made = λ l le lt. none_made (with_op d o) next l le lt;
-  stays = λ xs is used t marks. (
+  stays = λ xs is met t marks. (
     mark-read d next xs (marks next among),
-    tracked_bound (with_op d o) next xs (tracked_op d o xs t is (uses_none o xs none) (λ l e. let wrong : None ≡ Some l = sym (ap target_of on) ∙ e in cc) (λ ys e. let wrong : None ≡ Some ys = sym (ap (λ w. behind w (Some xs)) on) ∙ e in cc)) (marks next among) (inr (ap (λ w. behind w d.track.now) on)),
+    tracked_bound (with_op d o) next xs (tracked_op d o xs t is (stays_by o way.Leaves on tt) (needs_none o xs none) (λ l e. let wrong : None ≡ Some l = sym (ap target_of on) ∙ e in cc) (λ ys e. let wrong : None ≡ Some ys = sym (ap (λ w. behind w (Some xs)) on) ∙ e in cc)) (marks next among) (inr (ap (λ w. behind w d.track.now) on)),
   );
 }
 
@@ -308,128 +357,147 @@ pub mark-new : (a : Draft) (l : ℕ) (xs : OpenSet) → IsTracked a → a.track.
 mark-new a l xs t is l_is =
     ap (slice_get (a.track.marks ++ a.track.now ∷ [])) (l_is ∙ sym t.wide) ∙ get-last a.track.marks a.track.now ∙ ap Some is
 
-pub st_made : {uses labels : List ℕ} {a b : Draft} (l : ℕ) → l ≡ length a.labels → HasPlace b l → Steady uses (l ∷ labels) (with_label a) b → Steady uses labels a b
-st_made {uses} {labels} {a} {b} l l_is has x = record {
+pub st_made : {needs : List Need} {labels : List ℕ} {a b : Draft} (l : ℕ) → l ≡ length a.labels → HasPlace b l → Steady needs (l ∷ labels) (with_label a) b → Steady needs labels a b
+st_made {needs} {labels} {a} {b} l l_is has x = record {
   keeps = λ k h. x.keeps k (h.0, get-append a.labels (None ∷ []) k (Some h.0) h.1);
   made = λ k le lt. ⊎_elim (λ more. x.made k (omega (arith, more, l_is, length-append a.labels (None ∷ []))) lt) (λ same. subst (HasPlace b) (omega (arith, same, le, l_is)) has) (cases_lt l k);
-  stays = λ xs is used t marks. x.stays xs is used (tracked_label a t) (λ k among. ⊎_elim (λ same. subst (λ j. IsMarked (with_label a) j xs) same (mark-new a l xs t is l_is)) (λ old. (g_label a).marks k xs (marks k old)) among);
+  stays = λ xs is met t marks. x.stays xs is met (tracked_label a t) (λ k among. ⊎_elim (λ same. subst (λ j. IsMarked (with_label a) j xs) same (mark-new a l xs t is l_is)) (λ old. (g_label a).marks k xs (marks k old)) among);
 }
 
 -- a label gets its place where code goes on
-pub st_bind : (uses labels : List ℕ) (d : Draft) (l : ℕ) → Among labels l → Steady uses labels d (bound d l)
-st_bind uses labels d l among = record {
+pub st_bind : (needs : List Need) (labels : List ℕ) (d : Draft) (l : ℕ) → Among labels l → Steady needs labels d (bound d l)
+st_bind needs labels d l among = record {
   keeps = λ k h. has-bound d l k h;
   made = λ k le lt. none_made d l k le lt;
-  stays = λ xs is used t marks. (mark-read d l xs (marks l among), tracked_bound d l xs t (marks l among) (inl is));
+  stays = λ xs is met t marks. (mark-read d l xs (marks l among), tracked_bound d l xs t (marks l among) (inl is));
 }
 
 -- a label of its own gets its place at the end
-pub st_label : {uses labels : List ℕ} {a b : Draft} (l : ℕ) → l ≡ length a.labels → Grows (with_label a) b → Steady uses (l ∷ labels) (with_label a) b → Steady uses labels a (bound b l)
-st_label {uses} {labels} {a} {b} l l_is g x = st_made l l_is (place-bound b l (g.open_labels l (subst (λ n. slice_get (with_label a).labels n ≡ Some None) (sym l_is) (open_new a)))) (st_then g x (st_bind uses (l ∷ labels) b l (inl refl)))
+pub st_label : {needs : List Need} {labels : List ℕ} {a b : Draft} (l : ℕ) → l ≡ length a.labels → Grows (with_label a) b → Steady needs (l ∷ labels) (with_label a) b → Steady needs labels a (bound b l)
+st_label {needs} {labels} {a} {b} l l_is g x = st_made l l_is (place-bound b l (g.open_labels l (subst (λ n. slice_get (with_label a).labels n ≡ Some None) (sym l_is) (open_new a)))) (st_then g x (st_bind needs (l ∷ labels) b l (inl refl)))
 
 -- ---- cursors of its own
 
-contains-head : (c : ℕ) (xs : OpenSet) → Contains (c ∷ xs) c
-contains-head c xs = (0, omega arith, refl)
+contains-head : (x : OpenCursor) (xs : OpenSet) → Contains (x ∷ xs) x
+contains-head x xs = (0, omega arith, refl)
 
-contains-tail : (x c : ℕ) (xs : OpenSet) → Contains xs c → Contains (x ∷ xs) c
-contains-tail x c xs h = (suc h.0, omega (arith, h.1), h.2)
+contains-tail : (x y : OpenCursor) (xs : OpenSet) → Contains xs y → Contains (x ∷ xs) y
+contains-tail x y xs h = (suc h.0, omega (arith, h.1), h.2)
 
-below-tail : {n x : ℕ} (xs : OpenSet) → AreBelow n (x ∷ xs) → AreBelow n xs
-below-tail {n} {x} xs below c h = below c (contains-tail x c xs h)
+below-tail : {n : ℕ} {x : OpenCursor} (xs : OpenSet) → AreBelow n (x ∷ xs) → AreBelow n xs
+below-tail {n} {x} xs below y h = below y (contains-tail x y xs h)
 
 -- what is below a number is kept
 pub closed_from-same : (n : ℕ) (xs : OpenSet) → AreBelow n xs → closed_from n xs ≡ xs
 closed_from-same n [] below = refl
 closed_from-same n (x ∷ xs) below =
-    ap (λ b. cond b (x ∷ closed_from n xs) (closed_from n xs)) (lt-ltb x n (below x (contains-head x xs)))
+    ap (λ b. cond b (x ∷ closed_from n xs) (closed_from n xs)) (lt-ltb x.cursor n (below x (contains-head x xs)))
     ∙ ap (λ l. x ∷ l) (closed_from-same n xs (below-tail xs below))
 
--- a cursor that is opened and closed is as if it had never been
-pub closed-opened : (c : ℕ) (xs : OpenSet) → AreBelow c xs → closed c (opened c xs) ≡ xs
-closed-opened c [] below = ap (λ b. cond (not b) (c ∷ []) []) (eq-same c)
-closed-opened c (x ∷ xs) below =
-    ap (λ b. cond (not b) (x ∷ closed c (opened c xs)) (closed c (opened c xs))) (eq-below x c (below x (contains-head x xs)))
-    ∙ ap (λ l. x ∷ l) (closed-opened c xs (below-tail xs below))
+-- what is not there is not left out
+closed-same : (c : ℕ) (xs : OpenSet) → AreBelow c xs → closed c xs ≡ xs
+closed-same c [] below = refl
+closed-same c (x ∷ xs) below =
+    ap (λ b. cond (not b) (x ∷ closed c xs) (closed c xs)) (eq-below x.cursor c (below x (contains-head x xs)))
+    ∙ ap (λ l. x ∷ l) (closed-same c xs (below-tail xs below))
+
+-- a cursor of its own comes behind the others
+pub opened-new : (x : OpenCursor) (xs : OpenSet) → AreBelow x.cursor xs → opened x xs ≡ xs ++ x ∷ []
+opened-new x xs below = ap (λ l. l ++ x ∷ []) (closed-same x.cursor xs below)
+
+closed-last : (x : OpenCursor) (xs : OpenSet) → AreBelow x.cursor xs → closed x.cursor (xs ++ x ∷ []) ≡ xs
+closed-last x [] below = ap (λ b. cond (not b) (x ∷ []) []) (eq-same x.cursor)
+closed-last x (y ∷ xs) below =
+    ap (λ b. cond (not b) (y ∷ closed x.cursor (xs ++ x ∷ [])) (closed x.cursor (xs ++ x ∷ []))) (eq-below y.cursor x.cursor (below y (contains-head y xs)))
+    ∙ ap (λ l. y ∷ l) (closed-last x xs (below-tail xs below))
+
+-- one that is opened and closed is as if it had never been
+pub closed-opened : (x : OpenCursor) (xs : OpenSet) → AreBelow x.cursor xs → closed x.cursor (opened x xs) ≡ xs
+closed-opened x xs below = ap (closed x.cursor) (opened-new x xs below) ∙ closed-last x xs below
 
 -- what is open from the cursors of the first draft on is closed, which is nothing
-pub st_close_from : {uses labels : List ℕ} {a b : Draft} → Steady uses labels a b → Steady uses labels a (with_op b (CloseFrom a.cursors))
-st_close_from {uses} {labels} {a} {b} x = record {
+pub st_close_from : {needs : List Need} {labels : List ℕ} {a b : Draft} → Steady needs labels a b → Steady needs labels a (with_op b (CloseFrom a.cursors))
+st_close_from {needs} {labels} {a} {b} x = record {
   keeps = x.keeps;
   made = x.made;
-  stays = λ xs is used t marks.
-      let at = x.stays xs is used t marks in
+  stays = λ xs is met t marks.
+      let at = x.stays xs is met t marks in
       let same = closed_from-same a.cursors xs (t.now xs is) in (
         ap (behind (way.ClosesFrom a.cursors)) at.0 ∙ ap Some same,
-        tracked_op b (CloseFrom a.cursors) xs at.1 at.0 (uses_none (CloseFrom a.cursors) xs refl) (λ l e. cc) (λ ys e. at.1.now ys (at.0 ∙ ap Some (sym same) ∙ e)),
+        tracked_op b (CloseFrom a.cursors) xs at.1 at.0 tt (needs_none (CloseFrom a.cursors) xs refl) (λ l e. cc) (λ ys e. at.1.now ys (at.0 ∙ ap Some (sym same) ∙ e)),
       );
-}
-
--- an instruction that goes on and uses a cursor that is open
-pub st_use : (uses labels : List ℕ) (d : Draft) (o : Op) (c : ℕ) → way_of o ≡ way.Continues → used_by o ≡ c ∷ [] → Contains uses c → Steady uses labels d (with_op d o)
-st_use uses labels d o c plain used_is inside = record {
-  keeps = λ l h. h;
-  made = λ l le lt. absurd (omega arith);
-  stays = λ xs is used t marks. (
-    ap (λ w. behind w d.track.now) plain ∙ is,
-    tracked_op d o xs t is (uses_one o c xs used_is (All-contains (Contains xs) uses c used inside)) (λ l e. let wrong : None ≡ Some l = sym (ap target_of plain) ∙ e in cc) (λ ys e. t.now ys (is ∙ ap (λ w. behind w (Some xs)) (sym plain) ∙ e)),
-  );
-}
-
--- the same of one that jumps, or goes on
-pub st_fork_use : (uses labels : List ℕ) (d : Draft) (o : Op) (l c : ℕ) → way_of o ≡ way.Forks l → used_by o ≡ c ∷ [] → Contains uses c → Among labels l → Steady uses labels d (with_op d o)
-st_fork_use uses labels d o l c forks used_is inside among = record {
-  keeps = λ k h. h;
-  made = λ k le lt. absurd (omega arith);
-  stays = λ xs is used t marks. (
-    ap (λ w. behind w d.track.now) forks ∙ is,
-    tracked_op d o xs t is (uses_one o c xs used_is (All-contains (Contains xs) uses c used inside)) (λ k e. let same : Some l ≡ Some k = sym (ap target_of forks) ∙ e in subst (λ j. IsMarked d j xs) (cc) (marks l among)) (λ ys e. t.now ys (is ∙ ap (λ w. behind w (Some xs)) (sym forks) ∙ e)),
-  );
 }
 
 -- ---- cursors that are opened and closed
 
-below-opened : (c : ℕ) (xs : OpenSet) → AreBelow c xs → AreBelow (c + 1) (opened c xs)
-below-opened c xs below k h =
-    ⊎_elim (λ old. let lt = below k old in omega arith) (λ same. omega (arith, same)) (Contains-push_cases xs c k h)
+below-opened : (x : OpenCursor) (xs : OpenSet) → AreBelow x.cursor xs → AreBelow (x.cursor + 1) (opened x xs)
+below-opened x xs below y h =
+    ⊎_elim (λ old. let lt = below y old in omega arith) (λ same. let is : x.cursor ≡ y.cursor = ap (λ (v : OpenCursor). v.cursor) same in omega (arith, is)) (Contains-push_cases xs x y (subst (λ (l : OpenSet). Contains l y) (opened-new x xs below) h))
 
--- a cursor of its own is opened, and closed behind code that uses it
-module _ (a y : Draft) (open_op close_op : Op) (opens : way_of open_op ≡ way.Opens a.cursors) (opens_uses : used_by open_op ≡ []) (closes : way_of close_op ≡ way.Closes a.cursors) (closes_uses : used_by close_op ≡ a.cursors ∷ []) (wide : a.cursors + 1 ≤ y.cursors) (body : Steady (a.cursors ∷ []) [] (with_op (with_cursor a) open_op) y) where
-  abbrev c : ℕ
-  c = a.cursors
+-- what was so of cursors is so with one more open
+met-more_open : (x : OpenCursor) (xs : OpenSet) (n : Need) → Meets xs n → Meets (xs ++ x ∷ []) n
+met-more_open x xs (need.Open c) met = (met.0, Contains-append_left xs (x ∷ []) (on met.0 c) met.1)
+met-more_open x xs (need.Table c) met = Contains-append_left xs (x ∷ []) (on Table c) met
+met-more_open x xs (need.Rows c) met =
+    ⊎_elim (λ table. inl (Contains-append_left xs (x ∷ []) (on Table c) table)) (λ row. inr (Contains-append_left xs (x ∷ []) (on Row c) row)) met
+met-more_open x xs (need.Sorter c) met = Contains-append_left xs (x ∷ []) (on Sorter c) met
+
+met-opened : (x : OpenCursor) (xs : OpenSet) → AreBelow x.cursor xs → (n : Need) → Meets xs n → Meets (opened x xs) n
+met-opened x xs below n met =
+    subst (λ (l : OpenSet). Meets l n) (sym (opened-new x xs below)) (met-more_open x xs n met)
+
+-- what an instruction needs of a cursor that is open on what is of a kind, where the cursor moves or rows are read
+abbrev pub own_need : CursorKind → ℕ → Need
+own_need Table c = need.Table c
+own_need Row c = need.Rows c
+own_need Sorter c = need.Sorter c
+
+own-met : (kind : CursorKind) (c : ℕ) (xs : OpenSet) → Meets (opened (on kind c) xs) (own_need kind c)
+own-met Table c xs = Contains-push (closed c xs) (on Table c)
+own-met Row c xs = inr (Contains-push (closed c xs) (on Row c))
+own-met Sorter c xs = Contains-push (closed c xs) (on Sorter c)
+
+-- a cursor of its own is opened, and closed behind code that may use it
+module _ (a y : Draft) (open_op close_op : Op) (kind : CursorKind) (needs : List Need) (opens : way_of open_op ≡ way.Opens (on kind a.cursors)) (opens_needs : needs_of open_op ≡ []) (closes : way_of close_op ≡ way.Closes a.cursors) (closes_needs : needs_of close_op ≡ need.Open a.cursors ∷ []) (wide : a.cursors + 1 ≤ y.cursors) (body : Steady (own_need kind a.cursors ∷ needs) [] (with_op (with_cursor a) open_op) y) where
+  abbrev c : OpenCursor
+  c = on kind a.cursors
 
   abbrev reading : Draft
   reading = with_op (with_cursor a) open_op
 
-  stays_in : (xs : OpenSet) → a.track.now ≡ Some xs → IsTracked a → ((with_op y close_op).track.now ≡ Some xs) × IsTracked (with_op y close_op)
-  stays_in xs is t = (
-    ap (λ w. behind w y.track.now) closes ∙ ap (behind (way.Closes c)) body_now.0 ∙ ap Some back,
-    tracked_op y close_op ys body_now.1 body_now.0 (uses_one close_op c ys closes_uses (Contains-push xs c)) (λ l e. let wrong : None ≡ Some l = sym (ap target_of closes) ∙ e in cc) (λ zs e k h. let lt = t.now xs is k (subst (λ (v : OpenSet). Contains v k) (sym (left zs e)) h) in omega (arith, lt, wide)),
+  stays_in : (xs : OpenSet) → a.track.now ≡ Some xs → All (Meets xs) needs → IsTracked a → ((with_op y close_op).track.now ≡ Some xs) × IsTracked (with_op y close_op)
+  stays_in xs is met t = (
+    ap (λ w. behind w y.track.now) closes ∙ ap (behind (way.Closes a.cursors)) body_now.0 ∙ ap Some back,
+    tracked_op y close_op ys body_now.1 body_now.0 (stays_by close_op (way.Closes a.cursors) closes tt) (needs_one close_op (need.Open a.cursors) ys closes_needs (kind, Contains-push (closed a.cursors xs) c)) (λ l e. let wrong : None ≡ Some l = sym (ap target_of closes) ∙ e in cc) (λ zs e k h. let lt = t.now xs is k (subst (λ (v : OpenSet). Contains v k) (sym (left zs e)) h) in omega (arith, lt, wide)),
   )
     where
       ys : OpenSet
       ys = opened c xs
 
-      back : closed c ys ≡ xs
+      back : closed a.cursors ys ≡ xs
       back = closed-opened c xs (t.now xs is)
 
       left : (zs : OpenSet) → behind (way_of close_op) (Some ys) ≡ Some zs → xs ≡ zs
-      left zs e = let same : Some (closed c ys) ≡ Some zs = sym (ap (λ w. behind w (Some ys)) closes) ∙ e in sym back ∙ cc
+      left zs e = let same : Some (closed a.cursors ys) ≡ Some zs = sym (ap (λ w. behind w (Some ys)) closes) ∙ e in sym back ∙ cc
 
       opened_now : behind (way_of open_op) (Some xs) ≡ Some ys
       opened_now = ap (λ w. behind w (Some xs)) opens
 
       read : IsTracked reading
-      read = tracked_op (with_cursor a) open_op xs (tracked_registers a a.next a.most (a.cursors + 1) (omega arith) t) is (uses_none open_op xs opens_uses) (λ l e. let wrong : None ≡ Some l = sym (ap target_of opens) ∙ e in cc) (λ zs e. let same : Some ys ≡ Some zs = sym opened_now ∙ e in subst (AreBelow (c + 1)) (cc) (below-opened c xs (t.now xs is)))
+      read = tracked_op (with_cursor a) open_op xs (tracked_registers a a.next a.most (a.cursors + 1) (omega arith) t) is (stays_by open_op (way.Opens c) opens tt) (needs_none open_op xs opens_needs) (λ l e. let wrong : None ≡ Some l = sym (ap target_of opens) ∙ e in cc) (λ zs e. let same : Some ys ≡ Some zs = sym opened_now ∙ e in subst (AreBelow (a.cursors + 1)) (cc) (below-opened c xs (t.now xs is)))
+
+      body_met : All (Meets ys) (own_need kind a.cursors ∷ needs)
+      body_met =
+          met_more ys (own_need kind a.cursors) needs (own-met kind a.cursors xs) (All-weaker (Meets xs) (Meets ys) (λ n m. met-opened c xs (t.now xs is) n m) needs met)
 
       body_now : (y.track.now ≡ Some ys) × IsTracked y
-      body_now = body.stays ys (ap (behind (way_of open_op)) is ∙ opened_now) (All-cons (Contains ys) c [] (Contains-push xs c) (All-nil (Contains ys))) read (λ l none. absurd none)
+      body_now = body.stays ys (ap (behind (way_of open_op)) is ∙ opened_now) body_met read (λ l none. absurd none)
 
-  pub st_opened : (uses labels : List ℕ) → Steady uses labels a (with_op y close_op)
-  st_opened uses labels = record { keeps = body.keeps; made = body.made; stays = λ xs is used t marks. stays_in xs is t }
+  pub st_opened : (labels : List ℕ) → Steady needs labels a (with_op y close_op)
+  st_opened labels = record { keeps = body.keeps; made = body.made; stays = λ xs is met t marks. stays_in xs is met t }
 
 -- a loop: the cursor is opened, comes to its first row if it has one, goes on from row to row, and is closed; with the code of a row between, which finds it open
-module _ (a y : Draft) (open_op first_op next_op close_op : Op) (end top : ℕ) (opens : way_of open_op ≡ way.Opens a.cursors) (opens_uses : used_by open_op ≡ []) (begins : way_of first_op ≡ way.Forks end) (begins_uses : used_by first_op ≡ a.cursors ∷ []) (goes : way_of next_op ≡ way.Forks top) (goes_uses : used_by next_op ≡ a.cursors ∷ []) (closes : way_of close_op ≡ way.Closes a.cursors) (closes_uses : used_by close_op ≡ a.cursors ∷ []) (end_is : end ≡ length a.labels) (top_is : top ≡ length (with_label a).labels) where
+module _ (a y : Draft) (open_op first_op next_op close_op : Op) (kind : CursorKind) (needs : List Need) (end top : ℕ) (opens : way_of open_op ≡ way.Opens (on kind a.cursors)) (opens_needs : needs_of open_op ≡ []) (begins : way_of first_op ≡ way.Forks end) (begins_needs : needs_of first_op ≡ own_need kind a.cursors ∷ []) (goes : way_of next_op ≡ way.Forks top) (goes_needs : needs_of next_op ≡ own_need kind a.cursors ∷ []) (closes : way_of close_op ≡ way.Closes a.cursors) (closes_needs : needs_of close_op ≡ need.Open a.cursors ∷ []) (end_is : end ≡ length a.labels) (top_is : top ≡ length (with_label a).labels) where
   abbrev labelled : Draft
   labelled = with_label (with_label (with_op (with_cursor a) open_op))
 
@@ -442,17 +510,17 @@ module _ (a y : Draft) (open_op first_op next_op close_op : Op) (end top : ℕ) 
   abbrev at_next : Draft
   at_next = with_op y next_op
 
-  abbrev uses_c : List ℕ
-  uses_c = a.cursors ∷ []
+  abbrev own : List Need
+  own = own_need kind a.cursors ∷ needs
 
   abbrev inside : List ℕ
   inside = top ∷ end ∷ []
 
-  pub st_loop : (uses labels : List ℕ) → Grows at_row y → Steady [] [] at_row y → Steady uses labels a (with_op (bound at_next end) close_op)
-  st_loop uses labels grows row =
-      st_opened a (bound at_next end) open_op close_op opens opens_uses closes closes_uses (omega (arith, grows.cursors)) body uses labels
+  pub st_loop : (labels : List ℕ) → Grows at_row y → Steady own [] at_row y → Steady needs labels a (with_op (bound at_next end) close_op)
+  st_loop labels grows row =
+      st_opened a (bound at_next end) open_op close_op kind needs opens opens_needs closes closes_needs (omega (arith, grows.cursors)) body labels
     where
-      used : Contains uses_c a.cursors
+      used : Contains own (own_need kind a.cursors)
       used = (0, omega arith, refl)
 
       end_apart : end ≢ top
@@ -468,10 +536,10 @@ module _ (a y : Draft) (open_op first_op next_op close_op : Op) (end top : ℕ) 
       top_place : HasPlace (bound at_next end) top
       top_place = has-bound at_next end top (row.keeps top (place-bound at_first top top_open))
 
-      turns : Steady uses_c inside labelled (bound at_next end)
+      turns : Steady own inside labelled (bound at_next end)
       turns =
-          st_then (g_op labelled first_op) (st_fork_use uses_c inside labelled first_op end a.cursors begins begins_uses used (inr (inl refl))) (st_on (λ l xs m. m) (st_bind uses_c inside at_first top (inl refl)) (st_then grows (st_inner uses_c inside row) (st_then (g_op y next_op) (st_fork_use uses_c inside y next_op top a.cursors goes goes_uses used (inl refl)) (st_bind uses_c inside at_next end (inr (inl refl))))))
+          st_then (g_op labelled first_op) (st_fork_use own inside labelled first_op end (own_need kind a.cursors) begins begins_needs used (inr (inl refl))) (st_on (λ l xs m. m) (st_bind own inside at_first top (inl refl)) (st_then grows (st_within inside (λ xs met. met) row) (st_then (g_op y next_op) (st_fork_use own inside y next_op top (own_need kind a.cursors) goes goes_needs used (inl refl)) (st_bind own inside at_next end (inr (inl refl))))))
 
-      body : Steady uses_c [] (with_op (with_cursor a) open_op) (bound at_next end)
+      body : Steady own [] (with_op (with_cursor a) open_op) (bound at_next end)
       body =
           st_made end end_is (place-bound at_next end (grows.open_labels end end_open)) (st_made top top_is top_place turns)

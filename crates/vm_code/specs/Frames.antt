@@ -1,5 +1,6 @@
 -- What a stretch of a unit's code does, in every program that it becomes part of.
-use Rattle.std.specs.Prelude.{◌≡◌, ◌≢◌, ⊤, ℕ, suc, ◌+◌, ◌≤◌, ◌<◌, List, [], ◌∷◌, ◌++◌, map, take, length, pos, Some, None, slice_get, slice_set, if◌then◌else◌}
+use Rattle.std.specs.List.{flat_map}
+use Rattle.std.specs.Prelude.{◌≡◌, ◌≢◌, ⊤, All, ℕ, suc, ◌+◌, ◌≤◌, ◌<◌, List, [], ◌∷◌, ◌++◌, map, max, take, length, pos, Some, None, slice_get, slice_set, if◌then◌else◌}
 use Rattle.std.specs.declared.option.Option.{Option}
 use Rattle.std.specs.Option.{option_map, option_to_list}
 use Rattle.eng_value.specs.Causes.{CauseSet, is_skip}
@@ -11,8 +12,11 @@ use Rattle.vm_code.specs.declared.op.Op.{Op}
 use Rattle.vm_code.specs.declared.op.Op.TheVariants.{Goto, If, IfNot, IsNull, NotNull, IsBad, Rewind, Next, Search, SorterSort, SorterNext, NotExists, NoConflict}
 use Rattle.vm_code.specs.declared.operand.Operand.{Operand}
 use Rattle.vm_code.specs.declared.program.Program.{Program}
+use Rattle.vm_code.specs.declared.open_cursor.Need.{Need}
 use Rattle.vm_code.specs.declared.program.Unit.{Unit}
-use Rattle.vm_code.specs.Track.{OpenSet}
+use Rattle.vm_code.specs.declared.program.UnitKind.{UnitKind}
+use Rattle.vm_code.specs.declared.program.UnitKind.TheVariants.{Called, Main}
+use Rattle.vm_code.specs.Track.{Meets, OpenSet, operand_needs}
 use Rattle.vm_code.specs.Draft.{Draft}
 use Rattle.vm_code.specs.Tracked.{IsMarked, Steady}
 use Rattle.vm_code.specs.Machine.{IsSound, Cursor, Closed, Setting, Inputs, Scene, Store, Shared, Frame, State, GivesUp, Reaches, Leads, leads_to, read, operand_in, outs_from, cursor_at, current, held, code_of, entered, resumed, world_of}
@@ -73,26 +77,30 @@ pub record Grows (a b : Draft) : Type 0 where
   pub cursors : a.cursors ≤ b.cursors
 
 -- the unit of a draft that is finished
-pub record IsFinished (d : Draft) (x : Unit) : Type 0 where
+pub record IsFinished (kind : UnitKind) (arguments results : ℕ) (d : Draft) (x : Unit) : Type 0 where
+  pub kind_is : x.kind ≡ kind
+  pub arguments_are : x.arguments ≡ arguments
+  pub results_are : x.results ≡ results
   pub code : x.code ≡ map (placed (place_in d.labels)) d.code
-  pub registers : x.registers ≡ d.most
+  pub registers : x.registers ≡ max d.most d.reach
   pub cursors : x.cursors ≡ d.cursors
+  pub sets : x.sets ≡ d.track.opens
 
--- the units with the finished one behind them
-pub record IsUnitOf (d : Draft) (all : List (Option Unit)) : Type 0 where
+-- the units with the finished one behind them, which takes so many arguments and gives so many results
+pub record IsUnitOf (arguments results : ℕ) (d : Draft) (all : List (Option Unit)) : Type 0 where
   pub unit : Unit
-  pub finished : IsFinished d unit
+  pub finished : IsFinished Called arguments results d unit
   pub units : all ≡ d.units ++ Some unit ∷ []
 
--- the units with the finished one under a number
-pub record IsUnitUnder (d : Draft) (number : ℕ) (all : List (Option Unit)) : Type 0 where
+-- the same under a number
+pub record IsUnitUnder (arguments results : ℕ) (d : Draft) (number : ℕ) (all : List (Option Unit)) : Type 0 where
   pub unit : Unit
-  pub finished : IsFinished d unit
+  pub finished : IsFinished Called arguments results d unit
   pub units : all ≡ slice_set d.units number (Some unit)
 
 -- the program whose main unit is the finished one
 pub record IsProgramOf (d : Draft) (p : Program) : Type 0 where
-  pub finished : IsFinished d p.main
+  pub finished : IsFinished Main 0 0 d p.main
   pub units : p.units ≡ d.units
 
 -- ---- the running frame
@@ -152,8 +160,14 @@ sight_of m h = record { env = environment_of m h; held = map held h.scene.cursor
 abbrev pub Calls : Type 1
 Calls = Setting → Type 0
 
-abbrev pub no_calls : Calls
-no_calls m = ⊤
+-- that, and what it needs of cursors
+pub record Given : Type 1 where
+  pub calls : Calls
+  pub needs : List Need
+
+-- code that calls no unit
+abbrev pub needing : List Need → Given
+needing needs = record { calls = λ m. ⊤; needs = needs }
 
 -- ---- code that leaves a value
 
@@ -166,11 +180,11 @@ pub record Left (m : Setting) (most : ℕ) (s : State) (place mark to : ℕ) (v 
   pub keeps : (k : ℕ) → k < mark → k ≢ to → read regs k ≡ read s.regs k
 
 -- code that leaves a function of the environment in a register
-pub record Leaves (calls : Calls) (a b : Draft) (to : ℕ) (f : Environment → Out) (cost : Environment → ℕ) : Type 0 where
+pub record Leaves (given : Given) (a b : Draft) (to : ℕ) (f : Environment → Out) (cost : Environment → ℕ) : Type 0 where
   pub grows : Grows a b
   pub next : b.next ≡ a.next
-  pub steady : Steady [] [] a b
-  pub leaves : (m : Setting) → calls m → (u : ℕ) (at : ℕ → ℕ) → Holds b m.prog u at → (s : State) → Ready b u s → s.pc ≡ length a.code
+  pub steady : Steady given.needs [] a b
+  pub leaves : (m : Setting) → given.calls m → (u : ℕ) (at : ℕ → ℕ) → Holds b m.prog u at → (s : State) → Ready b u s → s.pc ≡ length a.code
       → Left m (cost (environment_of m (here s))) s (length b.code) a.next to (f (environment_of m (here s)))
 
 -- the machine comes to a place with these values in registers one after another, from the mark on, and those below it as they were
@@ -182,13 +196,13 @@ pub record Filled (m : Setting) (most : ℕ) (s : State) (place mark : ℕ) (xs 
   pub keeps : (k : ℕ) → k < mark → read regs k ≡ read s.regs k
 
 -- code that leaves so many functions of the environment in the registers that it takes
-pub record Fills (calls : Calls) (a b : Draft) (count : ℕ) (f : Environment → List Out) (cost : Environment → ℕ) : Type 0 where
+pub record Fills (given : Given) (a b : Draft) (count : ℕ) (f : Environment → List Out) (cost : Environment → ℕ) : Type 0 where
   pub grows : Grows a b
   pub next : b.next ≡ a.next + count
   pub counted : b.next ≤ b.most
   pub many : (env : Environment) → length (f env) ≡ count
-  pub steady : Steady [] [] a b
-  pub fills : (m : Setting) → calls m → (u : ℕ) (at : ℕ → ℕ) → Holds b m.prog u at → (s : State) → Ready b u s → s.pc ≡ length a.code
+  pub steady : Steady given.needs [] a b
+  pub fills : (m : Setting) → given.calls m → (u : ℕ) (at : ℕ → ℕ) → Holds b m.prog u at → (s : State) → Ready b u s → s.pc ≡ length a.code
       → Filled m (cost (environment_of m (here s))) s (length b.code) a.next (f (environment_of m (here s)))
 
 -- what operands read while the registers below a mark are kept
@@ -205,12 +219,13 @@ pub record Offered (m : Setting) (most : ℕ) (s : State) (place mark next : ℕ
   pub keeps : (k : ℕ) → k < mark → read regs k ≡ read s.regs k
 
 -- code behind which operands read functions of the environment, while the registers are kept that are taken then
-pub record Offers (calls : Calls) (a b : Draft) (os : List Operand) (f : Environment → List Out) (cost : Environment → ℕ) : Type 0 where
+pub record Offers (given : Given) (a b : Draft) (os : List Operand) (f : Environment → List Out) (cost : Environment → ℕ) : Type 0 where
   pub grows : Grows a b
   pub next : a.next ≤ b.next
   pub counted : b.next ≤ b.most
-  pub steady : Steady [] [] a b
-  pub offers : (m : Setting) → calls m → (u : ℕ) (at : ℕ → ℕ) → Holds b m.prog u at → (s : State) → Ready b u s → s.pc ≡ length a.code
+  pub steady : Steady given.needs [] a b
+  pub needs : (xs : OpenSet) → All (Meets xs) given.needs → All (Meets xs) (flat_map operand_needs os)
+  pub offers : (m : Setting) → given.calls m → (u : ℕ) (at : ℕ → ℕ) → Holds b m.prog u at → (s : State) → Ready b u s → s.pc ≡ length a.code
       → Offered m (cost (environment_of m (here s))) s (length b.code) a.next b.next os (f (environment_of m (here s)))
 
 -- ---- code that tests
@@ -221,11 +236,11 @@ Sifted m most s place out mark to (Some v) = Left m most s place mark to v
 Sifted m most s place out mark to None = (v : Out) × Left m most s out mark to v
 
 -- code that gathers causes in a register, or goes to a label
-pub record Sifts (calls : Calls) (a b : Draft) (causes label : ℕ) (f : Environment → Out → Option Out) (cost : Environment → ℕ) : Type 0 where
+pub record Sifts (given : Given) (a b : Draft) (causes label : ℕ) (f : Environment → Out → Option Out) (cost : Environment → ℕ) : Type 0 where
   pub grows : Grows a b
   pub next : b.next ≡ a.next
-  pub steady : Steady [] (label ∷ []) a b
-  pub sifts : (m : Setting) → calls m → (u : ℕ) (at : ℕ → ℕ) → Holds b m.prog u at → (s : State) → Ready b u s → s.pc ≡ length a.code
+  pub steady : Steady given.needs (label ∷ []) a b
+  pub sifts : (m : Setting) → given.calls m → (u : ℕ) (at : ℕ → ℕ) → Holds b m.prog u at → (s : State) → Ready b u s → s.pc ≡ length a.code
       → Sifted m (cost (environment_of m (here s))) s (length b.code) (at label) a.next causes (f (environment_of m (here s)) (read s.regs causes))
 
 -- ---- code with an effect
@@ -308,11 +323,11 @@ abbrev pub caught : Effect → Effect
 caught f sight causes x = or_done (f sight causes x)
 
 -- code with that effect, which may leave by a label if it has one; it finds the cursors from its own on closed, and leaves them so
-pub record Does (calls : Calls) (a b : Draft) (lo causes : ℕ) (exit : Option ℕ) (f : Effect) (cost : Cost) : Type 0 where
+pub record Does (given : Given) (a b : Draft) (lo causes : ℕ) (exit : Option ℕ) (f : Effect) (cost : Cost) : Type 0 where
   pub grows : Grows a b
   pub next : b.next ≡ a.next
-  pub steady : Steady [] (option_to_list exit) a b
-  pub does : (m : Setting) → calls m → (u : ℕ) (at : ℕ → ℕ) → Holds b m.prog u at → (s : State) → Ready b u s → s.pc ≡ length a.code → Shut a.cursors s.scene.cursors
+  pub steady : Steady given.needs (option_to_list exit) a b
+  pub does : (m : Setting) → given.calls m → (u : ℕ) (at : ℕ → ℕ) → Holds b m.prog u at → (s : State) → Ready b u s → s.pc ≡ length a.code → Shut a.cursors s.scene.cursors
       → Did m (cost_at m cost lo causes (here s)) s (length b.code) (option_map at exit) lo a.next a.cursors (effect_at m f lo causes (here s))
 
 -- ---- units that are called

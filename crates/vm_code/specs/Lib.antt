@@ -3,10 +3,10 @@ pub mod Machine
 pub mod Reading
 pub mod Honesty
 pub mod Track
-pub mod OpenCursors
-pub mod Stretches
+pub mod Needs
+pub mod OpenSets
 pub mod Draft
 pub mod Tracked
-pub mod Balanced
+pub mod Accepted
 pub mod Frames
 pub mod Claims

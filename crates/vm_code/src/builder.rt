@@ -1,11 +1,10 @@
 // The builder of a unit.
 ghost use Rattle.std.specs.Prelude.{◌≡◌, ◌+◌, ◌-◌, ◌<◌, ◌≤◌, [], ◌∷◌, ◌++◌, length, map, max, slice_get, slice_set, IfOk, None, Some};
 ghost use Rattle.vm_code.specs.Draft.{Draft, begun, bound, given_back, released, taken, with_cursor, with_label, with_number, with_op};
-ghost use Rattle.vm_code.specs.Frames.{IsProgramOf, IsUnitOf, IsUnitUnder, place_in, placed};
+ghost use Rattle.vm_code.specs.Frames.{IsFinished, IsProgramOf, IsUnitOf, IsUnitUnder, place_in, placed};
 
 use crate::track::Track;
-use crate::way::way_of;
-use crate::{Op, Program, Unit};
+use crate::{Op, Program, Unit, UnitKind};
 use sqlite_items::Items;
 use std::alloc::{AllocError, Global};
 use std::marker::Model;
@@ -21,6 +20,7 @@ pub struct Builder {
     labels: Vec<Option<usize>>,
     next: u32,
     most: u32,
+    reach: u32,
     cursors: u32,
     units: Items<Option<Unit>>,
     track: Track,
@@ -42,6 +42,7 @@ impl Model for Builder {
           labels = b.labels.items;
           next = b.next;
           most = b.most;
+          reach = b.reach;
           cursors = b.cursors;
           units = b.units;
           track = b.track;
@@ -58,18 +59,24 @@ impl Builder {
             labels: Vec::new(alloc),
             next: 0,
             most: 0,
+            reach: 0,
             cursors: 0,
             units,
             track: Track::new(alloc),
         }
     }
 
-    /// One more instruction, whose jump, if it has one, goes to a label. What is open in front of it and behind it is noted.
+    /// One more instruction, whose jump, if it has one, goes to a label. What is open in front of it and behind it is noted, and how many
+    /// registers it names: there are fewer than 2 ^ 32 of them.
     pub fn op(&mut self, op: Op) -> Result<(), AllocError>
         ensures { IfOk result (λ _. self.new ≡ with_op self.old op) }
     {
-        self.track.pass(way_of(&op))?;
+        let Ok(room) = u32::try_from(op.room()) else {
+            return Err(AllocError);
+        };
+        self.track.pass(op.way())?;
         self.code.push(op)?;
+        self.reach = self.reach.max(room);
         Ok(())
     }
 
@@ -153,41 +160,27 @@ impl Builder {
         Ok(number)
     }
 
-    /// The units and this one behind them, with places in the stead of labels. A label without a place stands for 0.
-    pub fn finish_unit(self) -> Result<Items<Option<Unit>>, AllocError>
-        ensures { IfOk result (λ units. IsUnitOf self units) }
+    /// The units and this one behind them, with places in the stead of labels: it is called with so many arguments, and gives so many results.
+    /// A label without a place stands for 0.
+    pub fn finish_unit(
+        self,
+        arguments: u32,
+        results: u32,
+    ) -> Result<Items<Option<Unit>>, AllocError>
+        ensures { IfOk result (λ units. IsUnitOf arguments results self units) }
     {
-        let Builder {
-            code,
-            labels,
-            next: _,
-            most,
-            cursors,
-            mut units,
-            track: _,
-        } = self;
-        units.push(Some(finished(code, &labels, most, cursors)))?;
+        let (unit, mut units) = self.finished(UnitKind::Called, arguments, results);
+        units.push(Some(unit))?;
         Ok(units)
     }
 
     /// The units with this one under a number that was taken for it.
-    pub fn finish_numbered(self, number: u32) -> Items<Option<Unit>>
+    pub fn finish_numbered(self, number: u32, arguments: u32, results: u32) -> Items<Option<Unit>>
         requires { slice_get self.units number ≡ Some None }
-        ensures { IsUnitUnder self number result }
+        ensures { IsUnitUnder arguments results self number result }
     {
-        let Builder {
-            code,
-            labels,
-            next: _,
-            most,
-            cursors,
-            mut units,
-            track: _,
-        } = self;
-        units.set(
-            number as usize,
-            Some(finished(code, &labels, most, cursors)),
-        );
+        let (unit, mut units) = self.finished(UnitKind::Called, arguments, results);
+        units.set(number as usize, Some(unit));
         units
     }
 
@@ -195,19 +188,36 @@ impl Builder {
     pub fn finish_program(self) -> Program
         ensures { IsProgramOf self result }
     {
+        let (main, units) = self.finished(UnitKind::Main, 0, 0);
+        Program { main, units }
+    }
+
+    /// The unit of this code, and the units beside it.
+    fn finished(self, kind: UnitKind, arguments: u32, results: u32) -> (Unit, Items<Option<Unit>>)
+        ensures unit { IsFinished kind arguments results self result.0 }
+        ensures units { result.1 ≡ self.units }
+    {
         let Builder {
-            code,
+            mut code,
             labels,
             next: _,
             most,
+            reach,
             cursors,
             units,
-            track: _,
+            track,
         } = self;
-        Program {
-            main: finished(code, &labels, most, cursors),
-            units,
-        }
+        place_all(&mut code, &labels);
+        let unit = Unit {
+            kind,
+            arguments,
+            results,
+            registers: most.max(reach),
+            cursors,
+            code: Items::from_vec(code),
+            sets: track.into_sets(),
+        };
+        (unit, units)
     }
 }
 
@@ -218,20 +228,6 @@ fn usual_room(alloc: Global) -> Vec<Op>
     match Vec::with_capacity(alloc, USUAL_INSTRUCTIONS) {
         Ok(code) => code,
         Err(_) => Vec::new(alloc),
-    }
-}
-
-/// The unit of this code.
-fn finished(mut code: Vec<Op>, labels: &[Option<usize>], registers: u32, cursors: u32) -> Unit
-    ensures code { result.code ≡ map (placed (place_in labels.now)) code.items }
-    ensures registers { result.registers ≡ registers }
-    ensures cursors { result.cursors ≡ cursors }
-{
-    place_all(&mut code, labels);
-    Unit {
-        code: Items::from_vec(code),
-        registers,
-        cursors,
     }
 }
 

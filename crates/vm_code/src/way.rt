@@ -1,8 +1,9 @@
 // Where instructions lead, and what they make of what is open.
 ghost use Rattle.std.specs.Prelude.{◌≡◌};
-ghost use Rattle.vm_code.specs.Track.{way_of};
+ghost use Rattle.vm_code.specs.Track.{on, way_of};
+ghost use Rattle.vm_code.specs.declared.way.Way.TheVariants as way;
 
-use crate::Op;
+use crate::{CursorKind, Op, OpenCursor};
 
 /// What an instruction makes of the set of open cursors, and where its unit goes on behind it. What a jump goes to is a label while a unit
 /// is under construction.
@@ -11,7 +12,7 @@ pub enum Way {
     /// Behind the instruction, with the same cursors open.
     Continues,
     /// Behind the instruction, with one cursor more open.
-    Opens(u32),
+    Opens(OpenCursor),
     /// Behind the instruction, with one cursor fewer open.
     Closes(u32),
     /// Behind the instruction, without the cursors from a number on.
@@ -20,37 +21,59 @@ pub enum Way {
     Forks(usize),
     /// At a label, with the same cursors open.
     Jumps(usize),
-    /// Nowhere in the unit.
+    /// Into a unit that is called with so many arguments, and then behind the instruction with its results in the registers from one on.
+    Calls { unit: u32, count: u32, to: u32 },
+    /// Nowhere: the run ends, or the unit gives up.
     Leaves,
+    /// Back to who called the unit, with so many results.
+    Returns(u32),
 }
 
-/// The way of an instruction.
-pub(crate) fn way_of(op: &Op) -> Way
-    ensures { result ≡ way_of op.now }
-{
-    match op {
-        Op::Goto { target } => Way::Jumps(*target),
-        Op::If { target, .. } => Way::Forks(*target),
-        Op::IfNot { target, .. } => Way::Forks(*target),
-        Op::IsNull { target, .. } => Way::Forks(*target),
-        Op::NotNull { target, .. } => Way::Forks(*target),
-        Op::IsBad { target, .. } => Way::Forks(*target),
-        Op::Halt => Way::Leaves,
-        Op::HaltBad { .. } => Way::Leaves,
-        Op::Ret { .. } => Way::Leaves,
-        Op::OpenRead { cursor, .. } => Way::Opens(*cursor),
-        Op::OpenWrite { cursor, .. } => Way::Opens(*cursor),
-        Op::RowOf { cursor, .. } => Way::Opens(*cursor),
-        Op::Close { cursor } => Way::Closes(*cursor),
-        Op::CloseFrom { cursor } => Way::ClosesFrom(*cursor),
-        Op::Rewind { target, .. } => Way::Forks(*target),
-        Op::Next { target, .. } => Way::Forks(*target),
-        Op::Search { target, .. } => Way::Forks(*target),
-        Op::SorterOpen { cursor } => Way::Opens(*cursor),
-        Op::SorterSort { target, .. } => Way::Forks(*target),
-        Op::SorterNext { target, .. } => Way::Forks(*target),
-        Op::NotExists { target, .. } => Way::Forks(*target),
-        Op::NoConflict { target, .. } => Way::Forks(*target),
-        _ => Way::Continues,
+impl Op {
+    /// Where it leads, and what it makes of what is open.
+    pub fn way(&self) -> Way
+        ensures { result ≡ way_of self.now }
+    {
+        match self {
+            Op::Goto { target } => Way::Jumps(*target),
+            Op::If { target, .. } => Way::Forks(*target),
+            Op::IfNot { target, .. } => Way::Forks(*target),
+            Op::IsNull { target, .. } => Way::Forks(*target),
+            Op::NotNull { target, .. } => Way::Forks(*target),
+            Op::IsBad { target, .. } => Way::Forks(*target),
+            Op::Halt => Way::Leaves,
+            Op::HaltBad { .. } => Way::Leaves,
+            Op::Call {
+                unit,
+                first: _,
+                count,
+                to,
+            } => Way::Calls {
+                unit: *unit,
+                count: *count,
+                to: *to,
+            },
+            Op::Ret { first: _, count } => Way::Returns(*count),
+            Op::OpenRead { cursor, .. } => opens(*cursor, CursorKind::Table),
+            Op::OpenWrite { cursor, .. } => opens(*cursor, CursorKind::Table),
+            Op::RowOf { cursor, .. } => opens(*cursor, CursorKind::Row),
+            Op::Close { cursor } => Way::Closes(*cursor),
+            Op::CloseFrom { cursor } => Way::ClosesFrom(*cursor),
+            Op::Rewind { target, .. } => Way::Forks(*target),
+            Op::Next { target, .. } => Way::Forks(*target),
+            Op::Search { target, .. } => Way::Forks(*target),
+            Op::SorterOpen { cursor } => opens(*cursor, CursorKind::Sorter),
+            Op::SorterSort { target, .. } => Way::Forks(*target),
+            Op::SorterNext { target, .. } => Way::Forks(*target),
+            Op::NotExists { target, .. } => Way::Forks(*target),
+            Op::NoConflict { target, .. } => Way::Forks(*target),
+            _ => Way::Continues,
+        }
     }
+}
+
+fn opens(cursor: u32, kind: CursorKind) -> Way
+    ensures { result ≡ way.Opens (on kind cursor) }
+{
+    Way::Opens(OpenCursor { cursor, kind })
 }

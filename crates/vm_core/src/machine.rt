@@ -15,13 +15,13 @@ use eng_value::{Meanings, Row, Steps};
 use std::alloc::{AllocError, Global};
 use std::marker::Model;
 use std::sync::ledger::Ledger;
-use vm_code::Program;
+use vm_check::Checked;
 use vm_tables::Tables;
 
 /// A program, its parameters, and what its run has come to, between two instructions.
 #[derive(Drop)]
 pub struct Machine {
-    program: Program,
+    program: Checked,
     params: Row,
     running: Running,
 }
@@ -45,13 +45,13 @@ impl Machine {
     /// rowid of the row that was put last.
     pub fn new(
         alloc: Global,
-        program: Program,
+        program: Checked,
         params: Row,
         last_rowid: i64,
     ) -> Result<Machine, AllocError>
         ensures { IfOk result (λ m. m ≡ at_start program params last_rowid) }
     {
-        let running = Running::new(alloc, &program.main, last_rowid)?;
+        let running = Running::new(alloc, &program.program().main, last_rowid)?;
         Ok(Machine {
             program,
             params,
@@ -93,7 +93,7 @@ impl Machine {
             match instruction(
                 &mut self.running,
                 alloc,
-                &self.program,
+                self.program.program(),
                 &self.params,
                 tables,
                 &mut event,

@@ -27,7 +27,7 @@ returns-in-Ok-execute-clause-carried g c =
     let most = steps_in around r in
     let told = all_told hosts c.in-Ok.program c.requires.told in
     let same : to_z w64 (of_z w64 db.last_rowid) ≡ db.last_rowid = search rules in
-    let ends = from_copy (setting hosts nobody c.args.params.now c.in-Ok.program) most c.in-Ok.program db.tables.world run.ending run.shared same (c.in-Ok.ensures around db.last_rowid refl c.requires.sound) in
+    let ends = from_copy (setting hosts nobody c.args.params.now c.in-Ok.program) most c.in-Ok.program db.tables.world run.ending run.shared same (c.in-Ok.ensures.performs around db.last_rowid refl c.requires.sound) in
     let a = c.in-Ok-execute.ensures.runs told nobody most run.ending run.shared ends in
     let completed = c.in-Ok-execute.completed in
     let state : state_after r db.schema c.execute.new.tables.world db.changes db.last_rowid completed.changed completed.last_rowid ≡ state_after r db.schema (world_of run.shared) db.changes db.last_rowid run.shared.written.changes run.shared.written.last_rowid =
@@ -53,6 +53,6 @@ returns-in-Err-clause-carried g c =
     let most = steps_in around r in
     let told = all_told hosts c.in-Ok.program c.requires.told in
     let same : to_z w64 (of_z w64 db.last_rowid) ≡ db.last_rowid = search rules in
-    let ends = from_copy (setting hosts nobody c.args.params.now c.in-Ok.program) most c.in-Ok.program db.tables.world run.ending run.shared same (c.in-Ok.ensures around db.last_rowid refl c.requires.sound) in
+    let ends = from_copy (setting hosts nobody c.args.params.now c.in-Ok.program) most c.in-Ok.program db.tables.world run.ending run.shared same (c.in-Ok.ensures.performs around db.last_rowid refl c.requires.sound) in
     let a = c.in-Err.ensures.runs told nobody most run.ending run.shared ends in
     carries_Err old (outcome_in hosts db.schema db.tables.world db.changes db.last_rowid c.args.params.now r) run.ending run.shared (shows_in hosts db.schema db.tables.world db.changes db.last_rowid c.args.params.now r c.requires.other) most most c.args.budget (c.execute.new.steps - c.args.steps.now) c.execute.new.tables.world (g.R.RowSink.taken c.args.rows.now) (g.R.RowSink.taken c.execute.new.rows) (Rose (g.R.RowSink.fault_count c.args.rows.now) (g.R.RowSink.fault_count c.execute.new.rows)) (omega arith) (state_of db.schema c.execute.new.tables.world db.changes db.last_rowid) c.in-Err.cause (ap (λ w. state_of db.schema w db.changes db.last_rowid) c.in-Err.ensures.kept) a

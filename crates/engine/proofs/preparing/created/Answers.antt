@@ -1,5 +1,5 @@
 use Rattle.std.proofs.Common.{Ok, sym, subst}
-use Rattle.sql_meaning.specs.Statement.{statement_bound}
+use Rattle.sql_meaning.specs.Statement.{plain_bound}
 use Rattle.sql_tree.specs.Sizes.{size_of_statement}
 use Rattle.engine.specs.Prepared.{Readies}
 use Rattle.engine.specs.declared.preparing.NewEntry.{NewEntry}
@@ -10,6 +10,6 @@ use Rattle.engine.proofs.preparing.created.Goals as goal
 pub returns : goal.returns
 returns c lists entries many asked binds =
     let size = size_of_statement c.args.statement in
-    let meant = statement_bound asked entries c.args.number c.args.body.now c.args.statement in
+    let meant = plain_bound asked entries c.args.number c.args.body.now c.args.statement in
     subst (λ (n : NewEntry). Readies size meant (Ok (ready.Create n))) (sym c.in_ok-new.ensures)
     (create-readies size asked entries c.args.number c.args.body.now c.args.statement c.args.new c.in_ok-entry.entry binds c.in_ok-entry.ensures.entry c.in_ok-entry.ensures.table)

@@ -1,4 +1,5 @@
 use Rattle.std.proofs.Common.{◌≡◌, ◌∙◌, ◌+◌, length, map, refl, sym, ap, arith}
+use Rattle.std.specs.List.{flat_map}
 use Rattle.std.specs.Prelude.{slice_get}
 use Rattle.std.proofs.lemmas.Result.{on_ok_weaker}
 use Rattle.bound_tree.specs.Seen.{seen, seen_arm, seen_match}
@@ -7,9 +8,10 @@ use Rattle.bound_tree.specs.declared.tree.ArmTree.{out-ArmTree}
 use Rattle.bound_tree.specs.declared.tree.MatchTree.{out-MatchTree}
 use Rattle.eng_value.specs.Truths.{truth_of}
 use Rattle.eng_value.specs.declared.operators.UnaryOperator.TheVariants as unary
+use Rattle.gen_expr.specs.Needs.{arm_needs_of, match_needs_of, needs_of}
 use Rattle.gen_expr.specs.Steps.{steps_of}
 use Rattle.sql_meaning.specs.Expression.{value_of}
-use Rattle.vm_code.specs.Frames.{no_calls}
+use Rattle.vm_code.specs.Frames.{needing}
 use Rattle.vm_code.specs.declared.op.Op.TheVariants as op
 use Rattle.vm_code.specs.declared.operand.Operand.TheVariants as operand
 use Rattle.vm_code.proofs.Values.{leaves_one, leaves_same}
@@ -101,7 +103,7 @@ emit_truth-returns-then-gives_truth-clause-leaves t c =
 pub emit_truth-returns-clause-leaves : goal.emit_truth-returns-clause-leaves
 emit_truth-returns-clause-leaves t c =
     let leaves = c.in_ok-emit.ensures.leaves in
-    on_ok_weaker {P = c.op.new.self ≡ with_op c.emit.new.b (op.Unary unary.Truth (operand.Register c.args.to) c.args.to)} c.op.result (λ is. rw is (leaves_one no_calls c.args.b.now c.emit.new.b (op.Unary unary.Truth (operand.Register c.args.to) c.args.to) c.args.to (λ env. value_of (seen c.args.e.now) env) truth_of (λ env. steps_of (seen c.args.e.now)) (refl, refl) leaves c.requires.taken c.requires.counted (λ m at s. refl))) c.op.ensures
+    on_ok_weaker {P = c.op.new.self ≡ with_op c.emit.new.b (op.Unary unary.Truth (operand.Register c.args.to) c.args.to)} c.op.result (λ is. rw is (leaves_one (needing (needs_of (seen c.args.e.now))) c.args.b.now c.emit.new.b (op.Unary unary.Truth (operand.Register c.args.to) c.args.to) c.args.to (λ env. value_of (seen c.args.e.now) env) truth_of (λ env. steps_of (seen c.args.e.now)) (refl, refl) leaves c.requires.taken c.requires.counted (λ m at s. refl))) c.op.ensures
 
 -- ---- operators on two expressions
 
@@ -143,7 +145,7 @@ three_operands-returns-clause-offers t c =
     three_offered c.args.b.now c.operand.new.b c.operand-2.new.b c.operand-3.new.b _ (seen c.args.x.now) (seen c.args.y.now) (seen c.args.z.now) c.in_ok-first.ensures.offers c.in_ok-second.ensures.offers c.in_ok-third.ensures.offers
 
 pub all_operands-loop-e-init : goal.all_operands-loop-e-init
-all_operands-loop-e-init t c = record { offers = none_offered c.args.b.now _ c.new-operands.ensures c.requires.counted; units = refl; cursors = refl }
+all_operands-loop-e-init t c = record { offers = none_offered (flat_map needs_of (map seen c.args.all.now)) c.args.b.now _ c.new-operands.ensures c.requires.counted; units = refl; cursors = refl }
 
 pub all_operands-loop-e-preserved : goal.all_operands-loop-e-preserved
 all_operands-loop-e-preserved t c = record {
@@ -160,7 +162,7 @@ all_operands-returns-clause-offers t c =
 
 pub emit_member-loop-e-init : goal.emit_member-loop-e-init
 emit_member-loop-e-init t c =
-    record { turns = turns_none c.begin_member.new.b c.in_ok-value.value c.args.to; next = refl; most = omega arith; units = refl; cursors = refl }
+    record { turns = turns_none (flat_map needs_of (map seen c.args.others.now)) c.begin_member.new.b c.in_ok-value.value c.args.to; next = refl; most = omega arith; units = refl; cursors = refl }
 
 pub emit_member-loop-e-preserved : goal.emit_member-loop-e-preserved
 emit_member-loop-e-preserved t c =
@@ -186,7 +188,7 @@ emit_member-returns-clause-leaves t c =
 
 pub emit_known-loop-e-init : goal.emit_known-loop-e-init
 emit_known-loop-e-init t c =
-    record { decides = decides_none c.label.new.self c.args.to c.args.to c.in_ok-end.end; next = refl; most = omega arith; units = refl; cursors = refl }
+    record { decides = decides_none (flat_map needs_of (map seen c.args.operands.now)) c.label.new.self c.args.to c.args.to c.in_ok-end.end; next = refl; most = omega arith; units = refl; cursors = refl }
 
 pub emit_known-loop-e-preserved : goal.emit_known-loop-e-preserved
 emit_known-loop-e-preserved t c =
@@ -219,7 +221,7 @@ emit_choice-bind-requires t c =
 
 pub emit_choice-loop-arm-init : goal.emit_choice-loop-arm-init
 emit_choice-loop-arm-init t c =
-    record { decides = decides_none c.label.new.self c.args.to c.args.to c.in_ok-end.end; next = refl; most = omega arith; units = refl; cursors = refl }
+    record { decides = decides_none (flat_map arm_needs_of (map seen_arm c.args.arms.now)) c.label.new.self c.args.to c.args.to c.in_ok-end.end; next = refl; most = omega arith; units = refl; cursors = refl }
 
 pub emit_choice-loop-arm-preserved : goal.emit_choice-loop-arm-preserved
 emit_choice-loop-arm-preserved t c =
@@ -268,7 +270,7 @@ emit_match-bind-requires t c =
 
 pub emit_match-loop-arm-init : goal.emit_match-loop-arm-init
 emit_match-loop-arm-init t c =
-    record { decides = decides_none c.label.new.self c.in_ok-value.value c.args.to c.in_ok-end.end; next = refl; most = omega arith; units = refl; cursors = refl }
+    record { decides = decides_none (flat_map match_needs_of (map seen_match c.args.arms.now)) c.label.new.self c.in_ok-value.value c.args.to c.in_ok-end.end; next = refl; most = omega arith; units = refl; cursors = refl }
 
 pub emit_match-loop-arm-preserved : goal.emit_match-loop-arm-preserved
 emit_match-loop-arm-preserved t c =

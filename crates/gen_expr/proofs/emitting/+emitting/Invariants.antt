@@ -1,12 +1,14 @@
 use denote.Param.Weighed.{most}
 use Rattle.std.proofs.Common.{◌≡◌, ◌+◌, ◌*◌, ◌≤◌, map, fold, max, take}
+use Rattle.std.specs.List.{flat_map}
 use Rattle.std.specs.Prelude.{sum_by}
 use Rattle.eng_value.specs.Applied.{or_equal}
 use Rattle.eng_value.specs.Collations.{keys_of}
+use Rattle.gen_expr.specs.Needs.{arm_needs_of, match_needs_of, needs_of}
 use Rattle.gen_expr.specs.Parts.{Turns, Decides, decided_arm, decided_known, decided_match, first_in}
 use Rattle.gen_expr.specs.Steps.{steps_of, arm_steps_of, match_steps_of}
 use Rattle.sql_meaning.specs.Expression.{value_of, arm_of, match_of, in_all}
-use Rattle.vm_code.specs.Frames.{Offers, no_calls}
+use Rattle.vm_code.specs.Frames.{Offers, needing}
 use Rattle.bound_tree.specs.Seen.{seen, seen_arm, seen_match}
 use Rattle.bound_tree.proofs.tree.ExprTree.TheLaws.{the_size}
 use Rattle.bound_tree.proofs.tree.MatchTree.TheLaws.{the_size as match_size}
@@ -14,14 +16,14 @@ use Rattle.gen_expr.proofs.emitting.+emitting.Given as goal
 
 abbrev pub invariant-all_operands-loop-e : goal.invariant-all_operands-loop-e
 invariant-all_operands-loop-e l = record {
-  offers : Offers no_calls l.initial.b l.b l.operands (λ env. in_all (map value_of (take l.e-index (map seen l.all))) env) (λ env. sum_by steps_of (take l.e-index (map seen l.all)));
+  offers : Offers (needing (flat_map needs_of (map seen l.all))) l.initial.b l.b l.operands (λ env. in_all (map value_of (take l.e-index (map seen l.all))) env) (λ env. sum_by steps_of (take l.e-index (map seen l.all)));
   units : l.b.units ≡ l.initial.b.units;
   cursors : l.b.cursors ≡ l.initial.b.cursors;
 }
 
 abbrev pub invariant-emit_member-loop-e : goal.invariant-emit_member-loop-e
 invariant-emit_member-loop-e l = record {
-  turns : Turns l.initial.b l.b l.value l.to (λ env x y. fold (or_equal (keys_of env.hosts) l.sides x) y (in_all (map value_of (take l.e-index (map seen l.others))) env)) (sum_by (λ e. steps_of e + 2) (take l.e-index (map seen l.others)));
+  turns : Turns (flat_map needs_of (map seen l.others)) l.initial.b l.b l.value l.to (λ env x y. fold (or_equal (keys_of env.hosts) l.sides x) y (in_all (map value_of (take l.e-index (map seen l.others))) env)) (sum_by (λ e. steps_of e + 2) (take l.e-index (map seen l.others)));
   next : l.b.next ≡ l.initial.b.next;
   most : l.initial.b.most ≤ l.b.most;
   units : l.b.units ≡ l.initial.b.units;
@@ -30,7 +32,7 @@ invariant-emit_member-loop-e l = record {
 
 abbrev pub invariant-emit_known-loop-e : goal.invariant-emit_known-loop-e
 invariant-emit_known-loop-e l = record {
-  decides : Decides l.initial.b l.b l.to l.to l.end (λ env x. first_in (λ e. decided_known (value_of e env)) (take l.e-index (map seen l.operands))) (sum_by (λ e. steps_of e + 2) (take l.e-index (map seen l.operands)));
+  decides : Decides (flat_map needs_of (map seen l.operands)) l.initial.b l.b l.to l.to l.end (λ env x. first_in (λ e. decided_known (value_of e env)) (take l.e-index (map seen l.operands))) (sum_by (λ e. steps_of e + 2) (take l.e-index (map seen l.operands)));
   next : l.b.next ≡ l.initial.b.next;
   most : l.initial.b.most ≤ l.b.most;
   units : l.b.units ≡ l.initial.b.units;
@@ -39,7 +41,7 @@ invariant-emit_known-loop-e l = record {
 
 abbrev pub invariant-emit_choice-loop-arm : goal.invariant-emit_choice-loop-arm
 invariant-emit_choice-loop-arm l = record {
-  decides : Decides l.initial.b l.b l.to l.to l.end (λ env x. first_in (λ arm. decided_arm env (arm_of arm)) (take l.arm-index (map seen_arm l.arms))) (sum_by arm_steps_of (take l.arm-index (map seen_arm l.arms)));
+  decides : Decides (flat_map arm_needs_of (map seen_arm l.arms)) l.initial.b l.b l.to l.to l.end (λ env x. first_in (λ arm. decided_arm env (arm_of arm)) (take l.arm-index (map seen_arm l.arms))) (sum_by arm_steps_of (take l.arm-index (map seen_arm l.arms)));
   next : l.b.next ≡ l.initial.b.next;
   most : l.initial.b.most ≤ l.b.most;
   units : l.b.units ≡ l.initial.b.units;
@@ -48,7 +50,7 @@ invariant-emit_choice-loop-arm l = record {
 
 abbrev pub invariant-emit_match-loop-arm : goal.invariant-emit_match-loop-arm
 invariant-emit_match-loop-arm l = record {
-  decides : Decides l.initial.b l.b l.value l.to l.end (λ env x. first_in (λ arm. decided_match env x (match_of arm)) (take l.arm-index (map seen_match l.arms))) (sum_by match_steps_of (take l.arm-index (map seen_match l.arms)));
+  decides : Decides (flat_map match_needs_of (map seen_match l.arms)) l.initial.b l.b l.value l.to l.end (λ env x. first_in (λ arm. decided_match env x (match_of arm)) (take l.arm-index (map seen_match l.arms))) (sum_by match_steps_of (take l.arm-index (map seen_match l.arms)));
   next : l.b.next ≡ l.initial.b.next;
   most : l.initial.b.most ≤ l.b.most;
   units : l.b.units ≡ l.initial.b.units;

@@ -38,6 +38,16 @@ emit_nest-requires-clause-owned g c =
     let causes_is = c.in_ok-causes.ensures.0 ∙ ap (λ (d : Draft). d.next) c.in_ok-end.ensures.1 in
     subst (λ n. g.B.LoopBody.own c.args.body.now ≤ n) (sym causes_is) c.requires.owned
 
+pub returns-clause-units : goal.returns-clause-units
+returns-clause-units g c =
+    let units : Draft → _ = λ d. d.units in
+    ap units c.release.ensures
+    ∙ ap units c.in_ok-bind.ensures
+    ∙ c.in_ok-emit_nest.ensures.units
+    ∙ c.in_ok-emit_conjuncts.ensures.units
+    ∙ ap units c.in_ok-op.ensures
+    ∙ ap units (c.in_ok-causes.ensures.1 ∙ ap taken c.in_ok-end.ensures.1)
+
 pub returns-clause-cursors : goal.returns-clause-cursors
 returns-clause-cursors g c =
     let cursors : Draft → _ = λ d. d.cursors in

@@ -63,5 +63,6 @@ returns g c =
       does = rw (is, places.causes) at c.in_ok-emit.ensures.does;
       keeps = c.in_ok-emit.ensures.keeps;
       cursors = c.in_ok-emit.ensures.cursors ∙ ap (λ (d : Draft). d.cursors) is;
+      units = c.in_ok-emit.ensures.units ∙ ap (λ (d : Draft). d.units) is;
       is = behind;
     }

@@ -16,6 +16,7 @@ returns c =
       keyed = keyed;
       fills = rw c.as_slice.ensures at c.in_ok-emit_keys.ensures.fills;
       cursors = c.in_ok-emit_keys.ensures.cursors;
+      units = c.in_ok-emit_keys.ensures.units;
       is = c.release.ensures
           ∙ ap (λ d. released d first) c.in_ok-op.ensures
           ∙ ap (λ terms. released (with_op keyed (op.Search c.args.cursor terms s.bounds first c.args.end)) first) (c.in_ok-terms.ensures ∙ c.as_slice-2.ensures)

@@ -17,5 +17,6 @@ returns c =
       fills = c.in_ok-emit_results.ensures.fills;
       gathers = rw (first_is, end_is) at c.in_ok-gather.ensures.gathers;
       cursors = c.in_ok-gather.ensures.cursors ∙ c.in_ok-emit_results.ensures.cursors;
+      units = c.in_ok-gather.ensures.units ∙ c.in_ok-emit_results.ensures.units;
       is = rw (first_is, end_is) at is;
     }) c.give_row.ensures

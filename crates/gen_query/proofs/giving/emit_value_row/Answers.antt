@@ -1,5 +1,5 @@
 use Rattle.std.proofs.Common.{◌≡◌, length, ap, ◌∙◌}
-use Rattle.gen_query.proofs.Shown.{shows-cursors, valued-does}
+use Rattle.gen_query.proofs.Shown.{shows-cursors, shows-units, valued-does}
 use Rattle.vm_code.specs.Draft.{Draft}
 use Rattle.vm_code.specs.declared.op.Op.TheVariants as op
 use Rattle.gen_query.proofs.giving.emit_value_row.Goals as goal
@@ -17,3 +17,10 @@ returns-clause-cursors c =
     let mine_is : c.in_ok-mine.mine ≡ c.args.b.now.next = c.in_ok-mine.ensures.0 ∙ ap (λ (d : Draft). d.next) c.in_ok-next.ensures.1 in
     let shows = rw (c.in_ok-op.ensures, c.in_ok-mine.ensures.1, c.in_ok-next.ensures.1, mine_is, next_is) at c.in_ok-emit_shown.ensures in
     ap (λ (d : Draft). d.cursors) c.release.ensures ∙ shows-cursors c.args.b.now c.emit_shown.new.b c.args.results.now c.requires.counted (op.Null c.args.b.now.next) shows
+
+pub returns-clause-units : goal.returns-clause-units
+returns-clause-units c =
+    let next_is : c.in_ok-next.next ≡ length c.args.b.now.labels = c.in_ok-next.ensures.0 in
+    let mine_is : c.in_ok-mine.mine ≡ c.args.b.now.next = c.in_ok-mine.ensures.0 ∙ ap (λ (d : Draft). d.next) c.in_ok-next.ensures.1 in
+    let shows = rw (c.in_ok-op.ensures, c.in_ok-mine.ensures.1, c.in_ok-next.ensures.1, mine_is, next_is) at c.in_ok-emit_shown.ensures in
+    ap (λ (d : Draft). d.units) c.release.ensures ∙ shows-units c.args.b.now c.emit_shown.new.b c.args.results.now c.requires.counted (op.Null c.args.b.now.next) shows

@@ -9,6 +9,7 @@ loop-from-preserved c =
     record {
       gathers = subst (λ d. Gathers c.args.b.now d c.args.first (c.loop-from.from + 1 - c.args.first) c.args.causes) (sym c.in_ok-op.ensures) (gathers_next c.args.b.now c.loop-from.b c.args.first c.loop-from.from c.args.causes c.requires.apart c.loop-from.auto.from (omega arith) c.requires.counted c.loop-from.invariant.gathers);
       cursors = ap (λ (d : Draft). d.cursors) c.in_ok-op.ensures ∙ c.loop-from.invariant.cursors;
+      units = ap (λ (d : Draft). d.units) c.in_ok-op.ensures ∙ c.loop-from.invariant.units;
     }
 
 pub returns-clause-gathers : goal.returns-clause-gathers

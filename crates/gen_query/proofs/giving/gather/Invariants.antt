@@ -6,4 +6,5 @@ abbrev pub invariant-loop-from : goal.invariant-loop-from
 invariant-loop-from l = record {
   gathers : Gathers l.initial.b l.b l.first (l.from - l.first) l.causes;
   cursors : l.b.cursors ≡ l.initial.b.cursors;
+  units : l.b.units ≡ l.initial.b.units;
 }

@@ -4,8 +4,9 @@ use Rattle.eng_value.specs.Casts.{store_as}
 use Rattle.eng_value.specs.Environments.{Environment}
 use Rattle.eng_value.specs.Outs.{turned}
 use Rattle.eng_value.specs.declared.value.Value.{Value}
-use Rattle.gen_write.specs.Writes.{column_steps, column_with, stored_steps}
-use Rattle.gen_write.proofs.Columns.{held_as, stores_as}
+use Rattle.gen_write.specs.Writes.{column_steps, column_with, default_needs, stored_steps}
+use Rattle.gen_write.proofs.Columns.{held_as, stores_as, stores_wider}
+use Rattle.gen_expr.proofs.Covering.{covers_none}
 use Rattle.gen_write.proofs.rows.emit_column.Goals as goal
 use Rattle.sql_meaning.specs.Rows.{stored_for, value_for}
 use Rattle.sql_meaning.specs.declared.bound.PutColumn.{PutColumn}
@@ -27,7 +28,7 @@ pub returns-in-Some-clause-stores : goal.returns-in-Some-clause-stores
 returns-in-Some-clause-stores c =
     let x = c.args.column.now in
     let place = c.in-Some.place in
-    IfOk-weaker c.emit_value.result _ _ (λ may s. stores_as c.args.causes c.args.kept.now (column_with x.affinity (Some place) None) x (with_value x place c.in-Some.is) (omega (arith, few_value x place c.in-Some.is)) s) c.emit_value.ensures.stores
+    IfOk-weaker c.emit_value.result _ _ (λ may s. stores_as c.args.causes c.args.kept.now (column_with x.affinity (Some place) None) x (with_value x place c.in-Some.is) (omega (arith, few_value x place c.in-Some.is)) (stores_wider (default_needs x) (covers_none (default_needs x)) s)) c.emit_value.ensures.stores
 
 pub returns-in-Some-clause-held : goal.returns-in-Some-clause-held
 returns-in-Some-clause-held c =

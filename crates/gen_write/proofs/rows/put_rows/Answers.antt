@@ -1,11 +1,10 @@
 use Rattle.std.proofs.Common.{◌∙◌, arith, rules}
-use Rattle.gen_write.specs.Writes.{row_steps}
+use Rattle.gen_write.specs.Writes.{NamesWhatIsThere, row_steps}
 use Rattle.gen_write.proofs.RowRuns.{puts_all, puts_none, puts_row}
-use Rattle.vm_code.specs.Frames.{no_calls}
 use Rattle.gen_write.proofs.rows.put_rows.Goals as goal
 
 pub loop-kept-init : goal.loop-kept-init
-loop-kept-init c = record { puts = puts_none no_calls c.args.b.now c.args.causes c.args.insert.now c.args.source.now (row_steps c.args.insert.now); cursors = search rules }
+loop-kept-init c = record { puts = puts_none (NamesWhatIsThere c.args.insert.now) c.args.b.now c.args.causes c.args.insert.now c.args.source.now (row_steps c.args.insert.now); cursors = search rules; units = search rules }
 
 pub put_row-requires-clause-taken : goal.put_row-requires-clause-taken
 put_row-requires-clause-taken c = omega (arith, c.requires.taken, c.loop-kept.invariant.puts.next)
@@ -22,6 +21,7 @@ loop-kept-preserved c =
     record {
       puts = puts_row c.args.insert.now c.args.source.now c.loop-kept.kept-index (row_steps c.args.insert.now) c.kept-item.result c.loop-kept-test.true c.kept-item.is c.loop-kept.invariant.puts row;
       cursors = c.in_ok-put_row.ensures.cursors ∙ c.loop-kept.invariant.cursors;
+      units = c.in_ok-put_row.ensures.units ∙ c.loop-kept.invariant.units;
     }
 
 pub returns-clause-puts : goal.returns-clause-puts

@@ -71,3 +71,9 @@ returns-clause-valid g c =
     let old = state_of db.schema db.tables.world db.changes db.last_rowid in
     let said = c.run_text.ensures.said in
     carries_valid _ old _ _ _ _ _ _ _ _ c.self.invariant.valid (outcome_where-valid (asked_as hosts.authorizer said.0) (context hosts old c.args.params.now) c.args.sql.now c.self.invariant.valid) said.1
+
+pub returns-clause-plan : goal.returns-clause-plan
+returns-clause-plan g c = elim c.match-run_text.branch [
+  | in-Ok w ↦ rw (w.result-is, ← c.self.view_is) w.in-Ok.ensures.plan
+  | in-Err w ↦ rw w.result-is tt
+]

@@ -16,6 +16,15 @@ returns-clause-does c =
 pub returns-clause-keeps : goal.returns-clause-keeps
 returns-clause-keeps c = collect-keeps c.args.self.now.width
 
+pub returns-clause-units : goal.returns-clause-units
+returns-clause-units c =
+    let units : Draft → _ = λ d. d.units in
+    ap units c.release.ensures
+    ∙ ap units c.in_ok-op-2.ensures
+    ∙ ap units c.in_ok-op.ensures
+    ∙ ap units c.in_ok-copy.ensures.1
+    ∙ c.in_ok-emit_rowids.ensures.units
+
 pub returns-clause-cursors : goal.returns-clause-cursors
 returns-clause-cursors c =
     let cursors : Draft → _ = λ d. d.cursors in

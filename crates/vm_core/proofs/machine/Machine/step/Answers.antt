@@ -20,7 +20,7 @@ loop-budget-preserved g c =
       counted = omega arith;
       program = i.program;
       params = i.params;
-      is = λ ask. after_count (setting g.M.Meanings.hosts ask c.self.inside.params c.self.inside.program) _ _ _ s (On (state_at c.instruction.new.running c.instruction.new.tables.world [])) count (i.is ask) (same_step g.M.Meanings.hosts c.requires.told ask c.self.inside.params c.loop-budget.self-inside.params i.params c.self.inside.program c.loop-budget.self-inside.program i.program s ∙ c.in-Going.ensures.leads ask);
+      is = λ ask. after_count (setting g.M.Meanings.hosts ask c.self.inside.params c.self.inside.program) _ _ _ s (On (state_at c.instruction.new.running c.instruction.new.tables.world [])) count (i.is ask) (same_step g.M.Meanings.hosts c.requires.told ask c.self.inside.params c.loop-budget.self-inside.params i.params c.self.inside.program c.program.result.now (c.program.ensures.same ∙ i.program) s ∙ c.in-Going.ensures.leads ask);
       needed = λ ask k e. none_in_vain (setting g.M.Meanings.hosts ask c.self.inside.params c.self.inside.program) _ _ _ _ count (i.is ask) k e;
       marks = c.in-Going.ensures.marks ∙ i.marks;
     }
@@ -43,7 +43,7 @@ returns-in-Stopping-clause-event g c honest ask =
     let s = state_at c.loop-budget.self-inside.running c.loop-budget.tables.world [] in
     let ran : c.count-in-Stopping.new.budget.ran ≡ c.loop-budget.budget.ran + 1 = ap (λ (b : Budget). b.ran) c.count-in-Stopping.ensures.budget in
     let count : c.count-in-Stopping.new.budget.ran - c.args.budget.now.ran ≡ c.loop-budget.budget.ran - c.args.budget.now.ran + 1 = omega arith in
-    let same = same_step g.M.Meanings.hosts c.requires.told ask c.self.inside.params c.loop-budget.self-inside.params i.params c.self.inside.program c.loop-budget.self-inside.program i.program s in
+    let same = same_step g.M.Meanings.hosts c.requires.told ask c.self.inside.params c.loop-budget.self-inside.params i.params c.self.inside.program c.program.result.now (c.program.ensures.same ∙ i.program) s in
     event_stops (setting g.M.Meanings.hosts ask c.args.self.now.params c.args.self.now.prog) (c.count-in-Stopping.new.budget.ran - c.args.budget.now.ran) (state_of c.args.self.now c.args.tables.now.world []) _ _ _ _ (c.in-Stopping.ensures.leads ask) (seen_as g.M.Meanings.hosts ask c.self.inside.program c.self.inside.params c.self.inside.running c.args.self.now c.self.view_is _ c.args.tables.now.world _ (after_count (setting g.M.Meanings.hosts ask c.self.inside.params c.self.inside.program) _ _ _ s _ count (i.is ask) same))
 
 pub returns-in-Stopping-clause-interrupted : goal.returns-in-Stopping-clause-interrupted

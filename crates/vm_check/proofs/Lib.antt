@@ -1,0 +1,5 @@
+-- in the order in which they are read
+pub mod Standing
+pub mod Keeping
+pub mod Rules
+pub mod Exactly
